@@ -1,0 +1,5 @@
+pub mod Found
+pub mod GridBits
+pub mod Joined
+pub mod Numbers
+pub mod Under

@@ -1,0 +1,64 @@
+-- What the stand-ins in memory are, seen from outside.
+use Rattle.std.specs.Prelude.{ℕ, Bool, ◌||◌, nat_le, List, Option, Some, None, IfSome, length, nat_eq}
+use Rattle.std.specs.Option.{option_map}
+use Rattle.std.specs.List.{list_any}
+use Rattle.std.specs.Prelude.{refl}
+use Rattle.std.specs.FinMap as map
+use Rattle.std.specs.Coded.{Coded, code_by, coded×, coded_ℕ, coded_list, coded_option}
+use Rattle.vol_base.specs.Outside.{Objects, Draft, IsTold}
+
+-- a store in memory
+pub record Memory : Type 0 where
+  pub objects : Objects
+  pub writing : Option (List ℕ × List ℕ)
+  pub asked : ℕ
+  pub faults : ℕ
+  pub calls : ℕ
+  pub failing : List ℕ
+
+abbrev pub draft_of : Memory → Option Draft
+draft_of m = option_map (λ d. record { len = length d.1; told = Some d }) m.writing
+
+-- whether the next call fails
+abbrev pub fails : Memory → Bool
+fails m = list_any (λ n. nat_eq n m.calls) m.failing
+
+abbrev pub bytes_code : Coded (List ℕ)
+bytes_code = coded_list coded_ℕ
+
+abbrev pub memory_code : Coded Memory
+memory_code =
+    code_by (Objects × (Option (List ℕ × List ℕ) × (ℕ × (ℕ × (ℕ × List ℕ)))))
+    (coded× (map.code bytes_code bytes_code) (coded× (coded_option (coded× bytes_code bytes_code)) (coded× coded_ℕ (coded× coded_ℕ (coded× coded_ℕ bytes_code)))))
+    (λ m. (m.objects, (m.writing, (m.asked, (m.faults, (m.calls, m.failing))))))
+    (λ p. record { objects = p.0; writing = p.1.0; asked = p.1.1.0; faults = p.1.1.1.0; calls = p.1.1.1.1.0; failing = p.1.1.1.1.1 })
+    (λ _. refl)
+
+-- what an outlet in memory is, seen from outside
+pub record Written : Type 0 where
+  pub bytes : List ℕ
+  pub room : ℕ
+  pub piece : ℕ
+  pub faults : ℕ
+  pub calls : ℕ
+  pub failing : List ℕ
+
+abbrev pub written_code : Coded Written
+written_code =
+    code_by (List ℕ × (ℕ × (ℕ × (ℕ × (ℕ × List ℕ)))))
+    (coded× bytes_code (coded× coded_ℕ (coded× coded_ℕ (coded× coded_ℕ (coded× coded_ℕ bytes_code)))))
+    (λ w. (w.bytes, (w.room, (w.piece, (w.faults, (w.calls, w.failing))))))
+    (λ p. record { bytes = p.0; room = p.1.0; piece = p.1.1.0; faults = p.1.1.1.0; calls = p.1.1.1.1.0; failing = p.1.1.1.1.1 })
+    (λ _. refl)
+
+-- the next write fails by its number, or there is no room left
+abbrev pub refuses_bytes : Written → Bool
+refuses_bytes w = list_any (λ n. nat_eq n w.calls) w.failing || nat_le w.room (length w.bytes)
+
+-- a store in memory tells the object being written
+told_by : (objects : Objects) (writing : Option (List ℕ × List ℕ)) → IfSome (option_map (λ d. record { len = length d.1; told = Some d }) writing) (IsTold (Some objects))
+told_by objects None = tt
+told_by objects (Some d) = record { told = λ _. refl; len = refl }
+
+pub memory_tells : (m : Memory) → IfSome (draft_of m) (IsTold (Some m.objects))
+memory_tells m = told_by m.objects m.writing

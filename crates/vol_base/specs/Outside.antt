@@ -1,0 +1,80 @@
+-- What a source and a store mean, and a feed.
+use Rattle.std.specs.Prelude.{◌≡◌, ◌<◌, ◌≤◌, IsSome, IfSome, ℕ, ◌+◌, ◌-◌, ◌^◌, min, Bool, List, [], ◌++◌, length, take, drop, Option, Some, None, nat_eq, ◌&&◌, ◌==◌, slice_index}
+use Rattle.std.specs.Option.{option_map}
+use Rattle.std.specs.List.{list_any, starts_with}
+use Rattle.std.specs.FinMap as map
+use Rattle.std.specs.Ordering.{nat_cmp}
+use Rattle.std.specs.Cmp.Lexicographic.{slice_cmp}
+use Rattle.vol_base.specs.declared.outside.Got.{Got}
+use Rattle.vol_base.specs.declared.outside.Got.TheVariants.{Absent, Bytes}
+
+-- a finite map from names to bytes
+abbrev pub Objects : Type 0
+Objects = map.FinMap (slice_cmp nat_cmp) (List ℕ)
+
+-- the n bytes from a place on, or what is left
+abbrev pub part : List ℕ → ℕ → ℕ → List ℕ
+part bytes at n = take n (drop at bytes)
+
+abbrev pub got_of : Option (List ℕ) → ℕ → ℕ → Got
+got_of None at n = Absent
+got_of (Some bytes) at n = Bytes (length (part bytes at n))
+
+abbrev pub read_of : Option (List ℕ) → ℕ → List ℕ → List ℕ
+read_of None at out = out
+read_of (Some bytes) at out = part bytes at (length out) ++ drop (length (part bytes at (length out))) out
+
+-- what a read leaves behind the bytes that it gave, which are at most as many as there is room for
+abbrev pub KeepsRest : List ℕ → List ℕ → Got → Type 0
+KeepsRest old new Absent = new ≡ old
+KeepsRest old new (Bytes n) = (n ≤ length old) × (drop n new ≡ drop n old)
+
+-- the front of what was left, n bytes of it: none only at the end
+pub record Gives (n : ℕ) (out bytes : List ℕ) : Type 0 where
+  pub front : take n out ≡ take n bytes
+  pub within : n ≤ length bytes
+  pub some : 0 < length bytes → 0 < n
+
+-- a read from a place of an object, into these bytes
+pub record Reads (object : Option (List ℕ)) (at : ℕ) (old new : List ℕ) (answer : Got) : Type 0 where
+  pub got : answer ≡ got_of object at (length old)
+  pub bytes : new ≡ read_of object at old
+
+-- the count of bytes asked for, which stands still at its end
+abbrev pub asked_after : ℕ → ℕ → ℕ
+asked_after asked n = min (asked + n) (2 ^ 64 - 1)
+
+-- the name begins with the folder, and `/` comes next
+abbrev pub is_under : List ℕ → List ℕ → Bool
+is_under folder name = starts_with nat_eq name folder && (slice_index name (length folder) == 47)
+
+-- some object's name does
+abbrev pub any_under : Objects → List ℕ → Bool
+any_under objects folder = list_any (is_under folder) (map.keys objects)
+
+-- an object being written: its length, and its name and bytes where they are told
+pub record Draft : Type 0 where
+  pub len : ℕ
+  pub told : Option (List ℕ × List ℕ)
+
+-- a name and bytes are told with objects that are told, and the bytes have the length that is told
+pub record IsTold (objects : Option Objects) (draft : Draft) : Type 0 where
+  pub told : IsSome objects → IsSome draft.told
+  pub len : IfSome draft.told (λ d. length d.1 ≡ draft.len)
+
+abbrev pub begun : Option Objects → List ℕ → Draft
+begun objects name = record { len = 0; told = option_map (λ _. (name, [])) objects }
+
+abbrev pub appended : Draft → List ℕ → Draft
+appended draft piece = record { len = draft.len + length piece; told = option_map (λ d. (d.0, d.1 ++ piece)) draft.told }
+
+abbrev pub overwritten : List ℕ → ℕ → List ℕ → List ℕ
+overwritten bytes at piece = take at bytes ++ piece ++ drop (at + length piece) bytes
+
+abbrev pub patched : Draft → ℕ → List ℕ → Draft
+patched draft at piece = record draft { told = option_map (λ d. (d.0, overwritten d.1 at piece)) draft.told }
+
+-- the objects with a told draft put in
+abbrev pub finished : Option (List ℕ × List ℕ) → Objects → Objects
+finished None objects = objects
+finished (Some d) objects = map.insert objects d.0 d.1

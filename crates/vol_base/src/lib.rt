@@ -1,0 +1,22 @@
+//! Boxes of voxels, names of objects, faults, and the outside as traits, with stand-ins in memory.
+#![tactic(auto)]
+
+mod boxes;
+mod calls;
+mod faults;
+mod grid;
+mod memory;
+mod name;
+mod outlet;
+mod outside;
+
+pub use boxes::{Box3, BoxFault};
+pub use faults::{ChunkFault, Fault, IndexFault, ShardFault};
+pub use grid::Grid;
+pub use memory::MemoryStore;
+pub use name::Name;
+pub use outlet::MemoryOutlet;
+pub use outside::{
+    Door, Failed, Feed, FreeGate, Gate, Got, Link, Moment, OutOfMemory, Outlet, Source, Store,
+    StoreRefusal,
+};

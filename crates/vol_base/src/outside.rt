@@ -1,0 +1,255 @@
+//! The outside, as traits.
+//!
+//! Each trait says by ghost members what an implementation means. A meaning of contents is `None`
+//! where the implementation doesn't tell it, as over a real file. Each object has a count of its
+//! faults that never falls, and a call answers `Failed` only where the count rose in that call.
+ghost use Rattle.std.specs.Prelude.{◌≡◌, ◌+◌, ◌<◌, ◌≤◌, ◌^◌, [], ◌∷◌, ◌++◌, List, take, drop, Option, Some, None, ℕ, length, IfOk, IfSome, OnOk, OnErr, IsSome, IsTrue};
+ghost use Rattle.std.specs.Option.{option_map};
+ghost use Rattle.std.specs.FinMap as map;
+ghost use Rattle.vol_base.specs.Causes.{HasCause, HasStoreCause};
+ghost use Rattle.vol_base.specs.Outside.{Objects, Draft, IsTold, Gives, KeepsRest, Reads, asked_after, any_under, begun, appended, patched, finished};
+
+use crate::Name;
+
+/// A call that failed for a reason outside the program; the object's count of faults rose.
+#[derive(Clone, Copy, Debug, PartialEq, Eq)]
+pub struct Failed;
+
+/// Want of memory.
+#[derive(Clone, Copy, Debug, PartialEq, Eq)]
+pub struct OutOfMemory;
+
+/// Why a store refused to write.
+#[derive(Clone, Copy, Debug, PartialEq, Eq)]
+pub enum StoreRefusal {
+    Failed,
+    OutOfMemory,
+}
+
+/// What a read found: no such object, or so many bytes.
+#[derive(Clone, Copy, Debug, PartialEq, Eq)]
+pub enum Got {
+    Absent,
+    Bytes(u64),
+}
+
+/// Objects under names, read by byte ranges.
+pub trait Source {
+    /// The objects, where the source tells them.
+    ghost objects: { Self → Option Objects };
+
+    /// The object being written. None for a source that is no store.
+    ghost draft: { Self → Option Draft };
+
+    /// How many bytes were asked for by reads. It stands still at 2^64 - 1.
+    ghost asked: { Self → ℕ };
+
+    /// How often a call failed. It stands still at 2^64 - 1.
+    ghost faults: { Self → ℕ };
+
+    /// The length of an object in bytes, or None exactly where there is no such object.
+    fn size(&mut self, name: &Name) -> Result<Option<u64>, Failed>
+        ensures found { IfOk result (λ size. IfSome (objects self.old) (λ m. size ≡ option_map length (map.get m name.now))) }
+        ensures objects { objects self.new ≡ objects self.old }
+        ensures draft { draft self.new ≡ draft self.old }
+        ensures asked { asked self.new ≡ asked self.old }
+        ensures cause { HasCause (faults self.old) (faults self.new) result };
+
+    /// Reads an object from the byte `at` on, into the front of `out`, until `out` is full or the
+    /// object ends.
+    fn read_at(&mut self, name: &Name, at: u64, out: &mut [u8]) -> Result<Got, Failed>
+        requires { at + length out.old < 2 ^ 64 }
+        ensures read { IfOk result (λ got. IfSome (objects self.old) (λ m. Reads (map.get m name.now) at out.old out.new got)) }
+        ensures rest { IfOk result (KeepsRest out.old out.new) }
+        ensures objects { objects self.new ≡ objects self.old }
+        ensures draft { draft self.new ≡ draft self.old }
+        ensures asked { OnOk result (asked self.new ≡ asked_after (asked self.old) (length out.old)) }
+        ensures asked_err { OnErr result ((asked self.old ≤ asked self.new) × (asked self.new ≤ asked self.old + length out.old)) }
+        ensures cause { HasCause (faults self.old) (faults self.new) result };
+}
+
+/// A source that objects can be put into, one being written at a time.
+pub trait Store: Source {
+    /// Whether some object's name begins with the folder and `/`.
+    fn any_under(&mut self, folder: &Name) -> Result<bool, Failed>
+        ensures found { IfOk result (λ found. IfSome (Self.objects self.old) (λ m. found ≡ any_under m folder.now)) }
+        ensures objects { Self.objects self.new ≡ Self.objects self.old }
+        ensures draft { Self.draft self.new ≡ Self.draft self.old }
+        ensures asked { Self.asked self.new ≡ Self.asked self.old }
+        ensures cause { HasCause (Self.faults self.old) (Self.faults self.new) result };
+
+    /// Drops the object being written, and starts an empty one.
+    fn begin(&mut self, name: &Name) -> Result<(), StoreRefusal>
+        ensures begun { OnOk result (Self.draft self.new ≡ Some (begun (Self.objects self.old) name.now)) }
+        ensures refused { OnErr result (Self.draft self.new ≡ None) }
+        ensures objects { Self.objects self.new ≡ Self.objects self.old }
+        ensures asked { Self.asked self.new ≡ Self.asked self.old }
+        ensures cause { HasStoreCause (Self.faults self.old) (Self.faults self.new) result };
+
+    /// Puts bytes behind those of the object being written. After a refusal none is being written.
+    fn append(&mut self, piece: &[u8]) -> Result<(), StoreRefusal>
+        requires { IsSome (Self.draft self.old) }
+        ensures appended { OnOk result (Self.draft self.new ≡ option_map (λ d. appended d piece.now) (Self.draft self.old)) }
+        ensures refused { OnErr result (Self.draft self.new ≡ None) }
+        ensures objects { Self.objects self.new ≡ Self.objects self.old }
+        ensures asked { Self.asked self.new ≡ Self.asked self.old }
+        ensures cause { HasStoreCause (Self.faults self.old) (Self.faults self.new) result };
+
+    /// Overwrites bytes of the object being written, from the byte `at` on. After a refusal none
+    /// is being written.
+    fn patch_front(&mut self, at: u64, piece: &[u8]) -> Result<(), StoreRefusal>
+        requires written { IsSome (Self.draft self.old) }
+        requires within { IfSome (Self.draft self.old) (λ d. at + length piece.now ≤ d.len) }
+        ensures patched { OnOk result (Self.draft self.new ≡ option_map (λ d. patched d at piece.now) (Self.draft self.old)) }
+        ensures refused { OnErr result (Self.draft self.new ≡ None) }
+        ensures objects { Self.objects self.new ≡ Self.objects self.old }
+        ensures asked { Self.asked self.new ≡ Self.asked self.old }
+        ensures cause { HasStoreCause (Self.faults self.old) (Self.faults self.new) result };
+
+    /// Puts the object being written among the objects, in place of one of its name. Afterwards
+    /// none is being written.
+    fn finish(&mut self) -> Result<(), StoreRefusal>
+        requires { IsSome (Self.draft self.old) }
+        ensures finished { OnOk result (IfSome (Self.draft self.old) (λ d. Self.objects self.new ≡ option_map (finished d.told) (Self.objects self.old))) }
+        ensures draft { Self.draft self.new ≡ None }
+        ensures refused { OnErr result (Self.objects self.new ≡ Self.objects self.old) }
+        ensures asked { Self.asked self.new ≡ Self.asked self.old }
+        ensures cause { HasStoreCause (Self.faults self.old) (Self.faults self.new) result };
+
+    /// A store that tells its objects tells the object being written too, and bytes that are told
+    /// have the length that is told.
+    ghost tells: { (s : Self) → IfSome (Self.draft s) (IsTold (Self.objects s)) };
+}
+
+/// Bytes that come in, once and in order.
+pub trait Feed {
+    /// The bytes that are left, where they are told.
+    ghost left: { Self → Option (List ℕ) };
+
+    /// How often a call failed. It stands still at 2^64 - 1.
+    ghost faults: { Self → ℕ };
+
+    /// Takes some bytes of what is left, at least one unless nothing is left; 0 only at the end.
+    fn read(&mut self, out: &mut [u8]) -> Result<usize, Failed>
+        requires { 0 < length out.old }
+        ensures within { IfOk result (λ n. n ≤ length out.old) }
+        ensures read { IfOk result (λ n. IfSome (left self.old) (Gives n out.new)) }
+        ensures left { IfOk result (λ n. left self.new ≡ option_map (drop n) (left self.old)) }
+        ensures refused { OnErr result (left self.new ≡ left self.old) }
+        ensures cause { HasCause (faults self.old) (faults self.new) result };
+}
+
+/// Bytes that go out, in order.
+pub trait Outlet {
+    /// The bytes that were written, where they are told.
+    ghost written: { Self → Option (List ℕ) };
+
+    /// How often a call failed. It stands still at 2^64 - 1.
+    ghost faults: { Self → ℕ };
+
+    /// Takes some bytes from the front of a piece, at least one.
+    fn write(&mut self, piece: &[u8]) -> Result<usize, Failed>
+        requires { 0 < length piece.now }
+        ensures some { IfOk result (λ n. (0 < n) × (n ≤ length piece.now)) }
+        ensures written { IfOk result (λ n. written self.new ≡ option_map (λ w. w ++ take n piece.now) (written self.old)) }
+        ensures refused { OnErr result (written self.new ≡ written self.old) }
+        ensures cause { HasCause (faults self.old) (faults self.new) result };
+}
+
+/// A connection to a peer.
+pub trait Link {
+    /// The whole incoming stream, what is left of it, and what was sent, where they are told.
+    ghost stream: { Self → Option (List ℕ) };
+
+    ghost left: { Self → Option (List ℕ) };
+
+    ghost sent: { Self → Option (List ℕ) };
+
+    /// How often a call failed. It stands still at 2^64 - 1.
+    ghost faults: { Self → ℕ };
+
+    /// Takes some bytes of what is left, at least one unless nothing is left; 0 only at the end.
+    fn recv(&mut self, out: &mut [u8]) -> Result<usize, Failed>
+        requires { 0 < length out.old }
+        ensures within { IfOk result (λ n. n ≤ length out.old) }
+        ensures read { IfOk result (λ n. IfSome (left self.old) (Gives n out.new)) }
+        ensures left { IfOk result (λ n. left self.new ≡ option_map (drop n) (left self.old)) }
+        ensures refused { OnErr result (left self.new ≡ left self.old) }
+        ensures sent { sent self.new ≡ sent self.old }
+        ensures stream { stream self.new ≡ stream self.old }
+        ensures cause { HasCause (faults self.old) (faults self.new) result };
+
+    /// Sends some bytes from the front of a piece, at least one.
+    fn send(&mut self, piece: &[u8]) -> Result<usize, Failed>
+        requires { 0 < length piece.now }
+        ensures some { IfOk result (λ n. (0 < n) × (n ≤ length piece.now)) }
+        ensures sent { IfOk result (λ n. sent self.new ≡ option_map (λ w. w ++ take n piece.now) (sent self.old)) }
+        ensures refused { OnErr result (sent self.new ≡ sent self.old) }
+        ensures left { left self.new ≡ left self.old }
+        ensures stream { stream self.new ≡ stream self.old }
+        ensures cause { HasCause (faults self.old) (faults self.new) result };
+}
+
+/// A place where peers connect.
+pub trait Door {
+    type End: Link;
+
+    /// The port that was bound, where a listen succeeded.
+    ghost bound: { Self → Option ℕ };
+
+    /// How many ends were given.
+    ghost accepted: { Self → ℕ };
+
+    /// The ends that were closed, in order, where they are told: the stream, the sent bytes and
+    /// the count of faults of each.
+    ghost served: { Self → Option (List (List ℕ × List ℕ × ℕ)) };
+
+    /// How often a call failed. It stands still at 2^64 - 1.
+    ghost faults: { Self → ℕ };
+
+    /// Binds a port, or any free one for 0, and answers which.
+    fn listen(&mut self, port: u16) -> Result<u16, Failed>
+        requires { bound self.old ≡ None }
+        ensures bound { IfOk result (λ port. bound self.new ≡ Some port) }
+        ensures refused { OnErr result (bound self.new ≡ None) }
+        ensures served { served self.new ≡ served self.old }
+        ensures accepted { accepted self.new ≡ accepted self.old }
+        ensures cause { HasCause (faults self.old) (faults self.new) result };
+
+    /// Gives the next peer's end, on which nothing was received or sent.
+    fn accept(&mut self) -> Result<Self::End, Failed>
+        requires { IsSome (bound self.old) }
+        ensures fresh { IfOk result (λ end. (Self.End.left end ≡ Self.End.stream end) × (Self.End.sent end ≡ option_map (λ _. []) (Self.End.stream end)) × (Self.End.faults end ≡ 0)) }
+        ensures accepted { OnOk result (accepted self.new ≡ accepted self.old + 1) }
+        ensures refused { OnErr result (accepted self.new ≡ accepted self.old) }
+        ensures bound { bound self.new ≡ bound self.old }
+        ensures served { served self.new ≡ served self.old }
+        ensures cause { HasCause (faults self.old) (faults self.new) result };
+
+    /// Drops a connection.
+    fn close(&mut self, end: Self::End)
+        ensures served { IfSome (served self.old) (λ list. IfSome (Self.End.stream end) (λ stream. IfSome (Self.End.sent end) (λ sent. served self.new ≡ Some (list ++ (stream, sent, Self.End.faults end) ∷ [])))) }
+        ensures accepted { accepted self.new ≡ accepted self.old }
+        ensures bound { bound self.new ≡ bound self.old }
+        ensures faults { faults self.new ≡ faults self.old };
+}
+
+/// What a worker just did.
+#[derive(Clone, Copy, Debug, PartialEq, Eq)]
+pub enum Moment {
+    Claimed,
+    Deposited,
+}
+
+/// Is told of each moment of each worker. A test's gate may wait there.
+pub trait Gate {
+    fn at(&self, seat: u32, job: u64, moment: Moment);
+}
+
+/// The gate that does nothing.
+#[derive(Clone, Copy)]
+pub struct FreeGate;
+
+impl Gate for FreeGate {
+    fn at(&self, _seat: u32, _job: u64, _moment: Moment) {}
+}

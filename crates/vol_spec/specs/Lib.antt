@@ -1,0 +1,4 @@
+pub mod CellNames
+pub mod Grid
+pub mod Limits
+pub mod Raw

@@ -1,0 +1,47 @@
+-- The limits of a scale. Sizes, offsets and cells are lists over the axes, x first. All limits are this project's profile.
+use Rattle.std.specs.Prelude.{◌≡◌, ◌⊎◌, ℕ, ◌+◌, ◌-◌, ◌*◌, ◌/◌, ◌^◌, ◌<◌, ◌≤◌, min, ℤ, pos, neg_ℤ, ◌≤ℤ◌, List, length, slice_index, slice_index_or, Option, Some, None}
+use Rattle.vol_base.specs.Boxes.{on_axes}
+use Rattle.vol_base.specs.Grids.{pairs}
+use Rattle.vol_spec.specs.declared.encoding.Encoding.{Encoding}
+use Rattle.vol_spec.specs.declared.encoding.Encoding.TheVariants.{Raw, Seg}
+use Rattle.vol_spec.specs.declared.sharding.Sharding.{Sharding}
+
+-- a value has 1, 2, 4 or 8 bytes
+abbrev pub IsWidth : ℕ → Type 0
+IsWidth w = (w ≡ 1) ⊎ ((w ≡ 2) ⊎ ((w ≡ 4) ⊎ (w ≡ 8)))
+
+-- on each axis from -2^40 to 2^40
+abbrev pub AreOffsets : List ℤ → Type 0
+AreOffsets offsets = (axis : ℕ) → axis < 3 → (neg_ℤ (pos (2 ^ 40)) ≤ℤ slice_index_or offsets axis (pos 0)) × (slice_index_or offsets axis (pos 0) ≤ℤ pos (2 ^ 40))
+
+-- the size of the first cell on an axis: the chunk size, clipped to the scale
+abbrev pub first_size : List ℕ → List ℕ → ℕ → ℕ
+first_size size chunk axis = min (slice_index chunk axis) (slice_index size axis)
+
+-- the bytes of the first cell's values
+abbrev pub first_bytes : ℕ → ℕ → List ℕ → List ℕ → ℕ
+first_bytes width channels size chunk = first_size size chunk 0 * first_size size chunk 1 * first_size size chunk 2 * channels * width
+
+-- a size rounded up to whole blocks
+abbrev pub rounded : ℕ → ℕ → ℕ
+rounded size block = (size + block - 1) / block * block
+
+-- the voxels of the first cell with each size rounded up to whole blocks, times the channels
+abbrev pub padded_voxels : List ℕ → ℕ → List ℕ → List ℕ → ℕ
+padded_voxels block channels size chunk =
+    rounded (first_size size chunk 0) (slice_index block 0) * rounded (first_size size chunk 1) (slice_index block 1) * rounded (first_size size chunk 2) (slice_index block 2) * channels
+
+-- how many cells the grid has on each axis: ceil(size / chunk) (precomputed volume format, chunk storage)
+abbrev pub cell_counts : List ℕ → List ℕ → List ℕ
+cell_counts size chunk = on_axes (λ axis. (slice_index size axis + slice_index chunk axis - 1) / slice_index chunk axis)
+
+-- of a segmentation: 4 or 8 bytes a value, blocks of 1 to 2^24, and at most 2^24 padded voxels times channels
+abbrev pub IsEncoding : Encoding → ℕ → ℕ → List ℕ → List ℕ → Type 0
+IsEncoding Raw width channels size chunk = Unit {0}
+IsEncoding (Seg block) width channels size chunk =
+    ((width ≡ 4) ⊎ (width ≡ 8)) × ((axis : ℕ) → axis < 3 → (1 ≤ slice_index block axis) × (slice_index block axis ≤ 2 ^ 24)) × (padded_voxels block channels size chunk ≤ 2 ^ 24)
+
+-- a sharded scale's cells have codes of at most 64 bits
+abbrev pub AreCodes : Option Sharding → List ℕ → List ℕ → Type 0
+AreCodes None size chunk = Unit {0}
+AreCodes (Some sharding) size chunk = length (pairs (cell_counts size chunk)) ≤ 64
