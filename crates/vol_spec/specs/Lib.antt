@@ -1,4 +1,7 @@
 pub mod CellNames
+pub mod Chunks
+pub mod Cut
 pub mod Grid
+pub mod LastWrite
 pub mod Limits
 pub mod Raw

@@ -1,10 +1,9 @@
 -- The limits of a scale. Sizes, offsets and cells are lists over the axes, x first. All limits are this project's profile.
-use Rattle.std.specs.Prelude.{◌≡◌, ◌⊎◌, ℕ, ◌+◌, ◌-◌, ◌*◌, ◌/◌, ◌^◌, ◌<◌, ◌≤◌, min, ℤ, pos, neg_ℤ, ◌≤ℤ◌, List, length, slice_index, slice_index_or, Option, Some, None}
+use Rattle.std.specs.Prelude.{◌≡◌, ◌⊎◌, ℕ, ◌+◌, ◌-◌, ◌*◌, ◌/◌, ◌^◌, ◌<◌, ◌≤◌, min, ℤ, pos, neg_ℤ, ◌≤ℤ◌, List, length, slice_index, slice_index_or}
 use Rattle.vol_base.specs.Boxes.{on_axes}
 use Rattle.vol_base.specs.Grids.{pairs}
 use Rattle.vol_spec.specs.declared.encoding.Encoding.{Encoding}
 use Rattle.vol_spec.specs.declared.encoding.Encoding.TheVariants.{Raw, Seg}
-use Rattle.vol_spec.specs.declared.sharding.Sharding.{Sharding}
 
 -- a value has 1, 2, 4 or 8 bytes
 abbrev pub IsWidth : ℕ → Type 0
@@ -35,13 +34,20 @@ padded_voxels block channels size chunk =
 abbrev pub cell_counts : List ℕ → List ℕ → List ℕ
 cell_counts size chunk = on_axes (λ axis. (slice_index size axis + slice_index chunk axis - 1) / slice_index chunk axis)
 
--- of a segmentation: 4 or 8 bytes a value, blocks of 1 to 2^24, and at most 2^24 padded voxels times channels
-abbrev pub IsEncoding : Encoding → ℕ → ℕ → List ℕ → List ℕ → Type 0
-IsEncoding Raw width channels size chunk = Unit {0}
-IsEncoding (Seg block) width channels size chunk =
-    ((width ≡ 4) ⊎ (width ≡ 8)) × ((axis : ℕ) → axis < 3 → (1 ≤ slice_index block axis) × (slice_index block axis ≤ 2 ^ 24)) × (padded_voxels block channels size chunk ≤ 2 ^ 24)
+-- an encoding in blocks of these sizes
+abbrev pub IsSeg : Encoding → List ℕ → Type 0
+IsSeg encoding block = encoding ≡ Seg block
 
--- a sharded scale's cells have codes of at most 64 bits
-abbrev pub AreCodes : Option Sharding → List ℕ → List ℕ → Type 0
-AreCodes None size chunk = Unit {0}
-AreCodes (Some sharding) size chunk = length (pairs (cell_counts size chunk)) ≤ 64
+-- a block has 1 to 2^24 voxels on each axis
+abbrev pub AreBlocks : List ℕ → Type 0
+AreBlocks block = (axis : ℕ) → axis < 3 → (1 ≤ slice_index block axis) × (slice_index block axis ≤ 2 ^ 24)
+
+-- the padded voxels times channels of an encoding, 0 for raw chunks
+abbrev pub padded_of : Encoding → ℕ → List ℕ → List ℕ → ℕ
+padded_of Raw channels size chunk = 0
+padded_of (Seg block) channels size chunk = padded_voxels block channels size chunk
+
+-- how many bytes a chunk has at most: those of its values, or a word for each channel and 16 bytes for each padded voxel and channel
+abbrev pub limit_of : Encoding → ℕ → ℕ → List ℕ → List ℕ → ℕ
+limit_of Raw width channels size chunk = first_bytes width channels size chunk
+limit_of (Seg block) width channels size chunk = 4 * channels + 16 * padded_voxels block channels size chunk

@@ -1,7 +1,8 @@
 //! A scale of a volume, with its limits.
-ghost use Rattle.std.specs.Prelude.{◌≡◌, ◌≤◌, ◌^◌, length};
-ghost use Rattle.vol_base.specs.Grids.{AreSizes};
-ghost use Rattle.vol_spec.specs.Limits.{IsWidth, AreOffsets, first_bytes, IsEncoding, AreCodes};
+ghost use Rattle.std.specs.Prelude.{◌≡◌, ◌⊎◌, ℕ, List, ◌≤◌, ◌*◌, ◌+◌, ◌-◌, ◌/◌, ◌<◌, ◌^◌, length, min, nat_le, slice_index};
+ghost use Rattle.std.specs.Option.{ForSome};
+ghost use Rattle.vol_base.specs.Grids.{AreSizes, pairs};
+ghost use Rattle.vol_spec.specs.Limits.{IsWidth, AreOffsets, IsSeg, AreBlocks, first_bytes, cell_counts, rounded, padded_of, limit_of};
 
 use crate::{Encoding, Sharding};
 use vol_base::Name;
@@ -26,6 +27,76 @@ pub struct Scale {
     pub ghost offset_ok: { AreOffsets offset },
     pub ghost chunk_ok: { AreSizes chunk },
     pub ghost first_ok: { first_bytes width channels size chunk ≤ 2 ^ 27 },
-    pub ghost encoding_ok: { ∥ IsEncoding encoding width channels size chunk ∥₁ },
-    pub ghost codes_ok: { ∥ AreCodes sharding size chunk ∥₁ },
+    pub ghost wide_ok: { (block : List ℕ) → IsSeg encoding block → ∥ (width ≡ 4) ⊎ (width ≡ 8) ∥₁ },
+    pub ghost block_ok: { (block : List ℕ) → IsSeg encoding block → AreBlocks block },
+    pub ghost padded_ok: { padded_of encoding channels size chunk ≤ 2 ^ 24 },
+    pub ghost codes_ok: { ForSome sharding (λ _. length (pairs (cell_counts size chunk)) ≤ 64) },
+}
+
+impl Scale {
+    /// The bytes of the values of the first cell, which no other cell passes.
+    pub fn raw_limit(&self) -> u64
+        ensures { result ≡ first_bytes self.now.width self.now.channels self.now.size self.now.chunk }
+    {
+        let x = self.chunk[0].min(self.size[0]);
+        let y = self.chunk[1].min(self.size[1]);
+        let z = self.chunk[2].min(self.size[2]);
+        product(x, y, z, self.channels) * u64::from(self.width)
+    }
+
+    /// The voxels of the first cell with each size rounded up to whole blocks, times the channels;
+    /// 0 for raw chunks.
+    pub fn padded(&self) -> u64
+        ensures { result ≡ padded_of self.now.encoding self.now.channels self.now.size self.now.chunk }
+    {
+        match self.encoding {
+            Encoding::Raw => 0,
+            Encoding::Seg { block } => {
+                let x = round_up(self.chunk[0].min(self.size[0]), block[0]);
+                let y = round_up(self.chunk[1].min(self.size[1]), block[1]);
+                let z = round_up(self.chunk[2].min(self.size[2]), block[2]);
+                product(x, y, z, self.channels)
+            }
+        }
+    }
+
+    /// How many bytes a chunk has at most.
+    pub fn chunk_limit(&self) -> u64
+        ensures { result ≡ limit_of self.now.encoding self.now.width self.now.channels self.now.size self.now.chunk }
+    {
+        match self.encoding {
+            Encoding::Raw => self.raw_limit(),
+            Encoding::Seg { .. } => 4 * u64::from(self.channels) + 16 * self.padded(),
+        }
+    }
+
+    /// Whether chunks of the scale can be encoded: always but for a segmentation of more than 2^22
+    /// padded voxels times channels.
+    pub fn can_encode(&self) -> bool
+        ensures { result ≡ nat_le (padded_of self.now.encoding self.now.channels self.now.size self.now.chunk) (2 ^ 22) }
+    {
+        self.padded() <= 1 << 22
+    }
+}
+
+// The voxels of a box, times the channels.
+fn product(x: u64, y: u64, z: u64, channels: u32) -> u64
+    requires x { 1 ≤ x }
+    requires y { 1 ≤ y }
+    requires z { 1 ≤ z }
+    requires channels { 1 ≤ channels }
+    requires fits { x * y * z * channels ≤ 2 ^ 27 }
+    ensures { result ≡ x * y * z * channels }
+{
+    x * y * z * u64::from(channels)
+}
+
+// A size rounded up to whole blocks.
+fn round_up(size: u64, block: u64) -> u64
+    requires size { size ≤ 2 ^ 40 }
+    requires some { 1 ≤ block }
+    requires block { block ≤ 2 ^ 24 }
+    ensures { result ≡ rounded size block }
+{
+    (size + block - 1) / block * block
 }
