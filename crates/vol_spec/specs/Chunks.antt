@@ -1,7 +1,6 @@
 -- What stored objects say of a cell and of a voxel, of an unsharded raw scale. That an absent chunk reads as zero is this project's
 -- profile.
 use Rattle.std.specs.Prelude.{ℕ, ◌+◌, ℤ, List, take, Option, Some, None, Result, Ok, Err}
-use Rattle.std.specs.Option.{option_map}
 use Rattle.std.specs.FinMap as fin
 use Rattle.vol_base.specs.Outside.{Objects}
 use Rattle.vol_base.specs.declared.faults.ChunkFault.{ChunkFault}

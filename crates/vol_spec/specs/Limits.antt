@@ -1,7 +1,6 @@
 -- The limits of a scale. Sizes, offsets and cells are lists over the axes, x first. All limits are this project's profile.
-use Rattle.std.specs.Prelude.{◌≡◌, ◌⊎◌, ℕ, ◌+◌, ◌-◌, ◌*◌, ◌/◌, ◌^◌, ◌<◌, ◌≤◌, min, ℤ, pos, neg_ℤ, ◌≤ℤ◌, List, length, slice_index, slice_index_or}
+use Rattle.std.specs.Prelude.{◌≡◌, ◌⊎◌, ℕ, ◌+◌, ◌-◌, ◌*◌, ◌/◌, ◌^◌, ◌<◌, ◌≤◌, min, ℤ, pos, neg_ℤ, ◌≤ℤ◌, List, slice_index, slice_index_or}
 use Rattle.vol_base.specs.Boxes.{on_axes}
-use Rattle.vol_base.specs.Grids.{pairs}
 use Rattle.vol_spec.specs.declared.encoding.Encoding.{Encoding}
 use Rattle.vol_spec.specs.declared.encoding.Encoding.TheVariants.{Raw, Seg}
 
