@@ -38,7 +38,7 @@ abbrev pub values_of : Box3 → ℕ → (List ℤ → ℕ → Result ℕ Fault) 
 values_of b channels f = map (λ n. f (position_of b n) (channel_of b n)) (range_with_len 0 (voxels b * channels))
 
 -- the values of a box as bytes, up to the first voxel whose value is a fault
-abbrev pub cut : Objects → List ℕ → Scale → Box3 → List ℕ
+unfoldable pub cut : Objects → List ℕ → Scale → Box3 → List ℕ
 cut objects dataset s b = flat_map (bytes_of s.width) (before_fault (values_of b s.channels (value_in objects dataset s)))
 
 -- the first that there is
@@ -47,6 +47,10 @@ first_some [] = None
 first_some (None ∷ rest) = first_some rest
 first_some (Some a ∷ rest) = Some a
 
+-- a cell that has a fault, with the fault
+abbrev pub faulty : Objects → List ℕ → Scale → List ℕ → Option (List ℕ × Fault)
+faulty objects dataset s cell = option_map (λ fault. (cell, fault)) (fault_in objects dataset s cell)
+
 -- the first cell that meets a box and has a fault, with that fault
-abbrev pub first_fault : Objects → List ℕ → Scale → Box3 → Option (List ℕ × Fault)
-first_fault objects dataset s b = first_some (map (λ cell. option_map (λ fault. (cell, fault)) (fault_in objects dataset s cell)) (cells_in s b))
+unfoldable pub first_fault : Objects → List ℕ → Scale → Box3 → Option (List ℕ × Fault)
+first_fault objects dataset s b = first_some (map (faulty objects dataset s) (cells_in s b))
