@@ -1,9 +1,10 @@
 -- Two scales with the same members are the same: their limits are facts.
-use Rattle.std.proofs.Common.{◌≡◌, ◌≤◌, ◌^◌, length}
+use Rattle.std.proofs.Common.{◌≡◌, ◌⊎◌, ℕ, List, ◌≤◌, ◌^◌, length}
+use Rattle.std.specs.Option.{ForSome}
 use Rattle.std.proofs.Props.{props}
 use mathlib.Core.HLevel.{is_prop→PathP}
-use Rattle.vol_base.specs.Grids.{AreSizes}
-use Rattle.vol_spec.specs.Limits.{IsWidth, AreOffsets, first_bytes, IsEncoding, AreCodes}
+use Rattle.vol_base.specs.Grids.{AreSizes, pairs}
+use Rattle.vol_spec.specs.Limits.{IsWidth, AreOffsets, first_bytes, IsSeg, AreBlocks, padded_of, cell_counts}
 use Rattle.vol_spec.specs.declared.scale.Scale.{Scale}
 
 pub same_scale : (a b : Scale) → a.key ≡ b.key → a.width ≡ b.width → a.channels ≡ b.channels → a.size ≡ b.size → a.offset ≡ b.offset → a.chunk ≡ b.chunk → a.encoding ≡ b.encoding → a.sharding ≡ b.sharding → a ≡ b
@@ -24,6 +25,8 @@ same_scale a b k w c s o ch e sh = λ i. record {
   offset_ok = is_prop→PathP (λ j. AreOffsets (o j)) (λ j. hlevel props) a.offset_ok b.offset_ok i;
   chunk_ok = is_prop→PathP (λ j. AreSizes (ch j)) (λ j. hlevel props) a.chunk_ok b.chunk_ok i;
   first_ok = is_prop→PathP (λ j. first_bytes (w j) (c j) (s j) (ch j) ≤ 2 ^ 27) (λ j. hlevel props) a.first_ok b.first_ok i;
-  encoding_ok = is_prop→PathP (λ j. ∥ IsEncoding (e j) (w j) (c j) (s j) (ch j) ∥₁) (λ j. hlevel props) a.encoding_ok b.encoding_ok i;
-  codes_ok = is_prop→PathP (λ j. ∥ AreCodes (sh j) (s j) (ch j) ∥₁) (λ j. hlevel props) a.codes_ok b.codes_ok i;
+  wide_ok = is_prop→PathP (λ j. (block : List ℕ) → IsSeg (e j) block → ∥ (w j ≡ 4) ⊎ (w j ≡ 8) ∥₁) (λ j. hlevel props) a.wide_ok b.wide_ok i;
+  block_ok = is_prop→PathP (λ j. (block : List ℕ) → IsSeg (e j) block → AreBlocks block) (λ j. hlevel props) a.block_ok b.block_ok i;
+  padded_ok = is_prop→PathP (λ j. padded_of (e j) (c j) (s j) (ch j) ≤ 2 ^ 24) (λ j. hlevel props) a.padded_ok b.padded_ok i;
+  codes_ok = is_prop→PathP (λ j. ForSome (sh j) (λ _. length (pairs (cell_counts (s j) (ch j))) ≤ 64)) (λ j. hlevel props) a.codes_ok b.codes_ok i;
 }

@@ -12,7 +12,7 @@ use Rattle.info_doc.specs.Faults.{first, unless}
 use Rattle.info_doc.specs.Json.{tree}
 use Rattle.info_doc.specs.Steps.{volume_fault, scales_in, scale_of_key, key_fault, size_fault, chunk_fault, bytes_fault}
 use Rattle.info_doc.specs.Members.{size_in, chunk_sizes_in, scale_steps}
-use Rattle.info_doc.specs.Limits.{AreClear, all_clear, sizes_fit, key_fits, bytes_fit, chunk_fits, no_offsets, one_byte}
+use Rattle.info_doc.specs.Limits.{AreClear, all_clear, sizes_fit, key_fits, bytes_fit, chunk_fits, no_offsets, one_byte, raw_apart}
 
 -- the scale of these members, within its limits
 unfoldable pub scale_with : (key : List ℕ) (scale : Data) → length key ≤ 200 → AreClear (scale_steps scale) → Scale
@@ -37,8 +37,10 @@ scale_with key scale short clear =
       offset_ok = no_offsets;
       chunk_ok = chunk_fits _ chunk;
       first_ok = bytes_fit 1 1 (size_in scale) (chunk_sizes_in scale) bytes;
-      encoding_ok = ∣ tt ∣₁;
-      codes_ok = ∣ tt ∣₁;
+      wide_ok = λ block e. absurd (raw_apart block e);
+      block_ok = λ block e. absurd (raw_apart block e);
+      padded_ok = lit≤ tt;
+      codes_ok = λ _ e. cc;
     }
 
 -- the first fault of a scale's steps, or the scale

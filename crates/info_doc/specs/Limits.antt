@@ -5,7 +5,8 @@ use Rattle.std.proofs.Common.{arith, inl}
 use Rattle.std.proofs.lemmas.Int.{ints}
 use Rattle.std.proofs.lemmas.Bool.Decides.{nat_tests}
 use Rattle.vol_base.specs.Grids.{AreSizes}
-use Rattle.vol_spec.specs.Limits.{first_bytes, IsWidth, AreOffsets}
+use Rattle.vol_spec.specs.Limits.{first_bytes, IsWidth, AreOffsets, IsSeg}
+use Rattle.vol_spec.specs.declared.encoding.Encoding.TheVariants.{Raw}
 use Rattle.vol_base.specs.Boxes.{on_axes}
 use Rattle.serde_json.specs.Data.{Data}
 use Rattle.info_doc.specs.declared.fault.InfoFault.{InfoFault}
@@ -109,3 +110,7 @@ no_offsets zero h = (omega (arith, ints), omega (arith, ints))
 no_offsets (suc zero) h = (omega (arith, ints), omega (arith, ints))
 no_offsets (suc (suc zero)) h = (omega (arith, ints), omega (arith, ints))
 no_offsets (suc (suc (suc axis))) h = absurd (omega arith)
+
+-- raw chunks have no blocks
+pub raw_apart : (block : List ℕ) → IsSeg Raw block → ⊥
+raw_apart block e = cc

@@ -1,6 +1,6 @@
 use Rattle.std.proofs.Common.{lit≤, refl}
 use Rattle.serde_json.specs.View.{view}
-use Rattle.info_doc.specs.Limits.{no_offsets, one_byte}
+use Rattle.info_doc.specs.Limits.{no_offsets, one_byte, raw_apart}
 use Rattle.info_doc.proofs.Judging.{made}
 use Rattle.info_doc.proofs.MembersFit.{size_fits, chunk_fits, bytes_fit}
 use Rattle.info_doc.proofs.info.read_scale.Goals as goal
@@ -15,8 +15,10 @@ invariant_of-result c = record {
   offset_ok = no_offsets;
   chunk_ok = chunk_fits (view c.args.scale.now) _ c.in_ok-size.ensures;
   first_ok = bytes_fit (view c.args.scale.now) _ c.in_ok-size.ensures;
-  encoding_ok = ∣ tt ∣₁;
-  codes_ok = ∣ tt ∣₁;
+  wide_ok = λ block e. absurd (raw_apart block e);
+  block_ok = λ block e. absurd (raw_apart block e);
+  padded_ok = lit≤ tt;
+  codes_ok = λ _ e. cc;
 }
 
 pub returns : goal.returns
