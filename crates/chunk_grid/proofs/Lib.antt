@@ -1,0 +1,9 @@
+pub mod AxisSteps
+pub mod BlockSteps
+pub mod GridSteps
+pub mod LayoutSteps
+pub mod ListSteps
+pub mod ListingSteps
+pub mod MeetSteps
+pub mod TextSteps
+pub mod WalkSteps
