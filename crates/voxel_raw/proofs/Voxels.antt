@@ -1,17 +1,18 @@
 -- Voxels of a part and the bytes that move.
-use Rattle.std.proofs.Common.{IsTrue, ◌↔◌, Bool, true, false, replicate, ◌≡◌, ◌⊎◌, ℕ, zero, suc, ◌+◌, ◌-◌, ◌*◌, ◌<◌, ◌≤◌, ◌^◌, ℤ, pos, ◌+ℤ◌, ◌-ℤ◌, ◌≤ℤ◌, ◌<ℤ◌, nat_abs, List, [], ◌∷◌, length, get_or, slice_index, take, drop, arith, refl, ap, ◌∙◌, sym, lit<, length-take, length-drop, ⊎_elim}
+use Rattle.std.proofs.Common.{IsTrue, ◌↔◌, Bool, true, false, replicate, ◌≡◌, ℕ, zero, suc, ◌+◌, ◌-◌, ◌*◌, ◌<◌, ◌≤◌, ℤ, pos, ◌+ℤ◌, ◌-ℤ◌, ◌≤ℤ◌, ◌<ℤ◌, nat_abs, List, length, slice_index, arith, refl, ◌∙◌, sym, lit<, ⊎_elim}
 use Rattle.std.proofs.lemmas.Bool.{cases_lt}
 use Rattle.std.proofs.lemmas.Int.{ints}
-use Rattle.std.proofs.lemmas.Grind.{common_steps, elements}
+use Rattle.std.proofs.lemmas.Grind.{elements}
 use Rattle.std.proofs.lemmas.Nat.{same_from_place, mul-add-lt}
-use Rattle.std.proofs.Math.Nat.{le-mul_of_pos_right, mul-le-mul_left}
+use Rattle.std.proofs.Math.Nat.{mul-le-mul_left}
 use Rattle.vol_base.specs.Boxes.{from_begin, size, Covers, IsSome, num, value, at, end}
 use Rattle.vol_spec.specs.Raw.{raw_len}
 use Rattle.vol_base.specs.declared.boxes.Box3.{Box3}
-use Rattle.voxel_raw.specs.Blocks.{Moves, FitsFrom, FitsTo, Copied}
+use Rattle.voxel_raw.specs.Blocks.{Moves, FitsFrom, FitsTo}
 use Rattle.voxel_raw.specs.Places.{IsPlace, run_of, axes_of}
 use Rattle.voxel_raw.specs.declared.boxes.Place.{Place}
-use Rattle.voxel_raw.proofs.Products.{Facts, LiesIn, by_axis, covers_some}
+use Rattle.voxel_raw.proofs.Parts.{LiesIn, by_axis, covers_some}
+use Rattle.voxel_raw.proofs.Products.{Facts}
 
 -- on an axis, the distances add up
 pub split : (b a p : ℤ) → b ≤ℤ a → a ≤ℤ p → nat_abs (p -ℤ b) ≡ nat_abs (a -ℤ b) + nat_abs (p -ℤ a)

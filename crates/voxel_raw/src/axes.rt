@@ -67,7 +67,14 @@ fn put_volume<S: Source + Drop>(z: &Axis, y: &Axis, run: &Run, from: &S, to: &mu
     }
 }
 
-pub(crate) fn put_channels<S: Source + Drop>(c: &Axis, z: &Axis, y: &Axis, run: &Run, from: &S, to: &mut [u8])
+pub(crate) fn put_channels<S: Source + Drop>(
+    c: &Axis,
+    z: &Axis,
+    y: &Axis,
+    run: &Run,
+    from: &S,
+    to: &mut [u8],
+)
     requires small { length (S.bytes from.now) ≤ 2 ^ 30 }
     requires source { FitsFrom run.now (c.now ∷ z.now ∷ y.now ∷ []) (length (S.bytes from.now)) }
     requires target { FitsTo run.now (c.now ∷ z.now ∷ y.now ∷ []) (length to.old) }

@@ -147,7 +147,15 @@ pub fn copy_box(
     ensures values { HasValues from_box.now to_box.now part.now channels width from.now to.new }
     ensures rest { KeepsRest to_box.now part.now channels width to.old to.new }
 {
-    put_box(&Stored { bytes: from }, from_box, to, to_box, part, channels, width);
+    put_box(
+        &Stored { bytes: from },
+        from_box,
+        to,
+        to_box,
+        part,
+        channels,
+        width,
+    );
 }
 
 /// Sets the values of a part to zero, in all channels, in the raw bytes of a box; `width` is the

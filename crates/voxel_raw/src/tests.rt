@@ -85,7 +85,12 @@ fn axis_lies_in(part: &Box3, outer: &Box3, axis: usize) -> bool
 fn lies_in(part: &Box3, outer: &Box3) -> bool
     ensures { IsTrue result → Within part.now outer.now }
 {
-    axis_lies_in(part, outer, 0) && axis_lies_in(part, outer, 1) && axis_lies_in(part, outer, 2)
+    for axis in 0..3 {
+        if !axis_lies_in(part, outer, axis) {
+            return false;
+        }
+    }
+    true
 }
 
 // The bytes of a box's values, where 64 bits have their number.
@@ -111,7 +116,7 @@ fn holds(b: &Box3, part: &Box3, channels: u32, width: u32, len: usize) -> bool
 // The place of a byte of a value: its axes, x first, its channel, and its number among the value's bytes.
 #[derive(Clone, Copy, PartialEq)]
 struct Spot {
-    position: [i64; 3],
+    position: [i128; 3],
     channel: u64,
     byte: u64,
 }
@@ -125,9 +130,9 @@ fn spot_of(b: &Box3, width: u32, i: u64) -> Spot {
     let plane = row / y;
     Spot {
         position: [
-            b.begin[0].wrapping_add((value % x) as i64),
-            b.begin[1].wrapping_add((row % y) as i64),
-            b.begin[2].wrapping_add((plane % z) as i64),
+            b.begin[0] as i128 + (value % x) as i128,
+            b.begin[1] as i128 + (row % y) as i128,
+            b.begin[2] as i128 + (plane % z) as i128,
         ],
         channel: plane / z,
         byte: i % width,
@@ -137,8 +142,9 @@ fn spot_of(b: &Box3, width: u32, i: u64) -> Spot {
 fn is_on(b: &Box3, spot: &Spot, axis: usize) -> bool
     requires { axis < 3 }
 {
-    let distance = spot.position[axis] as i128 - b.begin[axis] as i128;
-    0 <= distance && distance < b.size[axis] as i128
+    let begin = b.begin[axis] as i128;
+    let position = spot.position[axis];
+    begin <= position && position < begin + b.size[axis] as i128
 }
 
 fn is_in(b: &Box3, spot: &Spot) -> bool {

@@ -1,4 +1,4 @@
-use Rattle.std.proofs.Common.{[], ◌∷◌, arith, length}
+use Rattle.std.proofs.Common.{[], ◌∷◌, arith}
 use Rattle.voxel_raw.proofs.BlockSteps.{Copied-more}
 use Rattle.voxel_raw.proofs.axes.put_volume.Goals as goal
 

@@ -1,5 +1,6 @@
 use Rattle.std.proofs.Common.{arith, lit<}
-use Rattle.voxel_raw.proofs.Products.{facts, lies_in, Facts}
+use Rattle.voxel_raw.proofs.Parts.{lies_in}
+use Rattle.voxel_raw.proofs.Products.{facts}
 use Rattle.voxel_raw.proofs.boxes.find_place.Goals as goal
 
 pub overflow_mul-row : goal.overflow_mul-row

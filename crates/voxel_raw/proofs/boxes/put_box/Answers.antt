@@ -1,6 +1,7 @@
-use Rattle.std.proofs.Common.{◌∙◌, arith, ap, refl, length, ◌≡◌, ◌+◌, ◌≤◌, ◌*◌}
+use Rattle.std.proofs.Common.{arith, refl}
 use Rattle.vol_base.specs.Boxes.{num}
-use Rattle.voxel_raw.proofs.Products.{facts, lies_in, Facts}
+use Rattle.voxel_raw.proofs.Parts.{lies_in}
+use Rattle.voxel_raw.proofs.Products.{facts}
 use Rattle.voxel_raw.proofs.Voxels.{fits_source, fits_target, moves, stays, voxel_fits, no_width, same_values}
 use Rattle.voxel_raw.proofs.boxes.put_box.Goals as goal
 
