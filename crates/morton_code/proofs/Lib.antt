@@ -1,0 +1,3 @@
+pub mod OneCell
+pub mod Steps
+mod Vectors

@@ -1,0 +1,22 @@
+-- The place of a chunk id (precomputed volume format, sharded format, sharding specification).
+use Rattle.std.specs.Prelude.{ℕ, ◌/◌, ◌%◌, ◌^◌}
+use Rattle.murmur_hash.specs.Hashes.{hash8}
+use Rattle.vol_spec.specs.declared.sharding.Sharding.{Sharding}
+use Rattle.vol_spec.specs.declared.sharding.HashKind.{HashKind}
+use Rattle.vol_spec.specs.declared.sharding.HashKind.TheVariants.{Identity, Murmur}
+
+abbrev pub hash_of : HashKind → ℕ → ℕ
+hash_of Identity n = n
+hash_of Murmur n = hash8 n
+
+-- the hash of the id without its low bits, none of which are left where all 64 go
+abbrev pub hashed : Sharding → ℕ → ℕ
+hashed sharding id = hash_of sharding.hash (id / 2 ^ sharding.preshift)
+
+-- the low bits of the hash
+abbrev pub minishard_of : Sharding → ℕ → ℕ
+minishard_of sharding id = hashed sharding id % 2 ^ sharding.minishard_bits
+
+-- the bits above them
+abbrev pub shard_of : Sharding → ℕ → ℕ
+shard_of sharding id = hashed sharding id / 2 ^ sharding.minishard_bits % 2 ^ sharding.shard_bits

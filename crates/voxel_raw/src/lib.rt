@@ -1,0 +1,12 @@
+//! Raw chunks: their lengths, and copies of boxes between their values.
+#![tactic(auto)]
+
+mod axes;
+mod boxes;
+mod length;
+mod source;
+#[cfg(test)]
+mod tests;
+
+pub use boxes::{copy_box, fill_box};
+pub use length::check_len;
