@@ -12,8 +12,12 @@ use Rattle.std.proofs.lemmas.List.{take-append-drop}
 use Rattle.vol_base.specs.declared.boxes.Box3.{Box3}
 use Rattle.vol_base.specs.declared.faults.Fault.{Fault}
 use Rattle.vol_base.specs.Boxes.{at, size, num, voxels, value, Covers, IsSome}
-use Rattle.vol_spec.specs.Cut.{place_on, position_of, channel_of, bytes_of, before_fault, values_of}
+use Rattle.vol_spec.specs.Bytes.{AreBytes}
+use Rattle.vol_spec.specs.Cut.{place_on, position_of, channel_of, bytes_of, before_fault, cut, values_of}
+use Rattle.vol_base.specs.Outside.{Objects}
+use Rattle.vol_spec.specs.Chunks.{value_in}
 use Rattle.vol_spec.specs.Raw.{number, digit, raw_len}
+use Rattle.vol_spec.specs.declared.scale.Scale.{Scale}
 
 nothing : (xs : List ℕ) → length xs ≡ 0 → xs ≡ []
 nothing [] h = refl
@@ -59,10 +63,6 @@ position_covered b n some zero h = axis_covered _ _ _ (mod_below n (size b 0) (s
 position_covered b n some (suc zero) h = axis_covered _ _ _ (mod_below (n / size b 0) (size b 1) (some 1 (lit< tt)))
 position_covered b n some (suc (suc zero)) h = axis_covered _ _ _ (mod_below (n / size b 0 / size b 1) (size b 2) (some 2 (lit< tt)))
 position_covered b n some (suc (suc (suc a))) h = absurd (omega arith)
-
--- each number is below 256
-abbrev pub AreBytes : List ℕ → Type 0
-AreBytes xs = (i : ℕ) → slice_index xs i < 256
 
 -- the number of w bytes, as w bytes
 pub bytes_again : (xs : List ℕ) (w : ℕ) → length xs ≡ w → AreBytes xs → bytes_of w (number xs) ≡ xs
@@ -121,3 +121,10 @@ cut_of b channels w f out some len small same =
     sym (bytes_again (value w out i) w fits (bytes_part w (w * i) out small)) ∙ ap (λ k. bytes_of w (digit out w k)) (sym (zero_more i)))
     ∙ sym (flat_map-map (bytes_of w) (digit out w) (range_with_len 0 (voxels b * channels)))
     ∙ ap (flat_map (bytes_of w)) (sym all)
+
+-- the same for what objects say: bytes that hold the value of each voxel of a box are its cutout
+pub is_cut : (objects : Objects) (dataset : List ℕ) (s : Scale) (b : Box3) (out : List ℕ) → IsSome b → length out ≡ raw_len b s.channels s.width → AreBytes out
+    → ((p : List ℤ) (c : ℕ) → Covers b p → c < s.channels → value_in objects dataset s p c ≡ Ok (digit out s.width (num b p c)))
+    → out ≡ cut objects dataset s b
+unfolding cut
+is_cut objects dataset s b out some len small same = cut_of b s.channels s.width (value_in objects dataset s) out some len small same

@@ -1,3 +1,4 @@
+pub mod Bytes
 pub mod CellNames
 pub mod Chunks
 pub mod Cut
