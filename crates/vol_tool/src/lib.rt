@@ -1,0 +1,6 @@
+//! The command line of `vol_tool`, and the real outside.
+#![tactic(auto)]
+
+mod words;
+
+pub use words::{Command, read_words};
