@@ -3,7 +3,9 @@
 
 mod counts;
 mod directory;
+mod streams;
 mod words;
 
 pub use directory::DirStore;
+pub use streams::{NoDoor, NoFeed, NoLink, StdOutlet};
 pub use words::{Command, read_words};
