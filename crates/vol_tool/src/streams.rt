@@ -190,3 +190,39 @@ impl Door for NoDoor {
 
     fn close(&mut self, _end: NoLink) {}
 }
+
+#[cfg(test)]
+mod tests {
+    use super::*;
+    use std::io;
+
+    // A writer that a signal breaks off first, that then takes two bytes, then none, and then fails.
+    #[derive(Drop)]
+    struct Halting {
+        calls: u8,
+    }
+
+    impl Write for Halting {
+        fn write(&mut self, piece: &[u8]) -> io::Result<usize> {
+            self.calls = self.calls.saturating_add(1);
+            match self.calls {
+                1 => Err(io::Error::from(ErrorKind::Interrupted)),
+                2 => Ok(piece.len().min(2)),
+                3 => Ok(0),
+                _ => Err(io::Error::from(ErrorKind::StorageFull)),
+            }
+        }
+
+        fn flush(&mut self) -> io::Result<()> {
+            Ok(())
+        }
+    }
+
+    #[test]
+    fn goes_on_after_a_signal_alone(rt: HostRuntime) {
+        let mut out = StdOutlet::new(Halting { calls: 0 });
+        assert_eq!(rt; out.write(b"abc"), Ok(2));
+        assert_eq!(rt; out.write(b"c"), Err(Failed));
+        assert_eq!(rt; out.write(b"c"), Err(Failed));
+    }
+}

@@ -67,3 +67,41 @@ pub fn read_words(words: &[String]) -> Option<Command>
         _ => None,
     }
 }
+
+#[cfg(test)]
+mod tests {
+    use super::*;
+    use std::alloc::{AllocError, Global};
+
+    fn words_of(alloc: Global, text: &str) -> Result<Vec<String>, AllocError> {
+        let mut words = Vec::new(alloc);
+        for word in text.split(' ') {
+            words.push(String::from_str(alloc, word)?)?;
+        }
+        Ok(words)
+    }
+
+    fn spells(alloc: Global, text: &str) -> Result<bool, AllocError> {
+        let words = words_of(alloc, text)?;
+        Ok(read_words(&words).is_some())
+    }
+
+    #[test]
+    fn reads_the_lines_of_cutout(rt: HostRuntime) -> Result<(), AllocError> {
+        let alloc = rt.alloc();
+        for (text, wanted) in [
+            ("cutout d s [0:4,0:4,0:4]", true),
+            ("cutout a/b.c-d_1 8_8_40 [-3:1,0:1,0:1]", true),
+            ("cutout d s [0:1,0:1]", false),
+            ("cutout d ../s [0:1,0:1,0:1]", false),
+            ("cutout -d s [0:1,0:1,0:1]", false),
+            ("cutout d s [0:4,0:4,0:4] x", false),
+            ("cutout d s", false),
+            ("", false),
+        ] {
+            assert_eq!(rt; spells(alloc, text)?, wanted, "at {text}");
+        }
+        assert!(rt; read_words(&[]).is_none());
+        Ok(())
+    }
+}
