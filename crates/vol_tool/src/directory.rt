@@ -1,8 +1,9 @@
 //! The objects below the current directory.
-ghost use Rattle.std.specs.Prelude.{◌≡◌, ◌-◌, ◌↔◌, min, length, Ok, IfOk, IfSome, true, false, nat_eq, codes};
+ghost use Rattle.std.specs.Prelude.{◌≡◌, ◌-◌, ◌↔◌, min, length, Ok, Err, IfOk, IsErr, IfSome, true, false, nat_eq, codes};
 ghost use Rattle.std.specs.Fs.{IsFile, IsDir, file_type};
 ghost use Rattle.std.specs.IoError.{error_kind};
 ghost use Rattle.std.specs.List.{ends_with};
+ghost use Rattle.vol_base.specs.Causes.{HasCause, HasStoreCause};
 ghost use Rattle.vol_base.specs.Outside.{KeepsRest};
 ghost use Rattle.vol_base.specs.declared.outside.Got.TheVariants.{Bytes};
 ghost use Rattle.vol_tool.specs.Absences.{says_absent};
@@ -219,27 +220,47 @@ impl<R: Files<File = File>> Store for DirStore<R> {
 
     ghost tells = { λ _. tt };
 
-    fn any_under(&mut self, _folder: &Name) -> Result<bool, Failed> {
+    fn any_under(&mut self, _folder: &Name) -> Result<bool, Failed>
+        ensures fails { IsErr result }
+        ensures asked { self.new.asked ≡ self.old.asked }
+        ensures cause { HasCause self.old.faults self.new.faults result }
+    {
         count_fault(&mut self.faults);
         Err(Failed)
     }
 
-    fn begin(&mut self, _name: &Name) -> Result<(), StoreRefusal> {
+    fn begin(&mut self, _name: &Name) -> Result<(), StoreRefusal>
+        ensures fails { result ≡ Err StoreRefusal.Failed }
+        ensures asked { self.new.asked ≡ self.old.asked }
+        ensures cause { HasStoreCause self.old.faults self.new.faults result }
+    {
         count_fault(&mut self.faults);
         Err(StoreRefusal::Failed)
     }
 
-    fn append(&mut self, _piece: &[u8]) -> Result<(), StoreRefusal> {
+    fn append(&mut self, _piece: &[u8]) -> Result<(), StoreRefusal>
+        ensures fails { result ≡ Err StoreRefusal.Failed }
+        ensures asked { self.new.asked ≡ self.old.asked }
+        ensures cause { HasStoreCause self.old.faults self.new.faults result }
+    {
         count_fault(&mut self.faults);
         Err(StoreRefusal::Failed)
     }
 
-    fn patch_front(&mut self, _at: u64, _piece: &[u8]) -> Result<(), StoreRefusal> {
+    fn patch_front(&mut self, _at: u64, _piece: &[u8]) -> Result<(), StoreRefusal>
+        ensures fails { result ≡ Err StoreRefusal.Failed }
+        ensures asked { self.new.asked ≡ self.old.asked }
+        ensures cause { HasStoreCause self.old.faults self.new.faults result }
+    {
         count_fault(&mut self.faults);
         Err(StoreRefusal::Failed)
     }
 
-    fn finish(&mut self) -> Result<(), StoreRefusal> {
+    fn finish(&mut self) -> Result<(), StoreRefusal>
+        ensures fails { result ≡ Err StoreRefusal.Failed }
+        ensures asked { self.new.asked ≡ self.old.asked }
+        ensures cause { HasStoreCause self.old.faults self.new.faults result }
+    {
         count_fault(&mut self.faults);
         Err(StoreRefusal::Failed)
     }

@@ -1,5 +1,6 @@
 //! The real outlets, and what stands for the streams that no command uses yet.
-ghost use Rattle.std.specs.Prelude.{◌<◌, ◌≤◌, length, IfOk};
+ghost use Rattle.std.specs.Prelude.{◌<◌, ◌≤◌, length, IfOk, IsErr};
+ghost use Rattle.vol_base.specs.Causes.{HasCause};
 
 use crate::counts::count_fault;
 use std::io::{ErrorKind, Write};
@@ -97,7 +98,10 @@ impl Feed for NoFeed {
 
     ghost faults = { λ faults. faults };
 
-    fn read(&mut self, _out: &mut [u8]) -> Result<usize, Failed> {
+    fn read(&mut self, _out: &mut [u8]) -> Result<usize, Failed>
+        ensures fails { IsErr result }
+        ensures cause { HasCause self.old self.new result }
+    {
         count_fault(&mut self.faults);
         Err(Failed)
     }
@@ -128,12 +132,18 @@ impl Link for NoLink {
 
     ghost faults = { λ faults. faults };
 
-    fn recv(&mut self, _out: &mut [u8]) -> Result<usize, Failed> {
+    fn recv(&mut self, _out: &mut [u8]) -> Result<usize, Failed>
+        ensures fails { IsErr result }
+        ensures cause { HasCause self.old self.new result }
+    {
         count_fault(&mut self.faults);
         Err(Failed)
     }
 
-    fn send(&mut self, _piece: &[u8]) -> Result<usize, Failed> {
+    fn send(&mut self, _piece: &[u8]) -> Result<usize, Failed>
+        ensures fails { IsErr result }
+        ensures cause { HasCause self.old self.new result }
+    {
         count_fault(&mut self.faults);
         Err(Failed)
     }
@@ -178,12 +188,18 @@ impl Door for NoDoor {
 
     ghost faults = { λ faults. faults };
 
-    fn listen(&mut self, _port: u16) -> Result<u16, Failed> {
+    fn listen(&mut self, _port: u16) -> Result<u16, Failed>
+        ensures fails { IsErr result }
+        ensures cause { HasCause self.old self.new result }
+    {
         count_fault(&mut self.faults);
         Err(Failed)
     }
 
-    fn accept(&mut self) -> Result<NoLink, Failed> {
+    fn accept(&mut self) -> Result<NoLink, Failed>
+        ensures fails { IsErr result }
+        ensures cause { HasCause self.old self.new result }
+    {
         count_fault(&mut self.faults);
         Err(Failed)
     }
