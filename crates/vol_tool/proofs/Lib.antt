@@ -1,1 +1,2 @@
+mod KnownSteps
 mod WordCounts

@@ -1,5 +1,6 @@
 //! The real outlets, and what stands for the streams that no command uses yet.
 ghost use Rattle.std.specs.Prelude.{◌<◌, ◌≤◌, length, IfOk, IsErr};
+ghost use Rattle.std.specs.Io.KnownBytes.{WriteAppends};
 ghost use Rattle.vol_base.specs.Causes.{HasCause};
 
 use crate::counts::count_fault;
@@ -7,20 +8,12 @@ use std::io::{ErrorKind, Write};
 use std::marker::Model;
 use vol_base::{Door, Failed, Feed, Link, Outlet};
 
-/// A writer of std as an outlet. It is seen as the count of its faults, and tells nothing of what was
-/// written.
+/// A writer of std as an outlet, which tells nothing of what was written. What the writer holds, where it
+/// tells that, gains exactly the bytes that a call takes.
 #[derive(Drop)]
 pub struct StdOutlet<W> {
-    inner: W,
-    faults: u64,
-}
-
-impl<W> Model for StdOutlet<W> {
-    ghost use Rattle.std.specs.Prelude.{ℕ};
-
-    ghost Value = { ℕ };
-
-    ghost view = { λ s. s.faults };
+    pub inner: W,
+    pub faults: u64,
 }
 
 impl<W> StdOutlet<W> {
@@ -28,7 +21,7 @@ impl<W> StdOutlet<W> {
 
     /// Nothing failed.
     pub fn new(inner: W) -> StdOutlet<W>
-        ensures { result ≡ 0 }
+        ensures { result ≡ record { inner = inner; faults = 0 } }
     {
         StdOutlet { inner, faults: 0 }
     }
@@ -36,8 +29,11 @@ impl<W> StdOutlet<W> {
 
 // Writes some bytes of a piece, at least one. What a signal broke off is tried again, and a writer
 // that takes no byte fails.
+#[tactic(auto, using(crate::proofs::KnownSteps::kept, crate::proofs::KnownSteps::kept_twice, crate::proofs::KnownSteps::kept_and_grown, crate::proofs::KnownSteps::grown_by_none))]
 fn write_some<W: Write>(inner: &mut W, piece: &[u8]) -> Result<usize, Failed>
-    ensures { IfOk result (λ n. (0 < n) × (n ≤ length piece.now)) }
+    requires { 0 < length piece.now }
+    ensures some { IfOk result (λ n. (0 < n) × (n ≤ length piece.now)) }
+    ensures bytes { WriteAppends (W.contents inner.old) (W.contents inner.new) result piece.now }
 {
     for _ in 0..u64::MAX {
         match inner.write(piece) {
@@ -55,9 +51,14 @@ impl<W: Write> Outlet for StdOutlet<W> {
 
     ghost written = { λ _. None };
 
-    ghost faults = { λ faults. faults };
+    ghost faults = { λ s. s.faults };
 
-    fn write(&mut self, piece: &[u8]) -> Result<usize, Failed> {
+    fn write(&mut self, piece: &[u8]) -> Result<usize, Failed>
+        requires { 0 < length piece.now }
+        ensures some { IfOk result (λ n. (0 < n) × (n ≤ length piece.now)) }
+        ensures bytes { WriteAppends (W.contents self.old.inner) (W.contents self.new.inner) result piece.now }
+        ensures cause { HasCause self.old.faults self.new.faults result }
+    {
         let taken = write_some(&mut self.inner, piece);
         if taken.is_err() {
             count_fault(&mut self.faults);
