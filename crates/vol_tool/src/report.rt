@@ -1,0 +1,86 @@
+//! What a refusal says.
+ghost use Rattle.std.specs.Prelude.{◌≡◌, ◌≢◌, ◌≤◌, ◌⊎◌, Some, IfOk};
+ghost use Rattle.vol_tool.specs.Effects.{Says};
+ghost use Rattle.vol_tool.specs.Lines.{info_line, memory_line};
+ghost use Rattle.vol_tool.specs.Refusals.{line_of, status_of};
+ghost use Rattle.vol_tool.specs.Statuses.{info_text};
+
+use crate::lines::{write_damaged_line, write_info_line, write_large_line, write_outside_line};
+use crate::output::say;
+use crate::refusal::Refusal;
+use crate::status::Status;
+use info_doc::InfoFault;
+use std::alloc::{AllocError, Global};
+use vol_base::{Box3, Name, Outlet};
+
+fn find_status(refusal: &Refusal) -> Status
+    ensures { result ≡ status_of refusal.now }
+{
+    match refusal {
+        Refusal::NoInfo | Refusal::Info(_) => Status::InfoRefused,
+        Refusal::Outside(_) | Refusal::TooLarge(_) => Status::RequestRefused,
+        Refusal::Damaged { .. } => Status::Damaged,
+        Refusal::StoreFault => Status::StoreFault,
+        Refusal::OutFault => Status::OutFault,
+        Refusal::NoMemory => Status::NoMemory,
+    }
+}
+
+// Why the info document was refused.
+fn write_info_fault(alloc: Global, dataset: &Name, fault: &InfoFault) -> Result<Vec<u8>, AllocError>
+    ensures { IfOk result (λ line. line.items ≡ info_line dataset.now (info_text (Some fault.now))) }
+{
+    let text = fault.to_string(alloc)?;
+    write_info_line(alloc, dataset, &text)
+}
+
+fn write_line(
+    alloc: Global,
+    dataset: &Name,
+    part: &Box3,
+    refusal: &Refusal,
+) -> Result<Vec<u8>, AllocError>
+    ensures { IfOk result (λ line. line.items ≡ line_of dataset.now part.now refusal.now) }
+{
+    match refusal {
+        Refusal::NoInfo => write_info_line(alloc, dataset, "absent"),
+        Refusal::Info(fault) => write_info_fault(alloc, dataset, fault),
+        Refusal::Outside(whole) => Ok(write_outside_line(alloc, part, whole)?.into_bytes()),
+        Refusal::TooLarge(bytes) => Ok(write_large_line(alloc, *bytes)?.into_bytes()),
+        Refusal::Damaged { cell, fault } => {
+            Ok(write_damaged_line(alloc, *cell, *fault)?.into_bytes())
+        }
+        Refusal::StoreFault => Vec::from_slice(alloc, b"store fault\n"),
+        Refusal::OutFault => Vec::from_slice(alloc, b"output fault\n"),
+        Refusal::NoMemory => Vec::from_slice(alloc, b"out of memory\n"),
+    }
+}
+
+/// Tells a refusal by its line, and gives its status. Where there is no memory for the line, that is what is
+/// told; the line of an output that failed takes none.
+pub(crate) fn report<E: Outlet>(
+    alloc: Global,
+    err: &mut E,
+    dataset: &Name,
+    part: &Box3,
+    refusal: &Refusal,
+) -> Status
+    ensures told { ((result ≡ status_of refusal.now) × Says (E.written err.old) (E.written err.new) (E.faults err.old) (E.faults err.new) (line_of dataset.now part.now refusal.now))
+        ⊎ ((result ≡ Status.NoMemory) × (refusal.now ≢ Refusal.OutFault) × Says (E.written err.old) (E.written err.new) (E.faults err.old) (E.faults err.new) memory_line) }
+    ensures later { E.faults err.old ≤ E.faults err.new }
+{
+    if let Refusal::OutFault = refusal {
+        say(err, b"output fault\n");
+        return Status::OutFault;
+    }
+    match write_line(alloc, dataset, part, refusal) {
+        Ok(line) => {
+            say(err, &line);
+            find_status(refusal)
+        }
+        Err(_) => {
+            say(err, b"out of memory\n");
+            Status::NoMemory
+        }
+    }
+}

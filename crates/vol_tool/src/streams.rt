@@ -1,0 +1,245 @@
+//! The real outlets, and what stands for the streams that no command uses yet.
+ghost use Rattle.std.specs.Prelude.{◌<◌, ◌≤◌, length, IfOk, IsErr};
+ghost use Rattle.std.specs.Io.KnownBytes.{WriteAppends};
+ghost use Rattle.vol_base.specs.Causes.{HasCause};
+
+use crate::counts::count_fault;
+use std::io::{ErrorKind, Write};
+use std::marker::Model;
+use vol_base::{Door, Failed, Feed, Link, Outlet};
+
+/// A writer of std as an outlet, which tells nothing of what was written. What the writer holds, where it
+/// tells that, gains exactly the bytes that a call takes.
+#[derive(Drop)]
+pub struct StdOutlet<W> {
+    pub inner: W,
+    pub faults: u64,
+}
+
+impl<W> StdOutlet<W> {
+    ghost use Rattle.std.specs.Prelude.{◌≡◌};
+
+    /// Nothing failed.
+    pub fn new(inner: W) -> StdOutlet<W>
+        ensures { result ≡ record { inner = inner; faults = 0 } }
+    {
+        StdOutlet { inner, faults: 0 }
+    }
+}
+
+// Writes some bytes of a piece, at least one. What a signal broke off is tried again, and a writer
+// that takes no byte fails.
+#[tactic(auto, using(crate::proofs::KnownSteps::kept, crate::proofs::KnownSteps::kept_twice, crate::proofs::KnownSteps::kept_and_grown, crate::proofs::KnownSteps::grown_by_none))]
+fn write_some<W: Write>(inner: &mut W, piece: &[u8]) -> Result<usize, Failed>
+    requires { 0 < length piece.now }
+    ensures some { IfOk result (λ n. (0 < n) × (n ≤ length piece.now)) }
+    ensures bytes { WriteAppends (W.contents inner.old) (W.contents inner.new) result piece.now }
+{
+    for _ in 0..u64::MAX {
+        match inner.write(piece) {
+            Ok(0) => return Err(Failed),
+            Ok(n) => return Ok(n),
+            Err(error) if error.kind() == ErrorKind::Interrupted => {}
+            Err(_) => return Err(Failed),
+        }
+    }
+    Err(Failed)
+}
+
+impl<W: Write> Outlet for StdOutlet<W> {
+    ghost use Rattle.std.specs.Prelude.{None};
+
+    ghost written = { λ _. None };
+
+    ghost faults = { λ s. s.faults };
+
+    fn write(&mut self, piece: &[u8]) -> Result<usize, Failed>
+        requires { 0 < length piece.now }
+        ensures some { IfOk result (λ n. (0 < n) × (n ≤ length piece.now)) }
+        ensures bytes { WriteAppends (W.contents self.old.inner) (W.contents self.new.inner) result piece.now }
+        ensures cause { HasCause self.old.faults self.new.faults result }
+    {
+        let taken = write_some(&mut self.inner, piece);
+        if taken.is_err() {
+            count_fault(&mut self.faults);
+        }
+        taken
+    }
+}
+
+/// No feed: each call is a fault. It is seen as the count of its faults.
+#[derive(Drop)]
+pub struct NoFeed {
+    faults: u64,
+}
+
+impl Model for NoFeed {
+    ghost use Rattle.std.specs.Prelude.{ℕ};
+
+    ghost Value = { ℕ };
+
+    ghost view = { λ s. s.faults };
+}
+
+impl NoFeed {
+    ghost use Rattle.std.specs.Prelude.{◌≡◌};
+
+    /// Nothing failed.
+    pub fn new() -> NoFeed
+        ensures { result ≡ 0 }
+    {
+        NoFeed { faults: 0 }
+    }
+}
+
+impl Feed for NoFeed {
+    ghost use Rattle.std.specs.Prelude.{None};
+
+    ghost left = { λ _. None };
+
+    ghost faults = { λ faults. faults };
+
+    fn read(&mut self, _out: &mut [u8]) -> Result<usize, Failed>
+        ensures fails { IsErr result }
+        ensures cause { HasCause self.old self.new result }
+    {
+        count_fault(&mut self.faults);
+        Err(Failed)
+    }
+}
+
+/// No connection: each call is a fault. It is seen as the count of its faults.
+#[derive(Drop)]
+pub struct NoLink {
+    faults: u64,
+}
+
+impl Model for NoLink {
+    ghost use Rattle.std.specs.Prelude.{ℕ};
+
+    ghost Value = { ℕ };
+
+    ghost view = { λ s. s.faults };
+}
+
+impl Link for NoLink {
+    ghost use Rattle.std.specs.Prelude.{None};
+
+    ghost stream = { λ _. None };
+
+    ghost left = { λ _. None };
+
+    ghost sent = { λ _. None };
+
+    ghost faults = { λ faults. faults };
+
+    fn recv(&mut self, _out: &mut [u8]) -> Result<usize, Failed>
+        ensures fails { IsErr result }
+        ensures cause { HasCause self.old self.new result }
+    {
+        count_fault(&mut self.faults);
+        Err(Failed)
+    }
+
+    fn send(&mut self, _piece: &[u8]) -> Result<usize, Failed>
+        ensures fails { IsErr result }
+        ensures cause { HasCause self.old self.new result }
+    {
+        count_fault(&mut self.faults);
+        Err(Failed)
+    }
+}
+
+/// No door: each call but `close` is a fault, so no peer ever connects. It is seen as the count of its
+/// faults.
+#[derive(Drop)]
+pub struct NoDoor {
+    faults: u64,
+}
+
+impl Model for NoDoor {
+    ghost use Rattle.std.specs.Prelude.{ℕ};
+
+    ghost Value = { ℕ };
+
+    ghost view = { λ s. s.faults };
+}
+
+impl NoDoor {
+    ghost use Rattle.std.specs.Prelude.{◌≡◌};
+
+    /// Nothing failed.
+    pub fn new() -> NoDoor
+        ensures { result ≡ 0 }
+    {
+        NoDoor { faults: 0 }
+    }
+}
+
+impl Door for NoDoor {
+    ghost use Rattle.std.specs.Prelude.{None};
+
+    type End = NoLink;
+
+    ghost bound = { λ _. None };
+
+    ghost accepted = { λ _. 0 };
+
+    ghost served = { λ _. None };
+
+    ghost faults = { λ faults. faults };
+
+    fn listen(&mut self, _port: u16) -> Result<u16, Failed>
+        ensures fails { IsErr result }
+        ensures cause { HasCause self.old self.new result }
+    {
+        count_fault(&mut self.faults);
+        Err(Failed)
+    }
+
+    fn accept(&mut self) -> Result<NoLink, Failed>
+        ensures fails { IsErr result }
+        ensures cause { HasCause self.old self.new result }
+    {
+        count_fault(&mut self.faults);
+        Err(Failed)
+    }
+
+    fn close(&mut self, _end: NoLink) {}
+}
+
+#[cfg(test)]
+mod tests {
+    use super::*;
+    use std::io;
+
+    // A writer that a signal breaks off first, that then takes two bytes, then none, and then fails.
+    #[derive(Drop)]
+    struct Halting {
+        calls: u8,
+    }
+
+    impl Write for Halting {
+        fn write(&mut self, piece: &[u8]) -> io::Result<usize> {
+            self.calls = self.calls.saturating_add(1);
+            match self.calls {
+                1 => Err(io::Error::from(ErrorKind::Interrupted)),
+                2 => Ok(piece.len().min(2)),
+                3 => Ok(0),
+                _ => Err(io::Error::from(ErrorKind::StorageFull)),
+            }
+        }
+
+        fn flush(&mut self) -> io::Result<()> {
+            Ok(())
+        }
+    }
+
+    #[test]
+    fn goes_on_after_a_signal_alone(rt: HostRuntime) {
+        let mut out = StdOutlet::new(Halting { calls: 0 });
+        assert_eq!(rt; out.write(b"abc"), Ok(2));
+        assert_eq!(rt; out.write(b"c"), Err(Failed));
+        assert_eq!(rt; out.write(b"c"), Err(Failed));
+    }
+}
