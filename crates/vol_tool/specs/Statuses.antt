@@ -81,3 +81,7 @@ Leaves OutFault o = Tells o output_line
 Leaves NoMemory o = (o.out_new ≡ o.out_old) × Tells o memory_line
 Leaves FeedFault o = ⊥
 Leaves DoorFault o = ⊥
+
+-- the scale is there, and the box can be cut out of it
+abbrev pub CanCut : Objects → List ℕ → List ℕ → Box3 → Type 0
+CanCut m dataset key part = IsOkAnd (stored_scale m dataset key) (λ s. IsSound m dataset s part)

@@ -1,8 +1,9 @@
 //! The top call.
-ghost use Rattle.std.specs.Prelude.{◌≡◌, ◌≤◌, ◌↔◌, None, Some, IfSome, ℕ, List, map, string_bytes, length};
+ghost use Rattle.std.specs.Prelude.{◌≡◌, ◌≤◌, ◌↔◌, ◌⊎◌, None, Some, IfSome, ℕ, List, map, string_bytes, length};
 ghost use Rattle.vol_base.specs.Causes.{Rose};
+ghost use Rattle.vol_base.specs.Outside.{Objects};
 ghost use Rattle.vol_base.specs.declared.boxes.Box3.{Box3};
-ghost use Rattle.vol_tool.specs.Statuses.{CutoutShows, Leaves};
+ghost use Rattle.vol_tool.specs.Statuses.{CanCut, CutoutShows, Leaves};
 ghost use Rattle.vol_tool.specs.Words.{line};
 
 use crate::cutout::cut_out;
@@ -32,6 +33,8 @@ fn run_cutout<S: Store, O: Outlet, E: Outlet>(
     ensures leaves { Leaves result
         (record { out_old = O.written out.old; out_new = O.written out.new; err_old = E.written err.old; err_new = E.written err.new; err_before = E.faults err.old; err_now = E.faults err.new }) }
     ensures usage { result ≡ Status.Usage → ⊥ }
+    ensures complete { (m : Objects) → S.objects store.old ≡ Some m → CanCut m dataset.now key.now part.now
+        → (Rose (S.faults store.old) (S.faults store.new) → ⊥) → (Rose (O.faults out.old) (O.faults out.new) → ⊥) → (result ≡ Status.Ok) ⊎ (result ≡ Status.NoMemory) }
     ensures objects { S.objects store.new ≡ S.objects store.old }
     ensures draft { S.draft store.new ≡ S.draft store.old }
     ensures store_later { S.faults store.old ≤ S.faults store.new }
@@ -67,6 +70,9 @@ where
     ensures cutout { (dataset key : List ℕ) (part : Box3) → line (map string_bytes words.now) ≡ Some (Command.Cutout dataset key part)
         → IfSome (S.objects store.old) (λ m. CutoutShows result m dataset key part
         (record { out_old = O.written out.old; out_new = O.written out.new; err_old = E.written err.old; err_new = E.written err.new; err_before = E.faults err.old; err_now = E.faults err.new })) }
+    // where nothing stands against a cutout and no count rose, it succeeds or wants memory
+    ensures complete { (dataset key : List ℕ) (part : Box3) (m : Objects) → line (map string_bytes words.now) ≡ Some (Command.Cutout dataset key part) → S.objects store.old ≡ Some m → CanCut m dataset key part
+        → (Rose (S.faults store.old) (S.faults store.new) → ⊥) → (Rose (O.faults out.old) (O.faults out.new) → ⊥) → (result ≡ Status.Ok) ⊎ (result ≡ Status.NoMemory) }
     ensures leaves { Leaves result
         (record { out_old = O.written out.old; out_new = O.written out.new; err_old = E.written err.old; err_new = E.written err.new; err_before = E.faults err.old; err_now = E.faults err.new }) }
     ensures objects { S.objects store.new ≡ S.objects store.old }
