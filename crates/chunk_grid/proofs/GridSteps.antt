@@ -4,12 +4,13 @@ use Rattle.std.specs.Prelude.{filter, ◌&&◌, nat_le, ℤ, pos, neg_ℤ, ◌+�
 use Rattle.std.specs.Int.{int_max, int_min}
 use Rattle.std.specs.List.{range_with_len}
 use Rattle.std.proofs.lemmas.Int.{ints}
-use Rattle.std.proofs.lemmas.Nat.{le-div}
-use Rattle.std.proofs.Math.Nat.{div-mul-le_self}
+use Rattle.std.proofs.lemmas.Nat.{le-div, mul-le}
+use Rattle.std.proofs.Math.Nat.{div-mul-le_self, mul-le-mul_right}
 use Rattle.vol_base.specs.declared.boxes.Box3.{Box3}
 use Rattle.vol_base.specs.Boxes.{at, end, size, from_begin, Covers, Within, IsSome}
 use Rattle.vol_base.specs.Grids.{AreSizes}
-use Rattle.vol_spec.specs.Limits.{cell_counts}
+use Rattle.vol_spec.specs.Limits.{cell_counts, first_bytes}
+use Rattle.vol_spec.specs.Raw.{raw_len}
 use Rattle.vol_spec.specs.Grid.{whole, Inside, cells_on, IsCell, cell_begin, cell_box, cell_at, meets, cells_in}
 use Rattle.vol_spec.specs.declared.scale.Scale.{Scale}
 use Rattle.chunk_grid.specs.Axes.{LiesOn, IsSmallOn}
@@ -250,3 +251,17 @@ pub walk_found : (s : Scale) (b : Box3) (p : List ℤ) (first last : List ℕ) (
 walk_found s b p first last left h ep ef el e =
     let same : last ≡ cell_at s (last_position b) = el ∙ ap (cell_at s) ep in
     e ∙ ap (λ c. cells_from c (counts_between c last) 0) ef ∙ ap (λ c. cells_from (cell_at s b.begin) (counts_between (cell_at s b.begin) c) 0) same ∙ sym (cells_in-block s b h)
+
+pub cell_box-Inside : (s : Scale) (cell : List ℕ) → IsCell s cell → Inside s (cell_box s cell)
+cell_box-Inside s cell h = record { some = cell_box-IsSome s cell h; within = cell_box-Within s cell }
+
+-- no cell has more bytes of values than the first
+size_short : (chunk m g : ℕ) → min chunk (m - g) ≤ min chunk m
+size_short chunk m g = omega arith
+
+pub cell_box-short : (s : Scale) (cell : List ℕ) → raw_len (cell_box s cell) s.channels s.width ≤ first_bytes s.width s.channels s.size s.chunk
+cell_box-short s cell =
+    let x = size_short (slice_index s.chunk 0) (slice_index s.size 0) (cell_begin s cell 0) in
+    let y = size_short (slice_index s.chunk 1) (slice_index s.size 1) (cell_begin s cell 1) in
+    let z = size_short (slice_index s.chunk 2) (slice_index s.size 2) (cell_begin s cell 2) in
+    mul-le-mul_right s.width (mul-le-mul_right s.channels (mul-le _ _ _ _ (mul-le _ _ _ _ x y) z))

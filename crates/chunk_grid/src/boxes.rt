@@ -1,6 +1,6 @@
 //! The grid of a scale and the boxes of its cells.
 
-ghost use Rattle.std.specs.Prelude.{◌≡◌, ◌≤◌, ◌<◌, ◌+◌, ◌-◌, ◌*◌, ◌/◌, ◌^◌, ◌↔◌, min, IsTrue, List, ℕ, pos, neg_ℤ, ◌+ℤ◌, ◌-ℤ◌, ◌≤ℤ◌, nat_abs};
+ghost use Rattle.std.specs.Prelude.{◌≡◌, ◌≤◌, ◌<◌, ◌+◌, ◌-◌, ◌/◌, ◌↔◌, IsTrue, List, ℕ, pos, ◌+ℤ◌};
 ghost use Rattle.vol_base.specs.Boxes.{at, Covers, Within, IsSome};
 ghost use Rattle.vol_spec.specs.Limits.{cell_counts};
 ghost use Rattle.vol_spec.specs.Grid.{whole as whole_box, Inside, IsCell, cell_begin, cell_size, cell_box as box_of, cell_at};
@@ -81,7 +81,8 @@ pub fn cell_of(scale: &Scale, p: [i64; 3]) -> [u64; 3]
     ensures cell { result ≡ cell_at scale.now p }
     ensures in_grid { IsCell scale.now result }
     ensures covers { Covers (box_of scale.now result) p }
-    ensures only { (cell : List ℕ) → IsCell scale.now cell → Covers (box_of scale.now cell) p → cell ≡ result }
+    ensures only { (cell : List ℕ) → IsCell scale.now cell → Covers (box_of scale.now cell) p
+        → cell ≡ result }
 {
     find_cell(scale, p)
 }

@@ -4,6 +4,8 @@
 mod boxes;
 mod layout;
 mod listing;
+#[cfg(test)]
+mod tests;
 mod text;
 mod walk;
 

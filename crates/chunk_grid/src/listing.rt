@@ -47,13 +47,17 @@ pub fn cells(scale: &Scale, part: &Box3) -> CellWalk
 
 /// Does nothing: its clauses say what the list of the cells that meet a part has in it.
 pub fn tell_cells(scale: &Scale, part: &Box3)
+    // The test by the ends of the boxes is the fact that some position is one of both.
     ensures test { (cell : List ℕ) → Meets scale.now cell part.now ↔ IsTrue (meets scale.now part.now cell) }
     ensures in_grid { All (IsCell scale.now) (cells_in scale.now part.now) }
     ensures meet { All (λ cell. Meets scale.now cell part.now) (cells_in scale.now part.now) }
-    ensures every { (cell : List ℕ) → IsCell scale.now cell → Meets scale.now cell part.now → Contains (cells_in scale.now part.now) cell }
+    ensures every { (cell : List ℕ) → IsCell scale.now cell → Meets scale.now cell part.now
+        → Contains (cells_in scale.now part.now) cell }
     ensures once { AllPairs (λ a b. a ≢ b) (cells_in scale.now part.now) }
-    // a position of the part lies in the box of a listed cell,
-    ensures covered { (p : List ℤ) → Inside scale.now part.now → Covers part.now p → Contains (cells_in scale.now part.now) (cell_at scale.now p) }
-    // and in no other's
-    ensures only { (p : List ℤ) → Inside scale.now part.now → Covers part.now p → All (λ cell. Covers (box_of scale.now cell) p ↔ (cell ≡ cell_at scale.now p)) (cells_in scale.now part.now) }
+    // Each position of the part lies in the box of a listed cell,
+    ensures covered { (p : List ℤ) → Inside scale.now part.now → Covers part.now p
+        → Contains (cells_in scale.now part.now) (cell_at scale.now p) }
+    // and in no other's.
+    ensures only { (p : List ℤ) → Inside scale.now part.now → Covers part.now p
+        → All (λ cell. Covers (box_of scale.now cell) p ↔ (cell ≡ cell_at scale.now p)) (cells_in scale.now part.now) }
 {}

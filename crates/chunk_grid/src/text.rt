@@ -10,6 +10,12 @@ use crate::cell_box;
 use vol_base::{Box3, Name};
 use vol_spec::Scale;
 
+const BETWEEN_ENDS: u8 = b'-';
+
+const BETWEEN_AXES: u8 = b'_';
+
+const BETWEEN_NAMES: u8 = b'/';
+
 // Each function here writes behind the text in front of a buffer and answers where the text then
 // ends.
 
@@ -70,7 +76,7 @@ fn put_span(to: &mut [u8], at: usize, part: &Box3, axis: usize) -> usize
 {
     let begin = part.begin[axis];
     let at = put_signed(to, at, begin);
-    let at = put_byte(to, at, b'-');
+    let at = put_byte(to, at, BETWEEN_ENDS);
     put_signed(to, at, begin + part.size[axis] as i64)
 }
 
@@ -82,9 +88,9 @@ fn put_box(to: &mut [u8], at: usize, part: &Box3) -> usize
     ensures text { take result to.new ≡ take at to.old ++ box_name part.now }
 {
     let at = put_span(to, at, part, 0);
-    let at = put_byte(to, at, b'_');
+    let at = put_byte(to, at, BETWEEN_AXES);
     let at = put_span(to, at, part, 1);
-    let at = put_byte(to, at, b'_');
+    let at = put_byte(to, at, BETWEEN_AXES);
     put_span(to, at, part, 2)
 }
 
@@ -95,9 +101,9 @@ fn put_folder(to: &mut [u8], dataset: &[u8], key: &[u8]) -> usize
     ensures text { take result to.new ≡ joined dataset.now key.now ++ 47 ∷ [] }
 {
     let at = put_piece(to, 0, dataset);
-    let at = put_byte(to, at, b'/');
+    let at = put_byte(to, at, BETWEEN_NAMES);
     let at = put_piece(to, at, key);
-    put_byte(to, at, b'/')
+    put_byte(to, at, BETWEEN_NAMES)
 }
 
 /// The object of a cell of the grid: the data set, the scale's key and the cell's box

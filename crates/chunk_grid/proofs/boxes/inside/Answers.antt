@@ -1,4 +1,4 @@
-use Rattle.std.proofs.Common.{lit<, ◌≡◌, true, false, IsTrue, ℕ, ◌<◌}
+use Rattle.std.proofs.Common.{lit<, ◌≡◌, true, IsTrue, ℕ, ◌<◌}
 use Rattle.chunk_grid.specs.Axes.{LiesOn}
 use Rattle.chunk_grid.proofs.AxisSteps.{by_axis}
 use Rattle.chunk_grid.proofs.MeetSteps.{is_true, not_true}
@@ -15,7 +15,7 @@ returns-then-lies_on-2 c =
           by_axis (λ axis. IsTrue c.lies_on-then-lies_on-2.result → LiesOn c.args.scale.now c.args.part.now axis)
           (λ t. c.lies_on.ensures.0 (is_true _ w.if-lies_on.true)) (λ t. w.lies_on-then-lies_on.ensures.0 (is_true _ y)) c.lies_on-then-lies_on-2.ensures.0 in
           (λ t. Inside-from c.args.scale.now c.args.part.now (λ axis l. on axis l t), λ h. c.lies_on-then-lies_on-2.ensures.1 (Inside-on c.args.scale.now c.args.part.now h 2 (lit< tt)))
-      | else-lies_on w ↦ let no : false ≡ true = cc (w.value-is, w.if-lies_on.false, c.if-lies_on-2.true) in absurd (cc no)
+      | else-lies_on w ↦ absurd (cc w.if-lies_on.false)
     ]
 
 pub returns-else-lies_on-2 : goal.returns-else-lies_on-2

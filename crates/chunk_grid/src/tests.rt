@@ -1,0 +1,174 @@
+//! Worked examples.
+
+ghost use Rattle.std.specs.Prelude.{◌≡◌, ◌≤◌, ◌<◌, length};
+ghost use Rattle.vol_spec.specs.Grid.{Inside};
+
+use super::*;
+use std::process::Abort;
+use vol_base::{Box3, Name};
+use vol_spec::{Encoding, Scale};
+
+// A raw scale of bytes; sizes of 0 count as 1.
+fn sample(key: Name, size: [u8; 3], offset: [i8; 3], chunk: [u8; 3]) -> Scale
+    requires { length key ≤ 200 }
+    ensures { result.key ≡ key }
+{
+    Scale {
+        key,
+        width: 1,
+        channels: 1,
+        size: [
+            size[0].max(1) as u64,
+            size[1].max(1) as u64,
+            size[2].max(1) as u64,
+        ],
+        offset: [offset[0] as i64, offset[1] as i64, offset[2] as i64],
+        chunk: [
+            chunk[0].max(1) as u64,
+            chunk[1].max(1) as u64,
+            chunk[2].max(1) as u64,
+        ],
+        encoding: Encoding::Raw,
+        sharding: None,
+    }
+}
+
+// The box of the last cell that meets the part.
+fn last_box(scale: &Scale, part: &Box3) -> Box3
+    requires { Inside scale.now part.now }
+{
+    let mut last = *part;
+    for cell in cells(scale, part) {
+        last = cell_box(scale, cell);
+    }
+    last
+}
+
+// Whether two boxes have a position in common.
+fn overlap(a: &Box3, b: &Box3) -> bool {
+    for axis in 0..3 {
+        let begin = a.begin[axis].max(b.begin[axis]);
+        let a_end = a.begin[axis] as i128 + a.size[axis] as i128;
+        let b_end = b.begin[axis] as i128 + b.size[axis] as i128;
+        if begin as i128 >= a_end.min(b_end) {
+            return false;
+        }
+    }
+    true
+}
+
+// The walk over a part against a slow one over all cells.
+fn check_cells(rt: &impl Abort, scale: &Scale, part: &Box3) {
+    assert!(rt; inside(scale, part));
+    let [columns, rows, planes] = grid(scale).size;
+    let mut walk = cells(scale, part);
+    let mut count = 0u128;
+    for z in 0..planes {
+        for y in 0..rows {
+            for x in 0..columns {
+                if overlap(&cell_box(scale, [x, y, z]), part) {
+                    assert_eq!(rt; walk.next(), Some([x, y, z]));
+                    count = count.wrapping_add(1);
+                }
+            }
+        }
+    }
+    assert_eq!(rt; walk.next(), None);
+    assert_eq!(rt; count_cells(scale, part), count);
+}
+
+fn part(begin: [i64; 3], size: [u64; 3]) -> Box3 {
+    Box3 { begin, size }
+}
+
+fn key(rt: &impl Abort) -> Name
+    ensures { length result ≤ 200 }
+{
+    let name = Name::new(b"s").expect(rt, "a key");
+    assert!(rt; name.as_bytes().len() <= 200);
+    name
+}
+
+#[test]
+fn walks_over_the_cells_of_a_part(rt: HostRuntime) {
+    for (size, offset, chunk) in [
+        ([5, 1, 3], [-3, 0, 2], [2, 2, 2]),
+        ([5, 1, 3], [-3, 0, 2], [1, 1, 1]),
+        ([7, 4, 2], [0, -9, 5], [3, 2, 5]),
+    ] {
+        let scale = sample(key(&rt), size, offset, chunk);
+        let begin = scale.offset;
+        let middle = [begin[0] + 1, begin[1], begin[2] + 1];
+        check_cells(&rt, &scale, &whole(&scale));
+        check_cells(&rt, &scale, &part(begin, [1, 1, 1]));
+        check_cells(&rt, &scale, &part(middle, [3, 1, 1]));
+    }
+}
+
+#[test]
+fn finds_cells_and_boxes(rt: HostRuntime) {
+    let scale = sample(key(&rt), [5, 1, 3], [-3, 0, 2], [2, 2, 2]);
+    assert_eq!(rt; grid(&scale).size, [3, 1, 2]);
+    assert_eq!(rt; whole(&scale), part([-3, 0, 2], [5, 1, 3]));
+    for (begin, size, is_inside) in [
+        ([-3, 0, 2], [5, 1, 3], true),
+        ([-3, 0, 2], [5, 1, 4], false),
+        ([-4, 0, 2], [1, 1, 1], false),
+        ([-3, 0, 2], [1, 0, 1], false),
+        ([1, 0, 4], [1, 1, 1], true),
+        ([i64::MIN, 0, 2], [u64::MAX, 1, 1], false),
+        ([i64::MAX, 0, 2], [u64::MAX, 1, 1], false),
+    ] {
+        assert_eq!(rt; inside(&scale, &part(begin, size)), is_inside);
+    }
+    let last = last_box(&scale, &whole(&scale));
+    assert_eq!(rt; last, part([1, 0, 4], [1, 1, 1]));
+}
+
+#[test]
+fn counts_bytes_and_places(rt: HostRuntime) {
+    let b = Box3 {
+        begin: [-3, 0, 2],
+        size: [5, 1, 3],
+    };
+    assert_eq!(rt; local_index(&b, [-1, 0, 4], 3), 57);
+    assert_eq!(rt; byte_len(&b, 2, 8), 240);
+    let most = part([0, 0, 0], [u64::MAX, u64::MAX, 2]);
+    assert_eq!(rt; byte_len(&most, 1, 1), u128::MAX);
+    assert_eq!(rt; byte_len(&most, 0, 1), 0);
+}
+
+#[test]
+fn names_objects(rt: HostRuntime) {
+    let dataset = Name::new(b"d").expect(&rt, "a data set");
+    assert!(rt; dataset.as_bytes().len() <= 200);
+    for (size, offset, chunk, cell, wanted) in [
+        (
+            [4, 1, 1],
+            [-3, 0, 0],
+            [64, 64, 64],
+            [0, 0, 0],
+            "d/s/-3-1_0-1_0-1",
+        ),
+        (
+            [5, 1, 3],
+            [-10, 0, 99],
+            [2, 1, 2],
+            [2, 0, 1],
+            "d/s/-6--5_0-1_101-102",
+        ),
+        (
+            [1, 1, 1],
+            [-1, 0, 0],
+            [64, 64, 64],
+            [0, 0, 0],
+            "d/s/-1-0_0-1_0-1",
+        ),
+    ] {
+        let scale = sample(key(&rt), size, offset, chunk);
+        let [x, y, z] = grid(&scale).size;
+        assert!(rt; cell[0] < x && cell[1] < y && cell[2] < z);
+        let name = object_name(&dataset, &scale, cell);
+        assert_eq!(rt; name.as_bytes(), wanted.as_bytes());
+    }
+}
