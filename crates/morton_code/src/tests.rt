@@ -46,7 +46,12 @@ fn check_cell(rt: &impl Abort, grid: &Grid, at: [u64; 3])
 {
     assert!(rt; is_cell(grid.size, at));
     let found = code(grid, at);
-    assert_eq!(rt; found as u128, slow_code(grid.size, at), "code of {at:?} in {:?}", grid.size);
+    assert_eq!(rt;
+        found as u128,
+        slow_code(grid.size, at),
+        "code of {at:?} in {:?}",
+        grid.size
+    );
     assert_eq!(rt; cell(grid, found), Some(at));
 }
 
