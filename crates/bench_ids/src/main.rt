@@ -7,8 +7,7 @@ ghost use Rattle.vol_base.specs.Grids.{pairs};
 
 use morton_code::code;
 use murmur_hash::hash8;
-use std::env;
-use std::io;
+use std::{env, io};
 use vol_base::Grid;
 
 // A grid that the limits allow, whose codes have at most 64 bits.

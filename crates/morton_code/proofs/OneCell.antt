@@ -1,5 +1,5 @@
 -- Two cells of a grid with one code are one cell.
-use Rattle.std.proofs.Common.{◌≡◌, ℕ, zero, suc, ◌+◌, ◌-◌, ◌*◌, ◌/◌, ◌%◌, ◌^◌, ◌<◌, ◌≤◌, nat_lt, Bool, true, false, List, slice_index, arith, refl, ap, ◌∙◌, sym, lit<, subst}
+use Rattle.std.proofs.Common.{◌≡◌, ℕ, zero, suc, ◌+◌, ◌/◌, ◌%◌, ◌^◌, ◌<◌, ◌≤◌, nat_lt, Bool, true, false, List, slice_index, arith, refl, ap, ◌∙◌, sym, lit<}
 use Rattle.std.proofs.Math.Nat.{div-eq_of_lt, div-div-eq-div-mul}
 use Rattle.std.proofs.lemmas.Grind.{pow_more}
 use Rattle.std.proofs.lemmas.Nat.{mod_below}
@@ -19,6 +19,7 @@ joined s c d i below_c below_d bit above = by (nat_lt (2 ^ i) s) refl
   where
     halves : (n : ℕ) → n / 2 ^ (i + 1) ≡ n / 2 ^ i / 2
     halves n = ap (λ k. n / k) (pow_more 2 i) ∙ sym (div-div-eq-div-mul n (2 ^ i) 2)
+
     by : (t : Bool) → nat_lt (2 ^ i) s ≡ t → c / 2 ^ i ≡ d / 2 ^ i
     by true t =
         let low : c / 2 ^ i % 2 ≡ d / 2 ^ i % 2 = bit t in
@@ -37,7 +38,7 @@ same_from : (size a b : List ℕ) (i n : ℕ) → AreSizes size → IsCell size 
 same_from size a b i zero sizes is_a is_b e same axis h =
     let end : i ≡ 40 = omega arith in
     let none : (cell : List ℕ) → IsCell size cell → slice_index cell axis / 2 ^ i ≡ 0 = λ cell is.
-        ap (λ k. slice_index cell axis / 2 ^ k) end ∙ div-eq_of_lt (omega (arith, is.below axis h, sizes axis h)) in
+    ap (λ k. slice_index cell axis / 2 ^ k) end ∙ div-eq_of_lt (omega (arith, is.below axis h, sizes axis h)) in
     none a is_a ∙ sym (none b is_b)
 same_from size a b i (suc n) sizes is_a is_b e same axis h =
     let here = sym (code_from-more size a i (omega arith)) ∙ same ∙ code_from-more size b i (omega arith) in

@@ -1,5 +1,5 @@
 -- Codes, one bit of the axes after the other.
-use Rattle.std.proofs.Common.{IsTrue, ◌↔◌, nat_eq, rules, ◌≡◌, ℕ, zero, suc, ◌+◌, ◌-◌, ◌*◌, ◌/◌, ◌%◌, ◌^◌, ◌<◌, ◌≤◌, nat_lt, Bool, true, false, if◌then◌else◌, List, [], ◌∷◌, length, map, slice_index, arith, refl, ap, ◌∙◌, sym, lit<, lit≤, ⊎_elim, subst}
+use Rattle.std.proofs.Common.{IsTrue, ◌↔◌, nat_eq, rules, ◌≡◌, ℕ, zero, suc, ◌+◌, ◌-◌, ◌*◌, ◌/◌, ◌%◌, ◌^◌, ◌<◌, ◌≤◌, nat_lt, Bool, true, false, if◌then◌else◌, List, [], ◌∷◌, length, map, slice_index, arith, refl, ap, ◌∙◌, sym, lit<, ⊎_elim, subst}
 use Rattle.std.specs.Prelude.{filter, flat_map}
 use Rattle.std.specs.List.{range_with_len}
 use Rattle.std.proofs.Math.Nat.{mod-eq_of_lt, mul-le-mul_left}
@@ -9,7 +9,7 @@ use Rattle.std.proofs.lemmas.Bool.{cases_lt, le-ltb}
 use Rattle.std.proofs.lemmas.Nat.{mod_below, mod-pow-add, leading_length}
 use Rattle.std.specs.Int.Count.{count_leading_zeros}
 use borrow.Author.Tests.{ltb-false}
-use Rattle.vol_base.specs.Grids.{is_pair, axes_of, pairs, AreSizes}
+use Rattle.vol_base.specs.Grids.{is_pair, axes_of, pairs}
 use Rattle.morton_code.specs.Codes.{bit_of, number, code_of, IsCell}
 use Rattle.morton_code.specs.declared.codes.Taken.{Taken}
 
@@ -168,8 +168,8 @@ height size some small =
     let same : 64 - count_leading_zeros 64 (size - 1) ≡ long.0 = omega (arith, long.1) in
     let above : size ≤ 2 ^ long.0 = omega (arith, long.2) in
     let short : long.0 ≤ 40 = ⊎_elim (λ (lt : long.0 < 41). omega arith)
-        (λ (ge : 41 ≤ long.0). let more : 2 ^ 41 ≤ 2 ^ long.0 = pow_mono ge in absurd (omega (arith, long.3)))
-        (cases_lt long.0 41) in
+    (λ (ge : 41 ≤ long.0). let more : 2 ^ 41 ≤ 2 ^ long.0 = pow_mono ge in absurd (omega (arith, long.3)))
+    (cases_lt long.0 41) in
     (omega arith, subst (λ n. size ≤ 2 ^ n) (sym same) above)
 
 -- no axis has a bit that its size doesn't reach

@@ -4,7 +4,9 @@ ghost use Rattle.murmur_hash.specs.Hashes.{all_mixed, hash8, high_keyed, loaded,
 
 // The factors c1, c2 and c3 of the public code.
 const FIRST: u32 = 0x239b961b;
+
 const SECOND: u32 = 0xab0e9789;
+
 const THIRD: u32 = 0x38b34ae5;
 
 // The length of the key in bytes.
@@ -21,13 +23,17 @@ struct Lanes {
 fn key_low(word: u32) -> u32
     ensures { result ≡ low_keyed word }
 {
-    word.wrapping_mul(FIRST).rotate_left(15).wrapping_mul(SECOND)
+    word.wrapping_mul(FIRST)
+        .rotate_left(15)
+        .wrapping_mul(SECOND)
 }
 
 fn key_high(word: u32) -> u32
     ensures { result ≡ high_keyed word }
 {
-    word.wrapping_mul(SECOND).rotate_left(16).wrapping_mul(THIRD)
+    word.wrapping_mul(SECOND)
+        .rotate_left(16)
+        .wrapping_mul(THIRD)
 }
 
 #[tactic(auto, unfolding(crate::specs::Hashes::loaded))]

@@ -42,7 +42,10 @@ fn places_plain_ids(rt: HostRuntime) {
     // no bit is left
     assert_eq!(rt; place(&unhashed(64, 24, 40), id), at(0, 0));
     // each bit names something
-    assert_eq!(rt; place(&unhashed(0, 24, 40), id), at(0xfe_dcba_9876, 0x54_3210));
+    assert_eq!(rt;
+        place(&unhashed(0, 24, 40), id),
+        at(0xfe_dcba_9876, 0x54_3210)
+    );
     assert_eq!(rt; place(&unhashed(0, 0, 64), id), at(id, 0));
     // one shard, and one shard with one minishard
     assert_eq!(rt; place(&unhashed(0, 24, 0), id), at(0, 0x54_3210));

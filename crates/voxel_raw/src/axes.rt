@@ -1,4 +1,4 @@
-// Copies by rows, planes and volumes. An array is blocks of one length, one after another.
+//! Copies by rows, planes and volumes. An array is blocks of one length, one after another.
 ghost use Rattle.std.specs.Prelude.{◌≡◌, ◌+◌, ◌*◌, ◌<◌, ◌≤◌, ◌^◌, ◌⊎◌, ℕ, [], ◌∷◌, length, slice_index};
 ghost use Rattle.voxel_raw.specs.Blocks.{Copied, FitsFrom, FitsTo};
 
@@ -67,6 +67,7 @@ fn put_volume<S: Source + Drop>(z: &Axis, y: &Axis, run: &Run, from: &S, to: &mu
     }
 }
 
+/// Puts the run of each row of each plane of each channel from the source over its place in `to`.
 pub(crate) fn put_channels<S: Source + Drop>(
     c: &Axis,
     z: &Axis,

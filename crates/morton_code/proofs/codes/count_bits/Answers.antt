@@ -1,4 +1,4 @@
-use Rattle.std.proofs.Common.{arith, lit<, slice_index, ◌≤◌, ◌^◌}
+use Rattle.std.proofs.Common.{arith, slice_index, ◌≤◌, ◌^◌}
 use Rattle.morton_code.proofs.Steps.{by_axis}
 use Rattle.morton_code.proofs.codes.count_bits.Goals as goal
 
