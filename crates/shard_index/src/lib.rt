@@ -5,4 +5,5 @@ mod places;
 #[cfg(test)]
 mod tests;
 
-pub use places::{ShardPlace, place};
+pub use places::place;
+pub use vol_spec::ShardPlace;

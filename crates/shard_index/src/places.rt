@@ -3,14 +3,7 @@ ghost use Rattle.std.specs.Prelude.{◌≡◌, ◌/◌, ◌%◌, ◌<◌, ◌≤
 ghost use Rattle.shard_index.specs.Places.{hash_of, minishard_of, shard_of};
 
 use murmur_hash::{hash8, identity};
-use vol_spec::{HashKind, Sharding};
-
-/// The shard that has a chunk, and the minishard in it.
-#[derive(Clone, Copy, Debug, PartialEq, Eq)]
-pub struct ShardPlace {
-    pub shard: u64,
-    pub minishard: u64,
-}
+use vol_spec::{HashKind, ShardPlace, Sharding};
 
 fn hash(kind: HashKind, value: u64) -> u64
     ensures { result ≡ hash_of kind value }

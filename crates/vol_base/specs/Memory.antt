@@ -62,3 +62,19 @@ told_by objects (Some d) = record { told = λ _. refl; len = refl }
 
 pub memory_tells : (m : Memory) → IfSome (draft_of m) (IsTold (Some m.objects))
 memory_tells m = told_by m.objects m.writing
+
+-- what a feed in memory is, seen from outside
+pub record Incoming : Type 0 where
+  pub left : List ℕ
+  pub piece : ℕ
+  pub faults : ℕ
+  pub calls : ℕ
+  pub failing : List ℕ
+
+abbrev pub incoming_code : Coded Incoming
+incoming_code =
+    code_by (List ℕ × (ℕ × (ℕ × (ℕ × List ℕ))))
+    (coded× bytes_code (coded× coded_ℕ (coded× coded_ℕ (coded× coded_ℕ bytes_code))))
+    (λ f. (f.left, (f.piece, (f.faults, (f.calls, f.failing)))))
+    (λ p. record { left = p.0; piece = p.1.0; faults = p.1.1.0; calls = p.1.1.1.0; failing = p.1.1.1.1 })
+    (λ _. refl)

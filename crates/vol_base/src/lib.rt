@@ -4,6 +4,7 @@
 mod boxes;
 mod calls;
 mod faults;
+mod feed;
 mod grid;
 mod memory;
 mod name;
@@ -12,6 +13,7 @@ mod outside;
 
 pub use boxes::{Box3, BoxFault};
 pub use faults::{ChunkFault, Fault, IndexFault, ShardFault};
+pub use feed::MemoryFeed;
 pub use grid::Grid;
 pub use memory::MemoryStore;
 pub use name::Name;

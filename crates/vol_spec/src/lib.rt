@@ -7,4 +7,4 @@ mod sharding;
 
 pub use encoding::Encoding;
 pub use scale::Scale;
-pub use sharding::{HashKind, Sharding};
+pub use sharding::{HashKind, ShardPlace, Sharding};

@@ -21,3 +21,10 @@ pub struct Sharding {
     ghost minishard_ok: { minishard_bits ≤ 24 },
     ghost bits_ok: { minishard_bits + shard_bits ≤ 64 },
 }
+
+/// The shard that has a chunk, and the minishard in it.
+#[derive(Clone, Copy, Debug, PartialEq, Eq)]
+pub struct ShardPlace {
+    pub shard: u64,
+    pub minishard: u64,
+}
