@@ -15,6 +15,8 @@ mod refusal;
 mod report;
 mod status;
 mod streams;
+#[cfg(test)]
+mod tests;
 mod top;
 mod words;
 
