@@ -1,10 +1,12 @@
 -- What the stand-ins in memory are, seen from outside.
-use Rattle.std.specs.Prelude.{ℕ, Bool, ◌||◌, nat_le, List, Option, Some, None, IfSome, length, nat_eq}
+use Rattle.std.specs.Prelude.{ℕ, IsTrue, ◌+◌, ◌-◌, ◌^◌, min, Bool, ◌||◌, nat_le, List, Option, Some, None, IfSome, length, nat_eq}
 use Rattle.std.specs.Option.{option_map}
 use Rattle.std.specs.List.{list_any}
 use Rattle.std.specs.Prelude.{refl}
 use Rattle.std.specs.FinMap as map
 use Rattle.std.specs.Coded.{Coded, code_by, coded×, coded_ℕ, coded_list, coded_option}
+use Rattle.vol_base.specs.declared.outside.StoreRefusal.{StoreRefusal}
+use Rattle.vol_base.specs.declared.outside.StoreRefusal.TheVariants.{Failed, OutOfMemory}
 use Rattle.vol_base.specs.Outside.{Objects, Draft, IsTold}
 
 -- a store in memory
@@ -22,6 +24,23 @@ draft_of m = option_map (λ d. record { len = length d.1; told = Some d }) m.wri
 -- whether the next call fails
 abbrev pub fails : Memory → Bool
 fails m = list_any (λ n. nat_eq n m.calls) m.failing
+
+-- a refusal for another cause than memory comes only where the call fails by its number
+abbrev pub FailsAs : StoreRefusal → Bool → Type 0
+FailsAs Failed fails = IsTrue fails
+FailsAs OutOfMemory fails = Unit {0}
+
+-- a count one higher, up to its end
+abbrev pub one_more : ℕ → ℕ
+one_more n = min (n + 1) (2 ^ 64 - 1)
+
+-- the store after a call that doesn't fail by its number, but for what the call changes
+abbrev pub called : Memory → Memory
+called m = record m { calls = one_more m.calls }
+
+-- the store after a call that fails by its number
+abbrev pub failed : Memory → Memory
+failed m = record m { calls = one_more m.calls; faults = one_more m.faults }
 
 abbrev pub bytes_code : Coded (List ℕ)
 bytes_code = coded_list coded_ℕ

@@ -1,5 +1,5 @@
 //! Calls of a stand-in that fail by their numbers.
-ghost use Rattle.std.specs.Prelude.{◌≡◌, ◌+◌, ◌-◌, ◌^◌, ◌≤◌, ◌↔◌, min, IsErr, IsTrue, OnOk, nat_eq};
+ghost use Rattle.std.specs.Prelude.{◌≡◌, ◌+◌, ◌-◌, ◌^◌, ◌≤◌, ◌↔◌, min, IsErr, IsTrue, OnErr, OnOk, nat_eq};
 ghost use Rattle.std.specs.List.{list_any};
 ghost use Rattle.vol_base.specs.Causes.{HasCause};
 
@@ -19,6 +19,7 @@ pub(crate) fn tick(calls: &mut u64, faults: &mut u64, failing: &[u64]) -> Result
     ensures calls { calls.new ≡ min (calls.old + 1) (2 ^ 64 - 1) }
     ensures cause { HasCause faults.old faults.new result }
     ensures fine { OnOk result (faults.new ≡ faults.old) }
+    ensures fault { OnErr result (faults.new ≡ min (faults.old + 1) (2 ^ 64 - 1)) }
 {
     let fails = failing.contains(&*calls);
     *calls = calls.saturating_add(1);

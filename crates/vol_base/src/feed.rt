@@ -72,6 +72,7 @@ impl MemoryFeed {
 
 impl Feed for MemoryFeed {
     ghost use Rattle.std.specs.Prelude.{Some};
+    ghost use Rattle.vol_base.specs.Memory.{one_more};
 
     ghost left = { λ s. Some s.left };
 
@@ -85,6 +86,9 @@ impl Feed for MemoryFeed {
         ensures refused { OnErr result (Some self.new.left ≡ Some self.old.left) }
         ensures cause { HasCause self.old.faults self.new.faults result }
         ensures fails { IsErr result ↔ IsTrue (list_any (λ n. nat_eq n self.old.calls) self.old.failing) }
+        ensures count { IfOk result (λ n. n ≡ min self.old.piece (min (length self.old.left) (length out.old))) }
+        ensures ok { IfOk result (λ n. self.new ≡ record self.old { left = drop n self.old.left; calls = one_more self.old.calls }) }
+        ensures err { OnErr result (self.new ≡ record self.old { calls = one_more self.old.calls; faults = one_more self.old.faults }) }
     {
         tick(&mut self.calls, &mut self.faults, &self.failing)?;
         let n = give_front(&self.bytes[self.taken..], self.piece, out);

@@ -3,10 +3,10 @@ ghost use Rattle.std.specs.Prelude.{◌≡◌, ◌+◌, ◌<◌, ◌≤◌, ◌^
 ghost use Rattle.std.specs.Option.{option_map};
 ghost use Rattle.std.specs.FinMap as map;
 ghost use Rattle.vol_base.specs.Stored.{objects_of};
-ghost use Rattle.std.specs.Prelude.{◌↔◌, IsErr, nat_eq, min, ◌-◌, List, take, drop};
-ghost use Rattle.std.specs.List.{list_any, starts_with};
+ghost use Rattle.std.specs.Prelude.{◌↔◌, IsErr, IfErr, nat_eq, List, drop};
+ghost use Rattle.std.specs.List.{list_any};
 ghost use Rattle.vol_base.specs.Causes.{HasCause, HasStoreCause};
-ghost use Rattle.vol_base.specs.Outside.{Objects, Draft, Reads, part, asked_after, is_under, any_under, begun, appended, patched, finished, overwritten};
+ghost use Rattle.vol_base.specs.Outside.{KeepsRest, Reads, part, asked_after, is_under, any_under, begun, appended, patched, finished, overwritten};
 
 use crate::calls::tick;
 use crate::{Failed, Got, Name, OutOfMemory, Source, Store, StoreRefusal};
@@ -144,7 +144,7 @@ impl MemoryStore {
 
 impl Source for MemoryStore {
     ghost use Rattle.std.specs.Prelude.{Some};
-    ghost use Rattle.vol_base.specs.Memory.{draft_of};
+    ghost use Rattle.vol_base.specs.Memory.{called, draft_of, failed, fails};
 
     ghost objects = { λ m. Some m.objects };
 
@@ -154,7 +154,16 @@ impl Source for MemoryStore {
 
     ghost faults = { λ m. m.faults };
 
-    fn size(&mut self, name: &Name) -> Result<Option<u64>, Failed> {
+    fn size(&mut self, name: &Name) -> Result<Option<u64>, Failed>
+        ensures found { IfOk result (λ size. IfSome (Some self.old.objects) (λ m. size ≡ option_map length (map.get m name.now))) }
+        ensures objects { Some self.new.objects ≡ Some self.old.objects }
+        ensures draft { draft_of self.new ≡ draft_of self.old }
+        ensures asked { self.new.asked ≡ self.old.asked }
+        ensures cause { HasCause self.old.faults self.new.faults result }
+        ensures fails { IsErr result ↔ IsTrue (fails self.old) }
+        ensures ok { OnOk result (self.new ≡ called self.old) }
+        ensures err { OnErr result (self.new ≡ failed self.old) }
+    {
         tick(&mut self.calls, &mut self.faults, &self.failing)?;
         match lookup(&self.objects, name) {
             None => Ok(None),
@@ -162,7 +171,19 @@ impl Source for MemoryStore {
         }
     }
 
-    fn read_at(&mut self, name: &Name, at: u64, out: &mut [u8]) -> Result<Got, Failed> {
+    fn read_at(&mut self, name: &Name, at: u64, out: &mut [u8]) -> Result<Got, Failed>
+        requires { at + length out.old < 2 ^ 64 }
+        ensures read { IfOk result (λ got. IfSome (Some self.old.objects) (λ m. Reads (map.get m name.now) at out.old out.new got)) }
+        ensures rest { IfOk result (KeepsRest out.old out.new) }
+        ensures objects { Some self.new.objects ≡ Some self.old.objects }
+        ensures draft { draft_of self.new ≡ draft_of self.old }
+        ensures asked { OnOk result (self.new.asked ≡ asked_after self.old.asked (length out.old)) }
+        ensures asked_err { OnErr result ((self.old.asked ≤ self.new.asked) × (self.new.asked ≤ self.old.asked + length out.old)) }
+        ensures cause { HasCause self.old.faults self.new.faults result }
+        ensures fails { IsErr result ↔ IsTrue (fails self.old) }
+        ensures ok { OnOk result (self.new ≡ record (called self.old) { asked = asked_after self.old.asked (length out.old) }) }
+        ensures err { OnErr result (self.new ≡ failed self.old) }
+    {
         tick(&mut self.calls, &mut self.faults, &self.failing)?;
         self.asked = self.asked.saturating_add(out.len() as u64);
         Ok(read_object(lookup(&self.objects, name), at, out))
@@ -195,16 +216,34 @@ fn under(folder: &[u8], name: &[u8]) -> bool
 }
 
 impl Store for MemoryStore {
-    ghost use Rattle.vol_base.specs.Memory.{memory_tells};
+    ghost use Rattle.vol_base.specs.Memory.{called, draft_of, failed, fails, FailsAs, memory_tells, one_more};
 
     ghost tells = { memory_tells };
 
-    fn any_under(&mut self, folder: &Name) -> Result<bool, Failed> {
+    fn any_under(&mut self, folder: &Name) -> Result<bool, Failed>
+        ensures found { IfOk result (λ found. IfSome (Some self.old.objects) (λ m. found ≡ any_under m folder.now)) }
+        ensures objects { Some self.new.objects ≡ Some self.old.objects }
+        ensures draft { draft_of self.new ≡ draft_of self.old }
+        ensures asked { self.new.asked ≡ self.old.asked }
+        ensures cause { HasCause self.old.faults self.new.faults result }
+        ensures fails { IsErr result ↔ IsTrue (fails self.old) }
+        ensures ok { OnOk result (self.new ≡ called self.old) }
+        ensures err { OnErr result (self.new ≡ failed self.old) }
+    {
         tick(&mut self.calls, &mut self.faults, &self.failing)?;
         Ok(any_in(&self.objects, folder))
     }
 
-    fn begin(&mut self, name: &Name) -> Result<(), StoreRefusal> {
+    fn begin(&mut self, name: &Name) -> Result<(), StoreRefusal>
+        ensures begun { OnOk result (draft_of self.new ≡ Some (begun (Some self.old.objects) name.now)) }
+        ensures refused { OnErr result (draft_of self.new ≡ None) }
+        ensures objects { Some self.new.objects ≡ Some self.old.objects }
+        ensures asked { self.new.asked ≡ self.old.asked }
+        ensures cause { HasStoreCause self.old.faults self.new.faults result }
+        ensures fails { IsErr result ↔ IsTrue (fails self.old) }
+        ensures ok { OnOk result (self.new ≡ record (called self.old) { writing = Some (name.now, []) }) }
+        ensures err { OnErr result (self.new ≡ record (failed self.old) { writing = None }) }
+    {
         self.writing = None;
         if tick(&mut self.calls, &mut self.faults, &self.failing).is_err() {
             return Err(StoreRefusal::Failed);
@@ -216,12 +255,23 @@ impl Store for MemoryStore {
         Ok(())
     }
 
-    fn append(&mut self, piece: &[u8]) -> Result<(), StoreRefusal> {
+    fn append(&mut self, piece: &[u8]) -> Result<(), StoreRefusal>
+        requires { IsSome (draft_of self.old) }
+        ensures appended { OnOk result (draft_of self.new ≡ option_map (λ d. appended d piece.now) (draft_of self.old)) }
+        ensures refused { OnErr result (draft_of self.new ≡ None) }
+        ensures objects { Some self.new.objects ≡ Some self.old.objects }
+        ensures asked { self.new.asked ≡ self.old.asked }
+        ensures cause { HasStoreCause self.old.faults self.new.faults result }
+        ensures fails { IsTrue (fails self.old) → IsErr result }
+        ensures refusal { IfErr result (λ refusal. FailsAs refusal (fails self.old)) }
+        ensures counted { self.new.calls ≡ one_more self.old.calls }
+    {
         let Some(object) = self.writing.take() else {
             return Ok(());
         };
-        if tick(&mut self.calls, &mut self.faults, &self.failing).is_err() {
-            return Err(StoreRefusal::Failed);
+        match tick(&mut self.calls, &mut self.faults, &self.failing) {
+            Ok(()) => {}
+            Err(_) => return Err(StoreRefusal::Failed),
         }
         let mut object = object;
         if object.bytes.extend_from_slice(piece).is_err() {
@@ -231,12 +281,23 @@ impl Store for MemoryStore {
         Ok(())
     }
 
-    fn patch_front(&mut self, at: u64, piece: &[u8]) -> Result<(), StoreRefusal> {
+    fn patch_front(&mut self, at: u64, piece: &[u8]) -> Result<(), StoreRefusal>
+        requires written { IsSome (draft_of self.old) }
+        requires within { IfSome (draft_of self.old) (λ d. at + length piece.now ≤ d.len) }
+        ensures patched { OnOk result (draft_of self.new ≡ option_map (λ d. patched d at piece.now) (draft_of self.old)) }
+        ensures refused { OnErr result (draft_of self.new ≡ None) }
+        ensures objects { Some self.new.objects ≡ Some self.old.objects }
+        ensures asked { self.new.asked ≡ self.old.asked }
+        ensures cause { HasStoreCause self.old.faults self.new.faults result }
+        ensures fails { IsErr result ↔ IsTrue (fails self.old) }
+        ensures err { OnErr result (self.new ≡ record (failed self.old) { writing = None }) }
+    {
         let Some(object) = self.writing.take() else {
             return Ok(());
         };
-        if tick(&mut self.calls, &mut self.faults, &self.failing).is_err() {
-            return Err(StoreRefusal::Failed);
+        match tick(&mut self.calls, &mut self.faults, &self.failing) {
+            Ok(()) => {}
+            Err(_) => return Err(StoreRefusal::Failed),
         }
         let mut object = object;
         patch(&mut object.bytes, at as usize, piece);
@@ -244,12 +305,23 @@ impl Store for MemoryStore {
         Ok(())
     }
 
-    fn finish(&mut self) -> Result<(), StoreRefusal> {
+    fn finish(&mut self) -> Result<(), StoreRefusal>
+        requires { IsSome (draft_of self.old) }
+        ensures finished { OnOk result (IfSome (draft_of self.old) (λ d. Some self.new.objects ≡ option_map (finished d.told) (Some self.old.objects))) }
+        ensures draft { draft_of self.new ≡ None }
+        ensures refused { OnErr result (Some self.new.objects ≡ Some self.old.objects) }
+        ensures asked { self.new.asked ≡ self.old.asked }
+        ensures cause { HasStoreCause self.old.faults self.new.faults result }
+        ensures fails { IsTrue (fails self.old) → IsErr result }
+        ensures refusal { IfErr result (λ refusal. FailsAs refusal (fails self.old)) }
+        ensures counted { self.new.calls ≡ one_more self.old.calls }
+    {
         let Some(object) = self.writing.take() else {
             return Ok(());
         };
-        if tick(&mut self.calls, &mut self.faults, &self.failing).is_err() {
-            return Err(StoreRefusal::Failed);
+        match tick(&mut self.calls, &mut self.faults, &self.failing) {
+            Ok(()) => {}
+            Err(_) => return Err(StoreRefusal::Failed),
         }
         if put_newest(&mut self.objects, object.name, object.bytes).is_err() {
             return Err(StoreRefusal::OutOfMemory);

@@ -89,7 +89,7 @@ impl MemoryOutlet {
 
 impl Outlet for MemoryOutlet {
     ghost use Rattle.std.specs.Prelude.{Some};
-    ghost use Rattle.vol_base.specs.Memory.{refuses_bytes};
+    ghost use Rattle.vol_base.specs.Memory.{one_more, refuses_bytes};
 
     ghost written = { λ s. Some s.bytes };
 
@@ -102,6 +102,9 @@ impl Outlet for MemoryOutlet {
         ensures refused { OnErr result (Some self.new.bytes ≡ Some self.old.bytes) }
         ensures cause { HasCause self.old.faults self.new.faults result }
         ensures fails { IsErr result ↔ IsTrue (refuses_bytes self.old) }
+        ensures count { IfOk result (λ n. n ≡ min (min (self.old.room - length self.old.bytes) self.old.piece) (length piece.now)) }
+        ensures ok { IfOk result (λ n. self.new ≡ record self.old { bytes = self.old.bytes ++ take n piece.now; calls = one_more self.old.calls }) }
+        ensures err { OnErr result (self.new ≡ record self.old { calls = one_more self.old.calls; faults = one_more self.old.faults }) }
     {
         tick(&mut self.calls, &mut self.faults, &self.failing)?;
         let room = self.room - self.bytes.len();
