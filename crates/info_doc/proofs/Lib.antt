@@ -1,6 +1,9 @@
-pub mod SameScale
 mod JsonSteps
-mod TreeSteps
-mod Saturated
 mod Judging
-mod MembersFit
+pub mod Laws
+mod Parts
+mod Saturated
+mod Reading
+pub mod SameScale
+pub mod SameSharding
+mod TreeSteps
