@@ -29,16 +29,27 @@ WHOLE = "[0:4,0:2,0:1]"
 VALUES = bytes([1, 2, 5, 6, 3, 4, 7, 8])
 
 
-def info_of(size, chunk):
-    """The info document of a dataset with one plain scale s."""
-    scale = {
+SHARDING = {
+    "@type": "neuroglancer_uint64_sharded_v1",
+    "preshift_bits": 0,
+    "hash": "identity",
+    "minishard_bits": 0,
+    "shard_bits": 0,
+}
+SEGMENTED = {"encoding": "compressed_segmentation", "compressed_segmentation_block_size": [8, 8, 8]}
+
+
+def info_of(size, chunk, volume=None, scale=None):
+    """The info document of a dataset with one plain scale s, and other members of the volume and of the scale."""
+    one = {
         "key": "s",
         "size": size,
         "chunk_sizes": [chunk],
         "resolution": [8, 8, 40],
         "encoding": "raw",
+        **(scale or {}),
     }
-    info = {"type": "image", "data_type": "uint8", "num_channels": 1, "scales": [scale]}
+    info = {"type": "image", "data_type": "uint8", "num_channels": 1, "scales": [one], **(volume or {})}
     return json.dumps(info).encode()
 
 
@@ -62,6 +73,10 @@ def without(name):
 
 def with_bytes(name, content):
     return lambda folder: (folder / name).write_bytes(content)
+
+
+def with_info(volume=None, **scale):
+    return with_bytes(INFO_PATH, info_of([4, 2, 1], [2, 2, 1], volume, scale))
 
 
 def with_folder(name):
@@ -186,10 +201,34 @@ REFUSED = [
     ("an info that isn't UTF-8", with_bytes(INFO_PATH, b'{"type":"\xff"}'), cut(), INFO, "info of d: not json"),
     ("an info that isn't JSON", with_bytes(INFO_PATH, b"{'type': 'image'}"), cut(), INFO, "info of d: not json"),
     ("an info cut off", with_bytes(INFO_PATH, info_of([4, 2, 1], [2, 2, 1])[:-1]), cut(), INFO, "info of d: not json"),
-    ("an info that is an array", with_bytes(INFO_PATH, b"[]"), cut(), INFO, "info of d: not built"),
-    ("an info that is an empty object", with_bytes(INFO_PATH, b"{}"), cut(), INFO, "info of d: not built"),
-    ("a size of 0", with_bytes(INFO_PATH, info_of([4, 2, 0], [2, 2, 1])), cut(), INFO, "info of d: not built"),
-    ("a key that no scale has", as_it_is, cut(key="t"), INFO, "info of d: not built"),
+    ("an info that is an array", with_bytes(INFO_PATH, b"[]"), cut(), INFO, "info of d: root wrong kind"),
+    ("an info that is an empty object", with_bytes(INFO_PATH, b"{}"), cut(), INFO, "info of d: type missing"),
+    ("a size of 0", with_info(size=[4, 2, 0]), cut(), INFO, "info of d: size bad value"),
+    ("a key that no scale has", as_it_is, cut(key="t"), INFO, "info of d: scale absent"),
+    ("another @type", with_info({"@type": "x"}), cut(), INFO, "info of d: @type bad value"),
+    ("a type that is none", with_info({"type": "mesh"}), cut(), INFO, "info of d: type bad value"),
+    ("a data type of floats", with_info({"data_type": "float32"}), cut(), INFO, "info of d: unsupported data_type"),
+    ("no channels", with_info({"num_channels": 0}), cut(), INFO, "info of d: num_channels bad value"),
+    ("1,025 channels", with_info({"num_channels": 1025}), cut(), INFO, "info of d: limit num_channels"),
+    ("scales that are no array", with_info({"scales": {}}), cut(), INFO, "info of d: scales wrong kind"),
+    ("a size of 2^40 + 1", with_info(size=[2**40 + 1, 2, 1]), cut(), INFO, "info of d: limit size"),
+    ("a size that is a float", with_info(size=[4.0, 2, 1]), cut(), INFO, "info of d: size wrong kind"),
+    ("an offset of text", with_info(voxel_offset="0"), cut(), INFO, "info of d: voxel_offset wrong kind"),
+    ("an offset beyond 2^40", with_info(voxel_offset=[-(2**40) - 1, 0, 0]), cut(), INFO, "info of d: limit voxel_offset"),
+    ("two chunk sizes", with_info(chunk_sizes=[[2, 2, 1], [4, 2, 1]]), cut(), INFO, "info of d: unsupported chunk_sizes"),
+    ("a resolution of two", with_info(resolution=[8, 8]), cut(), INFO, "info of d: resolution wrong kind"),
+    ("an encoding of pictures", with_info(encoding="jpeg"), cut(), INFO, "info of d: unsupported encoding"),
+    ("segmented bytes", with_info(encoding="compressed_segmentation"), cut(), INFO, "info of d: encoding bad value"),
+    ("segmented chunks", with_info({"data_type": "uint64"}, **SEGMENTED), cut(), INFO, "info of d: not built"),
+    ("a sharded scale", with_info(sharding=SHARDING), cut(), INFO, "info of d: not built"),
+    ("gzip in shards", with_info(sharding={**SHARDING, "data_encoding": "gzip"}), cut(), INFO, "info of d: unsupported data_encoding"),
+    (
+        "a chunk of more than 2^27 bytes",
+        with_info(size=[512, 512, 513], chunk_sizes=[[512, 512, 513]]),
+        cut(),
+        INFO,
+        "info of d: limit chunk_bytes",
+    ),
     ("an info that is a link to itself", with_loop(INFO_PATH), cut(), STORE, "store fault"),
     ("an info that is a pipe", with_pipe(INFO_PATH), cut(), STORE, "store fault"),
     ("a box past the end", as_it_is, cut("[0:5,0:2,0:1]"), REQUEST, f"box [0:5,0:2,0:1] outside {WHOLE}"),
@@ -231,6 +270,27 @@ REFUSED = [
         DAMAGED,
         "damaged 1,1,0: chunk length 3 wanted 4",
     ),
+    (
+        "a short chunk behind the first plane",
+        both(with_info(size=[4, 2, 3]), with_bytes("d/s/2-4_0-2_2-3", b"123")),
+        cut("[0:4,0:2,0:3]"),
+        DAMAGED,
+        "damaged 1,0,2: chunk length 3 wanted 4",
+    ),
+    (
+        "half a chunk of wide values",
+        both(with_info({"data_type": "uint16", "num_channels": 2}), with_bytes(FIRST, bytes(8))),
+        cut(),
+        DAMAGED,
+        "damaged 0,0,0: chunk length 8 wanted 16",
+    ),
+    (
+        "a box before an offset",
+        with_info(voxel_offset=[-3, 5, 7]),
+        cut("[-4:1,5:7,7:8]"),
+        REQUEST,
+        "box [-4:1,5:7,7:8] outside [-3:1,5:7,7:8]",
+    ),
     ("a chunk that is a link to itself", with_loop(SECOND), cut(), STORE, "store fault"),
     ("a chunk that is a pipe", with_pipe(SECOND), cut(), STORE, "store fault"),
     ("a chunk that is a device", with_device(SECOND), cut(), STORE, "store fault"),
@@ -241,6 +301,30 @@ SERVED = [
     ("a sound dataset", as_it_is, cut(), VALUES),
     ("a box across the chunks", as_it_is, cut("[1:3,1:2,0:1]"), bytes([4, 7])),
     ("a fault outside the box", with_bytes(SECOND, b""), cut("[0:2,0:2,0:1]"), bytes([1, 2, 3, 4])),
+    (
+        "an offset below 0",
+        both(with_info(voxel_offset=[-3, 5, 7]), with_bytes("d/s/-3--1_5-7_7-8", bytes([1, 2, 3, 4]))),
+        cut("[-2:0,5:7,7:8]"),
+        bytes([2, 0, 4, 0]),
+    ),
+    (
+        "two channels of 16 bits",
+        both(
+            with_info({"@type": "neuroglancer_multiscale_volume", "data_type": "uint16", "num_channels": 2}),
+            both(with_bytes(FIRST, bytes(range(16))), without(SECOND)),
+        ),
+        cut("[1:3,0:2,0:1]"),
+        bytes([2, 3, 0, 0, 6, 7, 0, 0, 10, 11, 0, 0, 14, 15, 0, 0]),
+    ),
+    (
+        "planes of 64 bits",
+        both(
+            with_info({"type": "segmentation", "data_type": "uint64"}, size=[1, 1, 3], chunk_sizes=[[1, 1, 2]]),
+            both(with_bytes("d/s/0-1_0-1_0-2", bytes(range(16))), with_bytes("d/s/0-1_0-1_2-3", bytes(range(8)))),
+        ),
+        cut("[0:1,0:1,1:3]"),
+        bytes(range(8, 16)) + bytes(range(8)),
+    ),
     ("a chunk that is missing", without(FIRST), cut(), bytes([0, 0, 5, 6, 0, 0, 7, 8])),
     ("a folder in a chunk's place", with_folder(FIRST), cut(), bytes([0, 0, 5, 6, 0, 0, 7, 8])),
     ("a file in the place of the chunks' folder", with_file("d/s"), cut(), bytes(8)),

@@ -10,6 +10,7 @@ use Rattle.vol_base.specs.declared.outside.Got.TheVariants.{Absent, Bytes}
 use Rattle.info_doc.specs.Info.{scale_in}
 use Rattle.vol_spec.specs.declared.scale.Scale.{Scale}
 use Rattle.vol_tool.specs.Answers.{info_name, judged_info, scale_from, stored_scale, ReadsScale}
+use Rattle.vol_tool.specs.declared.refusal.NoScale.TheVariants.{Absent as Missing}
 use Rattle.vol_tool.specs.declared.refusal.Refusal.{Refusal}
 
 stored_scale-is : (m : Objects) (dataset key : List ℕ) → stored_scale m dataset key ≡ scale_from (fin.get m (info_name dataset)) key
@@ -36,7 +37,7 @@ no_object : (o : Option (List ℕ)) (n : ℕ) → Absent ≡ got_of o 0 n → o 
 no_object None n e = refl
 no_object (Some bytes) n e = cc e
 
-pub absent_info : (m : Objects) (dataset key name old new : List ℕ) (got : Got) → got ≡ Absent → name ≡ info_name dataset → Reads (fin.get m name) 0 old new got → stored_scale m dataset key ≡ Err None
+pub absent_info : (m : Objects) (dataset key name old new : List ℕ) (got : Got) → got ≡ Absent → name ≡ info_name dataset → Reads (fin.get m name) 0 old new got → stored_scale m dataset key ≡ Err Missing
 absent_info m dataset key name old new got is named read =
     stored_scale-is m dataset key ∙ ap (λ n. scale_from (fin.get m n) key) (sym named) ∙ ap (λ o. scale_from o key) (no_object (fin.get m name) (length old) (sym is ∙ read.got))
 

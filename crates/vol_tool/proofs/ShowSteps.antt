@@ -1,5 +1,5 @@
 -- What a refusal shows.
-use Rattle.std.proofs.Common.{◌≡◌, ◌≢◌, ◌⊎◌, ℕ, List, Option, Some, None, Result, Ok, Err, refl, sym, subst, inl, inr}
+use Rattle.std.proofs.Common.{◌≡◌, ◌≢◌, ◌⊎◌, ℕ, List, Option, Some, Result, Ok, Err, refl, sym, subst, inl, inr}
 use Rattle.std.specs.Prelude.{IsOkAnd, IsErrAnd, IsSomeAnd}
 use Rattle.vol_base.specs.declared.boxes.Box3.{Box3}
 use Rattle.vol_base.specs.Outside.{Objects}
@@ -9,7 +9,7 @@ use Rattle.vol_tool.specs.Lines.{damaged_line, large_line, memory_line, outside_
 use Rattle.vol_tool.specs.Refusals.{line_of, status_of}
 use Rattle.vol_tool.specs.Statuses.{CutoutShows, Leaves, MeetsFault, Outlets, RefusesBox, Tells}
 use Rattle.vol_tool.specs.declared.refusal.Refusal.{Refusal}
-use Rattle.vol_tool.specs.declared.refusal.Refusal.TheVariants.{NoInfo, Info, Outside, TooLarge, Damaged, StoreFault, OutFault, NoMemory}
+use Rattle.vol_tool.specs.declared.refusal.Refusal.TheVariants.{NoScale, Outside, TooLarge, Damaged, StoreFault, OutFault, NoMemory}
 use Rattle.vol_tool.specs.declared.status.Status.{Status}
 use Rattle.vol_tool.specs.declared.status.Status.TheVariants.{NoMemory as MemoryStatus}
 
@@ -27,8 +27,7 @@ some_and o a Q is h = rw is h
 shows_line : (refusal : Refusal) (m : Objects) (dataset key : List ℕ) (part : Box3) (o : Outlets)
     → Cuts (Err refusal) (stored_scale m dataset key) m dataset part o.out_old o.out_new → Tells o (line_of dataset part refusal)
     → CutoutShows (status_of refusal) m dataset key part o
-shows_line NoInfo m dataset key part o cuts told = err_and (stored_scale m dataset key) None _ cuts told
-shows_line (Info fault) m dataset key part o cuts told = err_and (stored_scale m dataset key) (Some fault) _ cuts told
+shows_line (NoScale why) m dataset key part o cuts told = err_and (stored_scale m dataset key) why _ cuts told
 shows_line (Outside box) m dataset key part o cuts told =
     ok_and (stored_scale m dataset key) (λ s. CutsScale (Err (Outside box)) m dataset s part o.out_old o.out_new) (λ s. RefusesBox s part o)
     (λ s h. inl (h.1, subst (λ b. Tells o (outside_line part b)) h.0 told)) cuts
@@ -52,8 +51,7 @@ shows refusal status m dataset key part o cuts (inr told) = subst (λ s. CutoutS
 
 -- and leaves what the status says
 leaves_line : (refusal : Refusal) (dataset : List ℕ) (part : Box3) (o : Outlets) → Writes (Err refusal) o.out_old o.out_new → Tells o (line_of dataset part refusal) → Leaves (status_of refusal) o
-leaves_line NoInfo dataset part o kept told = kept
-leaves_line (Info fault) dataset part o kept told = kept
+leaves_line (NoScale why) dataset part o kept told = kept
 leaves_line (Outside box) dataset part o kept told = kept
 leaves_line (TooLarge bytes) dataset part o kept told = kept
 leaves_line (Damaged cell fault) dataset part o kept told = kept
@@ -62,8 +60,7 @@ leaves_line OutFault dataset part o kept told = told
 leaves_line NoMemory dataset part o kept told = (kept, told)
 
 unwritten : (refusal : Refusal) (old new : Option (List ℕ)) → refusal ≢ OutFault → Writes (Err refusal) old new → new ≡ old
-unwritten NoInfo old new other kept = kept
-unwritten (Info fault) old new other kept = kept
+unwritten (NoScale why) old new other kept = kept
 unwritten (Outside box) old new other kept = kept
 unwritten (TooLarge bytes) old new other kept = kept
 unwritten (Damaged cell fault) old new other kept = kept

@@ -1,5 +1,5 @@
 -- What a cutout answers over the objects that a store tells.
-use Rattle.std.specs.Prelude.{◌≡◌, ℕ, ◌-◌, ◌^◌, ◌<◌, ◌≤◌, min, List, Option, Some, None, Result, Ok, Err, ⊤, IsOkAnd, codes}
+use Rattle.std.specs.Prelude.{◌≡◌, Bool, true, false, ◌&&◌, is_none, if◌then◌else◌, ℕ, ◌-◌, ◌^◌, ◌<◌, ◌≤◌, min, List, Option, Some, None, Result, Ok, Err, ⊤, IsOkAnd, codes}
 use Rattle.std.specs.FinMap as fin
 use Rattle.vol_base.specs.declared.boxes.Box3.{Box3}
 use Rattle.vol_base.specs.Outside.{Objects}
@@ -9,26 +9,41 @@ use Rattle.vol_spec.specs.CellNames.{joined}
 use Rattle.vol_spec.specs.Cut.{cut, first_fault}
 use Rattle.vol_spec.specs.Grid.{Inside, whole}
 use Rattle.vol_spec.specs.Raw.{raw_len}
+use Rattle.vol_spec.specs.declared.encoding.Encoding.{Encoding}
+use Rattle.vol_spec.specs.declared.encoding.Encoding.TheVariants.{Raw, Seg}
 use Rattle.vol_spec.specs.declared.scale.Scale.{Scale}
 use Rattle.vol_tool.specs.Effects.{Gains, GainsFront}
+use Rattle.vol_tool.specs.declared.refusal.NoScale.{NoScale}
+use Rattle.vol_tool.specs.declared.refusal.NoScale.TheVariants.{Absent, Refused, NotBuilt}
 use Rattle.vol_tool.specs.declared.refusal.Refusal.{Refusal}
-use Rattle.vol_tool.specs.declared.refusal.Refusal.TheVariants.{NoInfo, Info, Outside, TooLarge, Damaged, StoreFault, OutFault, NoMemory}
+use Rattle.vol_tool.specs.declared.refusal.Refusal.TheVariants.{NoScale as WithoutScale, Outside, TooLarge, Damaged, StoreFault, OutFault, NoMemory}
 
 -- the object of a data set's info document
 abbrev pub info_name : List ℕ → List ℕ
 info_name dataset = joined dataset (codes "info")
 
--- the scale of a document, or its fault
-abbrev pub judged_info : Result Scale InfoFault → Result Scale (Option InfoFault)
-judged_info (Ok s) = Ok s
-judged_info (Err fault) = Err (Some fault)
+abbrev pub is_raw : Encoding → Bool
+is_raw Raw = true
+is_raw (Seg block) = false
 
-abbrev pub scale_from : Option (List ℕ) → List ℕ → Result Scale (Option InfoFault)
-scale_from None key = Err None
+-- whether chunks of a scale are read: where it is unsharded and raw
+abbrev pub is_served : Scale → Bool
+is_served s = is_raw s.encoding && is_none s.sharding
+
+abbrev pub served_only : Scale → Result Scale NoScale
+served_only s = if is_served s then Ok s else Err NotBuilt
+
+-- the scale of a document, if it is one that is read, or why there is none
+abbrev pub judged_info : Result Scale InfoFault → Result Scale NoScale
+judged_info (Ok s) = served_only s
+judged_info (Err fault) = Err (Refused fault)
+
+abbrev pub scale_from : Option (List ℕ) → List ℕ → Result Scale NoScale
+scale_from None key = Err Absent
 scale_from (Some bytes) key = judged_info (scale_in bytes key)
 
--- the scale of a key that the objects have under a data set; or that there is no info document, or its fault
-unfoldable pub stored_scale : Objects → List ℕ → List ℕ → Result Scale (Option InfoFault)
+-- the scale of a key that the objects have under a data set, or why there is none
+unfoldable pub stored_scale : Objects → List ℕ → List ℕ → Result Scale NoScale
 stored_scale objects dataset key = scale_from (fin.get objects (info_name dataset)) key
 
 -- a cutout has at most 2^30 bytes (this project's limit)
@@ -52,22 +67,19 @@ CutsScale (Err (Damaged cell fault)) m dataset s part old new = IsRequest s part
 CutsScale (Err OutFault) m dataset s part old new = IsSound m dataset s part × GainsFront old new (cut m dataset s part)
 CutsScale (Err StoreFault) m dataset s part old new = Unit {0}
 CutsScale (Err NoMemory) m dataset s part old new = Unit {0}
-CutsScale (Err NoInfo) m dataset s part old new = ⊥
-CutsScale (Err (Info fault)) m dataset s part old new = ⊥
+CutsScale (Err (WithoutScale why)) m dataset s part old new = ⊥
 
 -- what reading a scale answers
-abbrev pub ReadsScale : Result Scale Refusal → Result Scale (Option InfoFault) → Type 0
+abbrev pub ReadsScale : Result Scale Refusal → Result Scale NoScale → Type 0
 ReadsScale (Ok s) told = told ≡ Ok s
-ReadsScale (Err NoInfo) told = told ≡ Err None
-ReadsScale (Err (Info fault)) told = told ≡ Err (Some fault)
+ReadsScale (Err (WithoutScale why)) told = told ≡ Err why
 ReadsScale (Err StoreFault) told = Unit {0}
 ReadsScale (Err NoMemory) told = Unit {0}
 ReadsScale (Err other) told = ⊥
 
 -- what a cutout answers, and what the outlet gains
-abbrev pub Cuts : Result ⊤ Refusal → Result Scale (Option InfoFault) → Objects → List ℕ → Box3 → Option (List ℕ) → Option (List ℕ) → Type 0
-Cuts (Err NoInfo) told m dataset part old new = told ≡ Err None
-Cuts (Err (Info fault)) told m dataset part old new = told ≡ Err (Some fault)
+abbrev pub Cuts : Result ⊤ Refusal → Result Scale NoScale → Objects → List ℕ → Box3 → Option (List ℕ) → Option (List ℕ) → Type 0
+Cuts (Err (WithoutScale why)) told m dataset part old new = told ≡ Err why
 Cuts (Err StoreFault) told m dataset part old new = Unit {0}
 Cuts (Err NoMemory) told m dataset part old new = Unit {0}
 Cuts result told m dataset part old new = IsOkAnd told (λ s. CutsScale result m dataset s part old new)

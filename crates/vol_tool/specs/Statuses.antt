@@ -1,8 +1,9 @@
 -- The statuses of commands, and what stands after each of them.
-use Rattle.std.specs.Prelude.{◌≡◌, ◌⊎◌, ℕ, ◌-◌, ◌^◌, ◌<◌, min, List, Option, Some, None, IsOkAnd, IsErrAnd, IsSomeAnd, codes}
+use Rattle.std.specs.Prelude.{◌≡◌, ◌⊎◌, ℕ, ◌-◌, ◌^◌, ◌<◌, min, List, Option, IsOkAnd, IsErrAnd, IsSomeAnd, codes}
 use Rattle.vol_base.specs.declared.boxes.Box3.{Box3}
 use Rattle.vol_base.specs.Outside.{Objects}
-use Rattle.info_doc.specs.declared.fault.InfoFault.{InfoFault}
+use Rattle.vol_tool.specs.declared.refusal.NoScale.{NoScale}
+use Rattle.vol_tool.specs.declared.refusal.NoScale.TheVariants.{Absent, Refused, NotBuilt}
 use Rattle.info_doc.specs.Texts.{fault_text as info_fault_text}
 use Rattle.vol_spec.specs.Cut.{cut, first_fault}
 use Rattle.vol_spec.specs.Grid.{Inside, whole}
@@ -27,10 +28,11 @@ number_of OutFault = 7
 number_of NoMemory = 8
 number_of DoorFault = 9
 
--- why an info document gives no scale
-abbrev pub info_text : Option InfoFault → List ℕ
-info_text None = codes "absent"
-info_text (Some fault) = info_fault_text fault
+-- why a data set has no scale of a key that can be cut
+abbrev pub info_text : NoScale → List ℕ
+info_text Absent = codes "absent"
+info_text (Refused fault) = info_fault_text fault
+info_text NotBuilt = codes "not built"
 
 -- the outlets of a call: what was written before and after it, and the error outlet's counts of faults
 pub record Outlets : Type 0 where

@@ -2,11 +2,11 @@
 ghost use Rattle.std.specs.Prelude.{◌≡◌, ◌≤◌, ◌+◌, ◌<◌, ◌^◌, length, IfSome};
 ghost use Rattle.vol_base.specs.Causes.{Rose};
 ghost use Rattle.info_doc.specs.Info.{scale_in};
-ghost use Rattle.vol_tool.specs.Answers.{info_name, judged_info, ReadsScale, stored_scale};
+ghost use Rattle.vol_tool.specs.Answers.{info_name, is_served, judged_info, ReadsScale, served_only, stored_scale};
 
 use crate::buffers::make_buffer;
-use crate::refusal::Refusal;
-use info_doc::{InfoFault, Scale, scale_of};
+use crate::refusal::{NoScale, Refusal};
+use info_doc::{Encoding, InfoFault, Scale, scale_of};
 use std::alloc::Global;
 use vol_base::{Got, Name, Source};
 
@@ -22,6 +22,25 @@ fn find_info(dataset: &Name) -> Name
     dataset.join(&info).unwrap()
 }
 
+// Whether chunks of the scale are read: where it is unsharded and raw.
+fn is_served_scale(scale: &Scale) -> bool
+    ensures { result ≡ is_served scale.now }
+{
+    matches!(&scale.encoding, Encoding::Raw) && scale.sharding.is_none()
+}
+
+fn serve_scale(scale: Scale) -> Result<Scale, Refusal>
+    ensures served { ReadsScale result (served_only scale) }
+    ensures store { result ≡ Err Refusal.StoreFault → ⊥ }
+    ensures output { result ≡ Err Refusal.OutFault → ⊥ }
+{
+    if is_served_scale(&scale) {
+        Ok(scale)
+    } else {
+        Err(Refusal::NoScale(NoScale::NotBuilt))
+    }
+}
+
 fn judge_info(alloc: Global, info: &[u8], key: &Name) -> Result<Scale, Refusal>
     requires { length key.now ≤ 200 }
     ensures judged { ReadsScale result (judged_info (scale_in info.now key.now)) }
@@ -29,9 +48,9 @@ fn judge_info(alloc: Global, info: &[u8], key: &Name) -> Result<Scale, Refusal>
     ensures output { result ≡ Err Refusal.OutFault → ⊥ }
 {
     match scale_of(alloc, info, key) {
-        Ok(scale) => Ok(scale),
+        Ok(scale) => serve_scale(scale),
         Err(InfoFault::OutOfMemory) => Err(Refusal::NoMemory),
-        Err(fault) => Err(Refusal::Info(fault)),
+        Err(fault) => Err(Refusal::NoScale(NoScale::Refused(fault))),
     }
 }
 
@@ -55,7 +74,7 @@ fn read_scale_into<S: Source>(
 {
     match store.read_at(&find_info(dataset), 0, buffer) {
         Err(_) => Err(Refusal::StoreFault),
-        Ok(Got::Absent) => Err(Refusal::NoInfo),
+        Ok(Got::Absent) => Err(Refusal::NoScale(NoScale::Absent)),
         Ok(Got::Bytes(len)) => judge_info(alloc, &buffer[..len as usize], key),
     }
 }

@@ -3,13 +3,22 @@
 use info_doc::InfoFault;
 use vol_base::{Box3, Fault};
 
+/// Why a data set has no scale of a key that can be cut.
+#[derive(Clone, Copy, Debug, PartialEq, Eq)]
+pub(crate) enum NoScale {
+    /// There is no info document.
+    Absent,
+    /// The info document gives no scale.
+    Refused(InfoFault),
+    /// The scale is sharded or segmented, which isn't read yet.
+    NotBuilt,
+}
+
 /// Why a cutout was refused.
 #[derive(Clone, Copy, Debug, PartialEq, Eq)]
 pub(crate) enum Refusal {
-    /// There is no info document.
-    NoInfo,
-    /// The info document gives no scale.
-    Info(InfoFault),
+    /// There is no scale to cut.
+    NoScale(NoScale),
     /// The box isn't inside the scale, whose box this is.
     Outside(Box3),
     /// The box has more bytes than a cutout.

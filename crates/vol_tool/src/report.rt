@@ -1,5 +1,5 @@
 //! What a refusal says.
-ghost use Rattle.std.specs.Prelude.{◌≡◌, ◌≢◌, ◌≤◌, ◌⊎◌, Some, IfOk};
+ghost use Rattle.std.specs.Prelude.{◌≡◌, ◌≢◌, ◌≤◌, ◌⊎◌, IfOk};
 ghost use Rattle.vol_tool.specs.Effects.{Says};
 ghost use Rattle.vol_tool.specs.Lines.{info_line, memory_line};
 ghost use Rattle.vol_tool.specs.Refusals.{line_of, status_of};
@@ -7,7 +7,7 @@ ghost use Rattle.vol_tool.specs.Statuses.{info_text};
 
 use crate::lines::{write_damaged_line, write_info_line, write_large_line, write_outside_line};
 use crate::output::say;
-use crate::refusal::Refusal;
+use crate::refusal::{NoScale, Refusal};
 use crate::status::Status;
 use info_doc::InfoFault;
 use std::alloc::{AllocError, Global};
@@ -17,7 +17,7 @@ fn find_status(refusal: &Refusal) -> Status
     ensures { result ≡ status_of refusal.now }
 {
     match refusal {
-        Refusal::NoInfo | Refusal::Info(_) => Status::InfoRefused,
+        Refusal::NoScale(_) => Status::InfoRefused,
         Refusal::Outside(_) | Refusal::TooLarge(_) => Status::RequestRefused,
         Refusal::Damaged { .. } => Status::Damaged,
         Refusal::StoreFault => Status::StoreFault,
@@ -28,7 +28,7 @@ fn find_status(refusal: &Refusal) -> Status
 
 // Why the info document was refused.
 fn write_info_fault(alloc: Global, dataset: &Name, fault: &InfoFault) -> Result<Vec<u8>, AllocError>
-    ensures { IfOk result (λ line. line.items ≡ info_line dataset.now (info_text (Some fault.now))) }
+    ensures { IfOk result (λ line. line.items ≡ info_line dataset.now (info_text (NoScale.Refused fault.now))) }
 {
     let text = fault.to_string(alloc)?;
     write_info_line(alloc, dataset, &text)
@@ -43,8 +43,9 @@ fn write_line(
     ensures { IfOk result (λ line. line.items ≡ line_of dataset.now part.now refusal.now) }
 {
     match refusal {
-        Refusal::NoInfo => write_info_line(alloc, dataset, "absent"),
-        Refusal::Info(fault) => write_info_fault(alloc, dataset, fault),
+        Refusal::NoScale(NoScale::Absent) => write_info_line(alloc, dataset, "absent"),
+        Refusal::NoScale(NoScale::Refused(fault)) => write_info_fault(alloc, dataset, fault),
+        Refusal::NoScale(NoScale::NotBuilt) => write_info_line(alloc, dataset, "not built"),
         Refusal::Outside(whole) => Ok(write_outside_line(alloc, part, whole)?.into_bytes()),
         Refusal::TooLarge(bytes) => Ok(write_large_line(alloc, *bytes)?.into_bytes()),
         Refusal::Damaged { cell, fault } => {

@@ -113,7 +113,7 @@ const REFUSALS: [([&str; 2], &[(&str, &[u8])], &str, u8, &str); 16] = [
         &[("d/info", b"{\"type\":\"segmentation\"}")],
         "cutout d s [0:1,0:1,0:1]",
         2,
-        "info of d: not built\n",
+        "info of d: data_type missing\n",
     ),
     (
         UNTOLD,
@@ -127,7 +127,7 @@ const REFUSALS: [([&str; 2], &[(&str, &[u8])], &str, u8, &str); 16] = [
         &[],
         "cutout d t [0:1,0:1,0:1]",
         2,
-        "info of d: not built\n",
+        "info of d: scale absent\n",
     ),
     (
         PLANE,
