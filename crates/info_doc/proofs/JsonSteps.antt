@@ -1,6 +1,6 @@
 -- Arrays of values beside the arrays that they stand for.
-use Rattle.std.proofs.Common.{◌≡◌, Bool, true, false, cond, List, [], ◌∷◌, map, length, Option, Some, None, option_map, Bor, refl, sym, ap, ◌∙◌}
-use Rattle.std.specs.List.{find}
+use Rattle.std.proofs.Common.{◌≡◌, Bool, ◌||◌, true, false, cond, List, [], ◌∷◌, map, length, Option, Some, None, option_map, Bor, refl, sym, ap, ◌∙◌}
+use Rattle.std.specs.List.{find, list_any}
 use Rattle.serde_json.proofs.Views.{view_of_ref}
 use Rattle.serde_json.specs.Data.{Data}
 use Rattle.serde_json.specs.View.{view, items_view}
@@ -33,3 +33,7 @@ find-map test (v ∷ vs) = find-map_at (test (view v)) v _ _ (sym (find-map test
 -- what is found among values is found among the data
 pub find-view : (test : Data → Bool) (vs : List Value) (found : Option (Bor Value)) → option_map (λ v. v.now) found ≡ find (λ v. test (view v)) vs → option_map (λ v. view v.now) found ≡ find test (map view vs)
 find-view test vs found e = view_of_ref found ∙ ap (option_map view) e ∙ sym (find-map test vs)
+
+pub list_any-map : (test : Data → Bool) (vs : List Value) → list_any test (map view vs) ≡ list_any (λ v. test (view v)) vs
+list_any-map test [] = refl
+list_any-map test (v ∷ vs) = ap (λ b. test (view v) || b) (list_any-map test vs)

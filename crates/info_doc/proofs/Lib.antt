@@ -1,6 +1,8 @@
-pub mod SameScale
 mod JsonSteps
-mod TreeSteps
-mod Saturated
 mod Judging
-mod MembersFit
+mod Parts
+mod Saturated
+mod Reading
+pub mod SameScale
+pub mod SameSharding
+mod TreeSteps

@@ -1,5 +1,7 @@
 -- Products that stand still at 2^64 - 1.
-use Rattle.std.proofs.Common.{◌≡◌, ◌⊎◌, ℕ, ◌*◌, ◌<◌, ◌≤◌, min, zero, suc, true, false, nat_lt, inl, inr, arith, refl}
+use Rattle.std.proofs.Common.{◌≡◌, ◌⊎◌, ℕ, ◌+◌, ◌-◌, ◌*◌, ◌/◌, ◌<◌, ◌≤◌, min, zero, suc, true, false, nat_lt, inl, inr, arith, refl}
+use Rattle.std.proofs.Math.Nat.{div-le_of_le-mul}
+use Rattle.std.proofs.lemmas.Nat.{le-div}
 use Rattle.std.proofs.lemmas.Bool.Decides.{nat_tests}
 
 either : (a m : ℕ) → (a ≤ m) ⊎ (m < a)
@@ -21,3 +23,14 @@ saturated a b c d e m = rw (min-mul-min (a * b) c m, min-mul-min (a * b * c) d m
 
 pub passes_min : (limit n m : ℕ) → limit < m → nat_lt limit (min n m) ≡ nat_lt limit n
 passes_min limit n m h = grind (arith, nat_tests)
+
+cells_below : (s c : ℕ) → suc s + suc c - 1 ≤ suc c * suc s
+cells_below s c = omega arith
+
+cells_at : (s c : ℕ) → (1 ≤ (suc s + suc c - 1) / suc c) × ((suc s + suc c - 1) / suc c ≤ suc s)
+cells_at s c = (le-div 1 (suc s + suc c - 1) (suc c) (omega arith) (omega arith), div-le_of_le-mul (suc c) (cells_below s c))
+
+pub cells_fit : (size chunk : ℕ) → 1 ≤ size → 1 ≤ chunk → (1 ≤ (size + chunk - 1) / chunk) × ((size + chunk - 1) / chunk ≤ size)
+cells_fit zero chunk a b = absurd (omega arith)
+cells_fit (suc s) zero a b = absurd (omega arith)
+cells_fit (suc s) (suc c) a b = cells_at s c

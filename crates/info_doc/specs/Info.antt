@@ -1,69 +1,107 @@
 -- The scale of an info document, or its first fault.
-use Rattle.std.specs.Prelude.{◌≡◌, ℕ, ◌^◌, ◌≤◌, nat_lt, pos, codes, List, ◌∷◌, length, Option, Some, None, unwrap_or, Result, Err, if◌then◌else◌}
-use Rattle.std.proofs.Common.{lit≤}
-use Rattle.vol_base.specs.Boxes.{on_axes}
+use Rattle.std.specs.Prelude.{◌≡◌, ℕ, ◌^◌, nat_lt, codes, Bool, true, false, List, [], ◌∷◌, length, Option, Some, None, unwrap_or, Result, Ok, Err, if◌then◌else◌, refl}
 use Rattle.serde_json.specs.Data.{Data, null}
 use Rattle.serde_json.specs.Find.{get}
 use Rattle.vol_spec.specs.declared.scale.Scale.{Scale}
-use Rattle.vol_spec.specs.declared.encoding.Encoding.TheVariants.{Raw}
+use Rattle.vol_spec.specs.declared.sharding.Sharding.{Sharding}
 use Rattle.info_doc.specs.declared.fault.InfoFault.{InfoFault}
 use Rattle.info_doc.specs.declared.fault.InfoFault.TheVariants.{TooLong, NotJson}
+use Rattle.info_doc.specs.declared.fault.Item.TheVariants as items
 use Rattle.info_doc.specs.Faults.{first, unless}
 use Rattle.info_doc.specs.Json.{tree}
-use Rattle.info_doc.specs.Steps.{volume_fault, scales_in, scale_of_key, key_fault, size_fault, chunk_fault, bytes_fault}
-use Rattle.info_doc.specs.Members.{size_in, chunk_sizes_in, scale_steps}
-use Rattle.info_doc.specs.Limits.{AreClear, all_clear, sizes_fit, key_fits, bytes_fit, chunk_fits, no_offsets, one_byte, raw_apart}
+use Rattle.info_doc.specs.Steps.{list_fault, list_in, scale_of_key, key_fault, is_sharded, only_if, number_in, hash_in}
+use Rattle.info_doc.specs.Groups.{volume_fault, volume_in, shape_fault, shape_in, coding_fault, encoding_in, part, parts_fault, limit_fault}
+use Rattle.info_doc.specs.Fits as fits
 
--- the scale of these members, within its limits
-unfoldable pub scale_with : (key : List ℕ) (scale : Data) → length key ≤ 200 → AreClear (scale_steps scale) → Scale
-scale_with key scale short clear =
-    let size : size_fault (get (codes "size") scale) ≡ None = clear.0 in
-    let chunk : chunk_fault (get (codes "chunk_sizes") scale) ≡ None = clear.1.1.0 in
-    let bytes : bytes_fault 1 1 (size_in scale) (chunk_sizes_in scale) ≡ None = clear.1.1.1.1.1.1.0 in
-    record {
-      key = key;
-      width = 1;
-      channels = 1;
-      size = size_in scale;
-      offset = on_axes (λ _. pos 0);
-      chunk = chunk_sizes_in scale;
-      encoding = Raw;
-      sharding = None;
-      key_ok = short;
-      width_ok = one_byte;
-      some_channels = lit≤ tt;
-      channels_ok = lit≤ tt;
-      size_ok = sizes_fit _ size;
-      offset_ok = no_offsets;
-      chunk_ok = chunk_fits _ chunk;
-      first_ok = bytes_fit 1 1 (size_in scale) (chunk_sizes_in scale) bytes;
-      wide_ok = λ block e. absurd (raw_apart block e);
-      block_ok = λ block e. absurd (raw_apart block e);
-      padded_ok = lit≤ tt;
-      codes_ok = λ _ e. cc;
-    }
+-- the sharding of an object without a fault
+unfoldable pub parts_in : (sharding : Option Data) → parts_fault sharding ≡ None → Sharding
+parts_in sharding none = record {
+  preshift = number_in (part (codes "preshift_bits") sharding);
+  hash = hash_in (part (codes "hash") sharding);
+  minishard_bits = number_in (part (codes "minishard_bits") sharding);
+  shard_bits = number_in (part (codes "shard_bits") sharding);
+  preshift_ok = fits.preshift_fits sharding none;
+  minishard_ok = fits.minishard_fits sharding none;
+  bits_ok = fits.shard_fits sharding none;
+}
 
--- the first fault of a scale's steps, or the scale
-unfoldable pub judged_scale : (key : List ℕ) (scale : Data) → length key ≤ 200 → Result Scale InfoFault
-judged_scale key scale short = unless (first (scale_steps scale)) (λ none. scale_with key scale short (all_clear (scale_steps scale) none))
+-- a value where a condition holds, whose step has no fault there
+abbrev pub optional : {A : Type 0} (condition : Bool) (fault : Option InfoFault) → (fault ≡ None → A) → only_if condition fault ≡ None → Option A
+optional true fault value none = Some (value none)
+optional false fault value none = None
 
--- the scale that has the key
+pub where_some : {A : Type 0} (condition : Bool) (fault : Option InfoFault) (value : fault ≡ None → A) (none : only_if condition fault ≡ None) (a : A) → optional condition fault value none ≡ Some a → condition ≡ true
+where_some true fault value none a is = refl
+where_some false fault value none a is = cc
+
+abbrev pub sharding_in : (sharding : Option Data) → only_if (is_sharded sharding) (parts_fault sharding) ≡ None → Option Sharding
+sharding_in sharding none = optional (is_sharded sharding) (parts_fault sharding) (parts_in sharding) none
+
+-- the first fault of a sharding, or the sharding where there is one
+unfoldable pub judged_parts : Option Data → Result Sharding InfoFault
+judged_parts sharding = unless (parts_fault sharding) (parts_in sharding)
+
+unfoldable pub judged_sharding : Option Data → Result (Option Sharding) InfoFault
+judged_sharding sharding = unless (only_if (is_sharded sharding) (parts_fault sharding)) (sharding_in sharding)
+
+-- the first scale that has the key
 abbrev pub found_in : List ℕ → Data → Option Data
-found_in key volume = scale_of_key key (scales_in (get (codes "scales") volume))
+found_in key volume = scale_of_key key (list_in (get (codes "scales") volume))
 
 abbrev pub scale_at : List ℕ → Data → Data
 scale_at key volume = unwrap_or (found_in key volume) null
 
--- all steps, in their order
+-- all steps of a volume and of the scale that has the key, in their order
 abbrev pub steps : List ℕ → Data → List (Option InfoFault)
-steps key volume = volume_fault volume ∷ key_fault (found_in key volume) ∷ scale_steps (scale_at key volume)
+steps key volume =
+    let scale = scale_at key volume in
+    let sharding = get (codes "sharding") scale in
+    volume_fault volume ∷
+    list_fault items.Scales (get (codes "scales") volume) ∷
+    key_fault (found_in key volume) ∷
+    shape_fault scale ∷
+    coding_fault (volume_in volume).width scale ∷
+    only_if (is_sharded sharding) (parts_fault sharding) ∷
+    limit_fault (volume_in volume) (shape_in scale) (encoding_in scale) (is_sharded sharding) ∷ []
 
-abbrev pub scale_from : (key : List ℕ) (volume : Data) → AreClear (steps key volume) → Scale
-scale_from key volume clear = scale_with key (scale_at key volume) (key_fits key (scales_in (get (codes "scales") volume)) clear.1.0) clear.1.1
+-- the scale of a volume without a fault
+unfoldable pub scale_from : (key : List ℕ) (volume : Data) → first (steps key volume) ≡ None → Scale
+scale_from key volume none =
+    let scale = scale_at key volume in
+    let sharding = get (codes "sharding") scale in
+    let clear = fits.all_clear (steps key volume) none in
+    let here : volume_fault volume ≡ None = clear.0 in
+    let found : key_fault (found_in key volume) ≡ None = clear.1.1.0 in
+    let shaped : shape_fault scale ≡ None = clear.1.1.1.0 in
+    let coded : coding_fault (volume_in volume).width scale ≡ None = clear.1.1.1.1.0 in
+    let sharded : only_if (is_sharded sharding) (parts_fault sharding) ≡ None = clear.1.1.1.1.1.0 in
+    let small : limit_fault (volume_in volume) (shape_in scale) (encoding_in scale) (is_sharded sharding) ≡ None = clear.1.1.1.1.1.1.0 in
+    record {
+      key = key;
+      width = (volume_in volume).width;
+      channels = (volume_in volume).channels;
+      size = (shape_in scale).size;
+      offset = (shape_in scale).offset;
+      chunk = (shape_in scale).chunk;
+      encoding = encoding_in scale;
+      sharding = sharding_in sharding sharded;
+      key_ok = fits.key_fits key (list_in (get (codes "scales") volume)) found;
+      width_ok = fits.volume_width volume here;
+      some_channels = (fits.volume_channels volume here).0;
+      channels_ok = (fits.volume_channels volume here).1;
+      size_ok = fits.shape_size scale shaped;
+      offset_ok = fits.shape_offset scale shaped;
+      chunk_ok = fits.shape_chunk scale shaped;
+      first_ok = fits.bytes_fit (volume_in volume) (shape_in scale) (encoding_in scale) (is_sharded sharding) small;
+      wide_ok = fits.wide_fits (volume_in volume).width scale coded;
+      block_ok = fits.blocks_fit (volume_in volume).width scale coded;
+      padded_ok = fits.padded_fits (volume_in volume) (shape_in scale) (encoding_in scale) (is_sharded sharding) small;
+      codes_ok = λ parts is. fits.codes_fit (volume_in volume) (shape_in scale) (encoding_in scale) (is_sharded sharding) small (where_some (is_sharded sharding) _ (parts_in sharding) sharded parts is);
+    }
 
 -- the first fault of the steps, or the scale
 unfoldable pub judged_volume : List ℕ → Data → Result Scale InfoFault
-judged_volume key volume = unless (first (steps key volume)) (λ none. scale_from key volume (all_clear (steps key volume) none))
+judged_volume key volume = unless (first (steps key volume)) (scale_from key volume)
 
 abbrev pub judged_tree : List ℕ → Option Data → Result Scale InfoFault
 judged_tree key None = Err NotJson

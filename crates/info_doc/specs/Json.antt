@@ -1,8 +1,8 @@
 -- Values of a JSON text as `serde_json` reads it, and members that may be absent.
-use Rattle.std.specs.Prelude.{ℕ, Bool, false, is_some, bytes_eq, List, [], ◌∷◌, Option, None, option_and_then, option_map, unwrap_or, if◌then◌else◌}
+use Rattle.std.specs.Prelude.{ℕ, ℤ, Bool, false, is_some, bytes_eq, List, [], ◌∷◌, Option, None, option_and_then, option_map, unwrap_or, if◌then◌else◌}
 use Rattle.std.specs.Str.{is_utf8}
 use Rattle.serde_json.specs.Data.{Data, Items, no_items, item}
-use Rattle.serde_json.specs.Find.{as_null, as_number, as_u64, as_str, as_array}
+use Rattle.serde_json.specs.Find.{as_null, as_number, as_u64, as_i64, as_str, as_array}
 use Rattle.serde_json.specs.Read.{read}
 
 -- the value of a text: none where the bytes are no UTF-8 or no JSON
@@ -29,9 +29,12 @@ three f _ = None
 abbrev pub triple : {A : Type 0} → (Data → Option A) → Data → Option (List A)
 triple f d = option_and_then (three f) (elements d)
 
--- a text, compared exactly
-abbrev pub is_text : List ℕ → Option Data → Bool
-is_text text member = unwrap_or (option_map (λ s. bytes_eq s text) (option_and_then as_str member)) false
+-- the same for a signed number
+abbrev pub signed : Data → Option ℤ
+signed d = option_and_then as_i64 (as_number d)
+
+abbrev pub text : Option Data → Option (List ℕ)
+text member = option_and_then as_str member
 
 abbrev pub is_null : Option Data → Bool
 is_null member = is_some (option_and_then as_null member)

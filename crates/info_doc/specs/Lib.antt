@@ -2,6 +2,6 @@ pub mod Faults
 pub mod Texts
 pub mod Json
 pub mod Steps
-pub mod Limits
-pub mod Members
+pub mod Groups
+pub mod Fits
 pub mod Info

@@ -1,45 +1,52 @@
--- The steps of the judgement of an info document (precomputed volume format, info metadata): what each reads, and its fault.
-use Rattle.std.specs.Prelude.{ℕ, ◌^◌, ◌&&◌, ◌==◌, nat_lt, nat_le, not, Bool, false, is_some, is_none, codes, List, [], ◌∷◌, length, Option, Some, None, option_and_then, option_map, unwrap_or, if◌then◌else◌}
-use Rattle.std.specs.List.{find, list_any}
+-- The steps of the judgement of an info document (precomputed volume format, info metadata; sharded format, sharding
+-- specification; this project's profile): what each reads, and its fault.
+use Rattle.std.specs.Prelude.{ℕ, ◌+◌, ◌^◌, ◌&&◌, ◌||◌, ◌==◌, nat_lt, nat_le, not, Bool, ℤ, pos, nat_abs, is_some, is_none, codes, bytes_eq, List, [], ◌∷◌, length, slice_get, Option, Some, None, option_and_then, unwrap_or, if◌then◌else◌}
+use Rattle.std.specs.List.{find, list_all, list_any}
+use Rattle.std.specs.Str.{str_eq_ignore_ascii_case}
+use Rattle.vol_base.specs.Boxes.{on_axes}
+use Rattle.vol_base.specs.Grids.{pairs}
 use Rattle.serde_json.specs.Data.{Data}
-use Rattle.serde_json.specs.Find.{get, as_number}
+use Rattle.serde_json.specs.Find.{get, as_number, as_object}
+use Rattle.vol_spec.specs.Limits.{first_bytes, cell_counts, padded_of}
+use Rattle.vol_spec.specs.declared.encoding.Encoding.{Encoding}
+use Rattle.vol_spec.specs.declared.encoding.Encoding.TheVariants.{Raw, Seg}
+use Rattle.vol_spec.specs.declared.sharding.HashKind.{HashKind}
+use Rattle.vol_spec.specs.declared.sharding.HashKind.TheVariants.{Identity, Murmur}
 use Rattle.info_doc.specs.declared.fault.InfoFault.{InfoFault}
-use Rattle.info_doc.specs.declared.fault.InfoFault.TheVariants.{NotBuilt}
-use Rattle.info_doc.specs.Faults.{fault_by}
-use Rattle.info_doc.specs.Json.{whole, elements, triple, is_text, is_null}
-use Rattle.vol_spec.specs.Limits.{first_bytes}
+use Rattle.info_doc.specs.declared.fault.InfoFault.TheVariants.{Member, ScaleAbsent, Unsupported, Limit}
+use Rattle.info_doc.specs.declared.fault.What.TheVariants.{Missing, WrongKind, BadValue}
+use Rattle.info_doc.specs.declared.fault.Item.{Item}
+use Rattle.info_doc.specs.declared.fault.Item.TheVariants as items
+use Rattle.info_doc.specs.Faults.{fault_by, first}
+use Rattle.info_doc.specs.Json.{whole, signed, text, elements, triple, is_null}
 
--- ---- the volume
+-- ---- members that have to be there
 
--- the elements of `scales`
-abbrev pub scales_in : Option Data → List Data
-scales_in member = unwrap_or (option_and_then elements member) []
+-- a text
+unfoldable pub text_fault : Item → Option Data → Option InfoFault
+text_fault item member = fault_by ((is_none member, Member item Missing) ∷ (is_none (text member), Member item WrongKind) ∷ [])
 
--- an image of one channel of bytes, with scales
-unfoldable pub volume_fault : Data → Option InfoFault
-volume_fault volume = fault_by (
-    (is_some (get (codes "@type") volume), NotBuilt) ∷
-    (not (is_text (codes "image") (get (codes "type") volume)), NotBuilt) ∷
-    (not (is_text (codes "uint8") (get (codes "data_type") volume)), NotBuilt) ∷
-    (not (unwrap_or (option_map (λ n. n == 1) (option_and_then whole (get (codes "num_channels") volume))) false), NotBuilt) ∷
-    (is_none (option_and_then elements (get (codes "scales") volume)), NotBuilt) ∷ [])
+abbrev pub text_in : Option Data → List ℕ
+text_in member = unwrap_or (text member) []
 
--- ---- its scales
+-- a whole number
+unfoldable pub number_fault : Item → Option Data → Option InfoFault
+number_fault item member = fault_by ((is_none member, Member item Missing) ∷ (is_none (option_and_then whole member), Member item WrongKind) ∷ [])
 
--- an object whose key is this text
-abbrev pub has_key : List ℕ → Data → Bool
-has_key key scale = is_text key (get (codes "key") scale)
+abbrev pub number_in : Option Data → ℕ
+number_in member = unwrap_or (option_and_then whole member) 0
 
--- the first scale with the key; a key of more than 200 bytes names none (this project's profile)
-unfoldable pub scale_of_key : List ℕ → List Data → Option Data
-scale_of_key key scales = if nat_le (length key) 200 then find (has_key key) scales else None
+-- an array
+unfoldable pub list_fault : Item → Option Data → Option InfoFault
+list_fault item member = fault_by ((is_none member, Member item Missing) ∷ (is_none (option_and_then elements member), Member item WrongKind) ∷ [])
 
-unfoldable pub key_fault : Option Data → Option InfoFault
-key_fault scale = fault_by ((is_none scale, NotBuilt) ∷ [])
+abbrev pub list_in : Option Data → List Data
+list_in member = unwrap_or (option_and_then elements member) []
 
--- ---- a scale
+-- three whole numbers
+unfoldable pub triple_fault : Item → Option Data → Option InfoFault
+triple_fault item member = fault_by ((is_none member, Member item Missing) ∷ (is_none (option_and_then (triple whole) member), Member item WrongKind) ∷ [])
 
--- three numbers of a member
 abbrev pub sizes_in : Option Data → List ℕ
 sizes_in member = unwrap_or (option_and_then (triple whole) member) []
 
@@ -50,40 +57,191 @@ passes limit numbers = list_any (λ n. nat_lt limit n) numbers
 abbrev pub has_zero : List ℕ → Bool
 has_zero numbers = list_any (λ n. n == 0) numbers
 
--- three whole numbers from 1 to 2^40
-unfoldable pub size_fault : Option Data → Option InfoFault
-size_fault member = fault_by (
-    (is_none (option_and_then (triple whole) member), NotBuilt) ∷
-    (has_zero (sizes_in member), NotBuilt) ∷
-    (passes (2 ^ 40) (sizes_in member), NotBuilt) ∷ [])
+-- three whole numbers from 1 to a limit
+unfoldable pub sizes_fault : Item → ℕ → Option Data → Option InfoFault
+sizes_fault item limit member = first (
+    triple_fault item member ∷
+    fault_by ((has_zero (sizes_in member), Member item BadValue) ∷ (passes limit (sizes_in member), Limit item) ∷ []) ∷ [])
 
--- no offset
+-- ---- the volume
+
+unfoldable pub root_fault : Data → Option InfoFault
+root_fault volume = fault_by ((is_none (as_object volume), Member items.Root WrongKind) ∷ [])
+
+-- `@type`, which may be absent
+unfoldable pub at_type_fault : Option Data → Option InfoFault
+at_type_fault member = fault_by (
+    (is_some member && is_none (text member), Member items.AtType WrongKind) ∷
+    (is_some member && not (bytes_eq (text_in member) (codes "neuroglancer_multiscale_volume")), Member items.AtType BadValue) ∷ [])
+
+abbrev pub is_segmentation : Option Data → Bool
+is_segmentation member = bytes_eq (text_in member) (codes "segmentation")
+
+-- `type`
+unfoldable pub type_fault : Option Data → Option InfoFault
+type_fault member = first (
+    text_fault items.VolumeType member ∷
+    fault_by ((not (bytes_eq (text_in member) (codes "image") || is_segmentation member), Member items.VolumeType BadValue) ∷ []) ∷ [])
+
+-- the same text but for the case of ASCII letters
+abbrev pub is_like : List ℕ → List ℕ → Bool
+is_like wanted found = str_eq_ignore_ascii_case found wanted
+
+-- types of the format that aren't read
+abbrev pub is_unread_type : List ℕ → Bool
+is_unread_type name = is_like (codes "float32") name || is_like (codes "int8") name || is_like (codes "int16") name || is_like (codes "int32") name || is_like (codes "int64") name
+
+-- the bytes of a value of a type
+unfoldable pub width_of : List ℕ → Option ℕ
+width_of name = if is_like (codes "uint8") name then Some 1
+    else (if is_like (codes "uint16") name then Some 2
+    else (if is_like (codes "uint32") name then Some 4
+    else (if is_like (codes "uint64") name then Some 8 else None)))
+
+abbrev pub width_in : Option Data → ℕ
+width_in member = unwrap_or (width_of (text_in member)) 0
+
+-- `data_type`
+unfoldable pub data_type_fault : Option Data → Option InfoFault
+data_type_fault member = first (
+    text_fault items.DataType member ∷
+    fault_by ((is_unread_type (text_in member), Unsupported items.DataType) ∷ (is_none (width_of (text_in member)), Member items.DataType BadValue) ∷ []) ∷ [])
+
+-- `num_channels`: 1 to 1,024, and 1 in a segmentation
+unfoldable pub channels_fault : Bool → Option Data → Option InfoFault
+channels_fault segmentation member = first (
+    number_fault items.NumChannels member ∷
+    fault_by (
+    (number_in member == 0, Member items.NumChannels BadValue) ∷
+    (segmentation && not (number_in member == 1), Member items.NumChannels BadValue) ∷
+    (nat_lt 1024 (number_in member), Limit items.NumChannels) ∷ []) ∷ [])
+
+-- ---- its scales
+
+-- an object whose key is this text
+abbrev pub has_key : List ℕ → Data → Bool
+has_key key scale = is_some (text (get (codes "key") scale)) && bytes_eq (text_in (get (codes "key") scale)) key
+
+-- the first scale with the key; a key of more than 200 bytes names none
+unfoldable pub scale_of_key : List ℕ → List Data → Option Data
+scale_of_key key scales = if nat_le (length key) 200 then find (has_key key) scales else None
+
+unfoldable pub key_fault : Option Data → Option InfoFault
+key_fault scale = fault_by ((is_none scale, ScaleAbsent) ∷ [])
+
+-- ---- the shape of a scale
+
+abbrev pub offsets_in : Option Data → List ℤ
+offsets_in member = unwrap_or (option_and_then (triple signed) member) (on_axes (λ _. pos 0))
+
+-- some number passes a limit either way
+abbrev pub passes_either_way : ℕ → List ℤ → Bool
+passes_either_way limit numbers = list_any (λ n. nat_lt limit (nat_abs n)) numbers
+
+-- `voxel_offset`, which may be absent: three signed numbers, each at most 2^40 either way
 unfoldable pub offset_fault : Option Data → Option InfoFault
-offset_fault member = fault_by ((is_some member, NotBuilt) ∷ [])
+offset_fault member = fault_by (
+    (is_some member && is_none (option_and_then (triple signed) member), Member items.VoxelOffset WrongKind) ∷
+    (passes_either_way (2 ^ 40) (offsets_in member), Limit items.VoxelOffset) ∷ [])
 
--- the one element of an array
-abbrev pub only : List Data → Option Data
-only (d ∷ []) = Some d
-only _ = None
+-- the sizes of the first chunk size
+abbrev pub chunk_in : Option Data → List ℕ
+chunk_in member = sizes_in (slice_get (list_in member) 0)
 
--- one chunk size, and so the sizes of it
-abbrev pub chunk_in : Option Data → Option Data
-chunk_in member = option_and_then only (option_and_then elements member)
+-- `chunk_sizes`: an array with one element, which is three whole numbers from 1 to 2^40
+unfoldable pub chunks_fault : Option Data → Option InfoFault
+chunks_fault member = first (
+    list_fault items.ChunkSizes member ∷
+    fault_by (
+    (not (list_all (λ d. is_some (triple whole d)) (list_in member)), Member items.ChunkSizes WrongKind) ∷
+    (length (list_in member) == 0, Member items.ChunkSizes BadValue) ∷
+    (list_any (λ d. has_zero (sizes_in (Some d))) (list_in member), Member items.ChunkSizes BadValue) ∷
+    (list_any (λ d. passes (2 ^ 40) (sizes_in (Some d))) (list_in member), Limit items.ChunkSizes) ∷
+    (nat_lt 1 (length (list_in member)), Unsupported items.ChunkSizes) ∷ []) ∷ [])
 
-unfoldable pub chunk_fault : Option Data → Option InfoFault
-chunk_fault member = size_fault (chunk_in member)
-
--- three numbers
+-- `resolution`: three numbers
 unfoldable pub resolution_fault : Option Data → Option InfoFault
-resolution_fault member = fault_by ((is_none (option_and_then (triple as_number) member), NotBuilt) ∷ [])
+resolution_fault member = fault_by (
+    (is_none member, Member items.Resolution Missing) ∷
+    (is_none (option_and_then (triple as_number) member), Member items.Resolution WrongKind) ∷ [])
 
-unfoldable pub encoding_fault : Option Data → Option InfoFault
-encoding_fault member = fault_by ((not (is_text (codes "raw") member), NotBuilt) ∷ [])
+-- ---- its encoding
 
--- absent or null
-unfoldable pub sharding_fault : Option Data → Option InfoFault
-sharding_fault member = fault_by ((is_some member && not (is_null member), NotBuilt) ∷ [])
+abbrev pub is_seg : Option Data → Bool
+is_seg member = is_like (codes "compressed_segmentation") (text_in member)
+
+-- `encoding`; segmentation chunks have values of 4 or 8 bytes
+unfoldable pub encoding_fault : ℕ → Option Data → Option InfoFault
+encoding_fault width member = first (
+    text_fault items.Encoding member ∷
+    fault_by (
+    (not (is_like (codes "raw") (text_in member) || is_seg member), Unsupported items.Encoding) ∷
+    (is_seg member && not (width == 4 || width == 8), Member items.Encoding BadValue) ∷ []) ∷ [])
+
+-- a step that is passed over elsewhere
+abbrev pub only_if : Bool → Option InfoFault → Option InfoFault
+only_if condition fault = if condition then fault else None
+
+-- `compressed_segmentation_block_size`: three whole numbers from 1 to 2^24
+unfoldable pub block_fault : Option Data → Option InfoFault
+block_fault member = sizes_fault items.BlockSize (2 ^ 24) member
+
+-- ---- its sharding
+
+-- neither absent nor null
+abbrev pub is_sharded : Option Data → Bool
+is_sharded member = is_some member && not (is_null member)
+
+unfoldable pub object_fault : Option Data → Option InfoFault
+object_fault member = fault_by ((is_none (option_and_then as_object member), Member items.Sharding WrongKind) ∷ [])
+
+-- `@type`
+unfoldable pub sharding_type_fault : Option Data → Option InfoFault
+sharding_type_fault member = first (
+    text_fault items.ShardingType member ∷
+    fault_by ((not (bytes_eq (text_in member) (codes "neuroglancer_uint64_sharded_v1")), Member items.ShardingType BadValue) ∷ []) ∷ [])
+
+-- `preshift_bits`, to 64
+unfoldable pub preshift_fault : Option Data → Option InfoFault
+preshift_fault member = first (number_fault items.PreshiftBits member ∷ fault_by ((nat_lt 64 (number_in member), Member items.PreshiftBits BadValue) ∷ []) ∷ [])
+
+abbrev pub is_identity : Option Data → Bool
+is_identity member = bytes_eq (text_in member) (codes "identity")
+
+abbrev pub hash_in : Option Data → HashKind
+hash_in member = if is_identity member then Identity else Murmur
+
+-- `hash`
+unfoldable pub hash_fault : Option Data → Option InfoFault
+hash_fault member = first (
+    text_fault items.Hash member ∷
+    fault_by ((not (is_identity member || bytes_eq (text_in member) (codes "murmurhash3_x86_128")), Member items.Hash BadValue) ∷ []) ∷ [])
+
+-- `minishard_bits`, to 24
+unfoldable pub minishard_fault : Option Data → Option InfoFault
+minishard_fault member = first (number_fault items.MinishardBits member ∷ fault_by ((nat_lt 24 (number_in member), Limit items.MinishardBits) ∷ []) ∷ [])
+
+-- `shard_bits`, to 64 with the minishard bits
+unfoldable pub shard_fault : ℕ → Option Data → Option InfoFault
+shard_fault minishard member = first (number_fault items.ShardBits member ∷ fault_by ((nat_lt 64 (minishard + number_in member), Member items.ShardBits BadValue) ∷ []) ∷ [])
+
+-- `minishard_index_encoding` and `data_encoding`, which may be absent: only `raw` is read
+unfoldable pub inner_encoding_fault : Item → Option Data → Option InfoFault
+inner_encoding_fault item member = fault_by (
+    (is_some member && is_none (text member), Member item WrongKind) ∷
+    (is_some member && bytes_eq (text_in member) (codes "gzip"), Unsupported item) ∷
+    (is_some member && not (bytes_eq (text_in member) (codes "raw")), Member item BadValue) ∷ [])
+
+-- ---- its limits
 
 -- at most 2^27 bytes in the first cell
 unfoldable pub bytes_fault : ℕ → ℕ → List ℕ → List ℕ → Option InfoFault
-bytes_fault width channels size chunk = fault_by ((nat_lt (2 ^ 27) (first_bytes width channels size chunk), NotBuilt) ∷ [])
+bytes_fault width channels size chunk = fault_by ((nat_lt (2 ^ 27) (first_bytes width channels size chunk), Limit items.ChunkBytes) ∷ [])
+
+-- at most 64 bits in the Morton code of a cell
+unfoldable pub codes_fault : List ℕ → List ℕ → Option InfoFault
+codes_fault size chunk = fault_by ((nat_lt 64 (length (pairs (cell_counts size chunk))), Limit items.MortonBits) ∷ [])
+
+-- at most 2^24 padded voxels times channels in a segmentation
+unfoldable pub padded_fault : Encoding → ℕ → List ℕ → List ℕ → Option InfoFault
+padded_fault encoding channels size chunk = fault_by ((nat_lt (2 ^ 24) (padded_of encoding channels size chunk), Limit items.Padded) ∷ [])

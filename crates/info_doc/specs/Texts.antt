@@ -5,7 +5,7 @@ use Rattle.info_doc.specs.declared.fault.Item.TheVariants.{Root, AtType, VolumeT
 use Rattle.info_doc.specs.declared.fault.What.{What}
 use Rattle.info_doc.specs.declared.fault.What.TheVariants.{Missing, WrongKind, BadValue}
 use Rattle.info_doc.specs.declared.fault.InfoFault.{InfoFault}
-use Rattle.info_doc.specs.declared.fault.InfoFault.TheVariants.{TooLong, NotJson, Member, ScaleAbsent, Unsupported, Limit, NotBuilt, OutOfMemory}
+use Rattle.info_doc.specs.declared.fault.InfoFault.TheVariants.{TooLong, NotJson, Member, ScaleAbsent, Unsupported, Limit, OutOfMemory}
 
 -- the member's name, or the limit's
 abbrev pub item_text : Item → List ℕ
@@ -46,5 +46,4 @@ fault_text (Member item what) = item_text item ++ 32 ∷ what_text what
 fault_text ScaleAbsent = codes "scale absent"
 fault_text (Unsupported item) = codes "unsupported " ++ item_text item
 fault_text (Limit item) = codes "limit " ++ item_text item
-fault_text NotBuilt = codes "not built"
 fault_text OutOfMemory = codes "out of memory"

@@ -55,9 +55,38 @@ pub enum InfoFault {
     Unsupported { item: Item },
     /// A value past this project's limit.
     Limit { item: Item },
-    /// A volume that isn't read yet.
-    NotBuilt,
     OutOfMemory,
+}
+
+impl InfoFault {
+    ghost use Rattle.std.specs.Prelude.{◌≡◌};
+
+    pub(crate) fn missing(item: Item) -> InfoFault
+        ensures { result ≡ InfoFault.Member item What.Missing }
+    {
+        InfoFault::Member {
+            item,
+            what: What::Missing,
+        }
+    }
+
+    pub(crate) fn wrong_kind(item: Item) -> InfoFault
+        ensures { result ≡ InfoFault.Member item What.WrongKind }
+    {
+        InfoFault::Member {
+            item,
+            what: What::WrongKind,
+        }
+    }
+
+    pub(crate) fn bad_value(item: Item) -> InfoFault
+        ensures { result ≡ InfoFault.Member item What.BadValue }
+    {
+        InfoFault::Member {
+            item,
+            what: What::BadValue,
+        }
+    }
 }
 
 impl fmt::Display for Item {
@@ -124,7 +153,6 @@ impl fmt::Display for InfoFault {
             InfoFault::ScaleAbsent => f.write_str("scale absent"),
             InfoFault::Unsupported { item } => write!(f, "unsupported {item}"),
             InfoFault::Limit { item } => write!(f, "limit {item}"),
-            InfoFault::NotBuilt => f.write_str("not built"),
             InfoFault::OutOfMemory => f.write_str("out of memory"),
         }
     }

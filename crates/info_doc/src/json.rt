@@ -1,15 +1,11 @@
-//! Members of a JSON value.
-ghost use Rattle.std.specs.Prelude.{◌≡◌, ◌≤◌, length, unwrap_or, codes, map, is_some, Some, None, option_map, option_and_then};
-ghost use Rattle.std.specs.List.{find};
-ghost use Rattle.serde_json.specs.Data.{null};
-ghost use Rattle.serde_json.specs.Find.{as_number, get};
+//! Values of a JSON text.
+ghost use Rattle.std.specs.Prelude.{◌≡◌, map, is_some, option_map};
+ghost use Rattle.std.specs.Str.{str_eq_ignore_ascii_case};
+ghost use Rattle.serde_json.specs.Find.{as_number};
 ghost use Rattle.serde_json.specs.View.{view};
-ghost use Rattle.info_doc.specs.Json.{triple, whole, elements, is_text, is_null};
-ghost use Rattle.info_doc.specs.Steps.{has_key, scale_of_key, key_fault, scales_in, volume_fault};
-ghost use Rattle.info_doc.specs.Faults.{judged};
-ghost use Rattle.std.specs.Result.{result_map_both};
+ghost use Rattle.info_doc.specs.Json.{triple, whole, signed, elements};
+ghost use Rattle.info_doc.specs.Steps.{has_zero, passes, passes_either_way, is_like};
 
-use crate::fault::InfoFault;
 use serde_json::Value;
 
 /// The elements of an array. None where the value is anything else.
@@ -29,20 +25,14 @@ pub(crate) fn read_triple(value: &Value) -> Option<[u64; 3]>
     }
 }
 
-/// Whether the member is this text.
-pub(crate) fn is_member(member: Option<&Value>, text: &[u8]) -> bool
-    ensures { result ≡ is_text text.now (option_map (λ v. view v.now) member.entry) }
+/// Three signed whole numbers. None where the value is anything else.
+pub(crate) fn read_signed_triple(value: &Value) -> Option<[i64; 3]>
+    ensures { result ≡ triple signed (view value.now) }
 {
-    match member.and_then(Value::as_str) {
-        Some(found) => found.as_bytes() == text,
-        None => false,
+    match read_elements(value)? {
+        [x, y, z] => Some([x.as_i64()?, y.as_i64()?, z.as_i64()?]),
+        _ => None,
     }
-}
-
-fn find_key<'a>(scales: &'a [Value], key: &[u8]) -> Option<&'a Value>
-    ensures { option_map (λ v. view v.now) result ≡ find (has_key key.now) (map view scales.now) }
-{
-    scales.iter().find(|scale| is_member(scale.get("key"), key))
 }
 
 /// Whether the value is an array of three numbers.
@@ -55,35 +45,30 @@ pub(crate) fn is_three_numbers(value: &Value) -> bool
     }
 }
 
-/// The first scale with the key.
-#[tactic(auto, unfolding(crate::specs::Steps::scale_of_key, crate::specs::Steps::key_fault))]
-pub(crate) fn find_scale<'a>(scales: &'a [Value], key: &[u8]) -> Result<&'a Value, InfoFault>
-    requires { length key.now ≤ 200 }
-    ensures { let found = scale_of_key key.now (map view scales.now) in
-        result_map_both (λ v. view v.now) (λ e. e) result ≡ judged (key_fault found) (unwrap_or found null) }
+/// Whether the text is the wanted one but for the case of ASCII letters.
+pub(crate) fn is_like(wanted: &str, found: &str) -> bool
+    ensures { result ≡ is_like wanted.now found.now }
 {
-    find_key(scales, key).ok_or(InfoFault::NotBuilt)
+    found.eq_ignore_ascii_case(wanted)
 }
 
-/// The scales of an image of bytes.
-#[tactic(auto, unfolding(crate::specs::Steps::volume_fault))]
-pub(crate) fn read_scales(volume: &Value) -> Result<&[Value], InfoFault>
-    ensures { let d = view volume.now in
-        result_map_both (λ s. map view s.now) (λ e. e) result ≡ judged (volume_fault d) (scales_in (get (codes "scales") d)) }
+/// Whether some number passes the limit.
+pub(crate) fn passes(limit: u64, numbers: &[u64]) -> bool
+    ensures { result ≡ passes limit numbers.now }
 {
-    let is_one = match volume.get("num_channels").and_then(Value::as_u64) {
-        Some(channels) => channels == 1,
-        None => false,
-    };
-    if volume.get("@type").is_some()
-        || !is_member(volume.get("type"), b"image")
-        || !is_member(volume.get("data_type"), b"uint8")
-        || !is_one
-    {
-        return Err(InfoFault::NotBuilt);
-    }
-    volume
-        .get("scales")
-        .and_then(read_elements)
-        .ok_or(InfoFault::NotBuilt)
+    numbers.iter().any(|n| *n > limit)
+}
+
+/// Whether some number passes the limit, either way.
+pub(crate) fn passes_either_way(limit: u64, numbers: &[i64]) -> bool
+    ensures { result ≡ passes_either_way limit numbers.now }
+{
+    numbers.iter().any(|n| n.unsigned_abs() > limit)
+}
+
+/// Whether some number is 0.
+pub(crate) fn has_zero(numbers: &[u64]) -> bool
+    ensures { result ≡ has_zero numbers.now }
+{
+    numbers.iter().any(|n| *n == 0)
 }

@@ -1,12 +1,15 @@
 //! The judgement of a volume's info document.
 #![tactic(auto)]
 
+mod coding;
 mod fault;
 mod info;
 mod json;
-mod scale;
-#[cfg(test)]
-mod tests;
+mod limit;
+mod member;
+mod shape;
+mod shards;
+mod volume;
 
 pub use fault::{InfoFault, Item, What};
 pub use info::scale_of;

@@ -4,7 +4,7 @@ use Rattle.std.proofs.lemmas.Iterator.Search.{find_from_yields_List}
 use Rattle.serde_json.specs.View.{view}
 use Rattle.info_doc.proofs.JsonSteps.{find-view}
 use Rattle.info_doc.specs.Steps.{has_key}
-use Rattle.info_doc.proofs.json.find_key.Goals as goal
+use Rattle.info_doc.proofs.volume.find_key.Goals as goal
 
 pub returns : goal.returns
 returns c =
