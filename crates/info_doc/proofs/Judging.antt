@@ -1,5 +1,5 @@
 -- Steps without a fault, and what is made of them.
-use Rattle.std.proofs.Common.{◌≡◌, Bool, true, false, Option, Some, None, Result, Ok, Err, refl, ap}
+use Rattle.std.proofs.Common.{◌≡◌, Bool, true, false, Option, Some, None, Ok, Err, refl, ap}
 use Rattle.info_doc.specs.declared.fault.InfoFault.{InfoFault}
 use Rattle.info_doc.specs.Faults.{judged, unless}
 use Rattle.info_doc.specs.Steps.{only_if}

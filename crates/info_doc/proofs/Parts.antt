@@ -1,12 +1,12 @@
 -- The sharding of an object, by its steps.
-use Rattle.std.proofs.Common.{◌≡◌, Bool, true, false, codes, Option, Some, None, Result, Ok, Err, refl}
+use Rattle.std.proofs.Common.{◌≡◌, true, false, codes, Option, Some, None, Ok, Err, refl}
 use Rattle.serde_json.specs.Data.{Data}
 use Rattle.vol_spec.specs.declared.sharding.Sharding.{Sharding}
 use Rattle.info_doc.specs.declared.fault.Item.TheVariants as items
 use Rattle.info_doc.specs.declared.fault.InfoFault.{InfoFault}
 use Rattle.info_doc.specs.Steps.{object_fault, sharding_type_fault, preshift_fault, hash_fault, hash_in, minishard_fault, shard_fault, number_in, inner_encoding_fault, is_sharded}
 use Rattle.info_doc.specs.Groups.{part, parts_fault}
-use Rattle.info_doc.specs.Info.{parts_in, judged_parts, judged_sharding, sharding_in}
+use Rattle.info_doc.specs.Info.{parts_in, judged_parts, judged_sharding}
 use Rattle.info_doc.proofs.Judging.{unless_none, optional_some, optional_none, optional_err}
 use Rattle.info_doc.proofs.SameSharding.{same_sharding}
 

@@ -4,7 +4,6 @@ use Rattle.std.specs.List.{find, list_all, list_any}
 use Rattle.std.proofs.Common.{arith, inl, inr, subst}
 use Rattle.std.proofs.lemmas.Bool.Decides.{nat_tests}
 use Rattle.std.proofs.lemmas.Int.{ints}
-use Rattle.vol_base.specs.Boxes.{on_axes}
 use Rattle.vol_base.specs.Grids.{AreSizes, pairs}
 use Rattle.vol_spec.specs.Limits.{IsWidth, AreOffsets, IsSeg, AreBlocks, first_bytes, cell_counts, padded_of}
 use Rattle.vol_spec.specs.declared.encoding.Encoding.{Encoding}
@@ -16,10 +15,10 @@ use Rattle.info_doc.specs.declared.fault.Item.{Item}
 use Rattle.info_doc.specs.declared.fault.Item.TheVariants as items
 use Rattle.info_doc.specs.declared.volume.Volume.{Volume}
 use Rattle.info_doc.specs.declared.shape.Shape.{Shape}
-use Rattle.info_doc.specs.Faults.{fault_by, first}
+use Rattle.info_doc.specs.Faults.{first}
 use Rattle.info_doc.specs.Json.{whole, signed, three, triple, elements}
 use Rattle.info_doc.specs.Steps.{triple_fault, sizes_fault, sizes_in, has_zero, passes, width_of, width_in, data_type_fault, is_unread_type, is_like, text_fault, text_in, number_fault, channels_fault, number_in, has_key, scale_of_key, key_fault, offset_fault, offsets_in, passes_either_way, chunks_fault, chunk_in, list_in, list_fault, encoding_fault, is_seg, only_if, block_fault, preshift_fault, minishard_fault, shard_fault, bytes_fault, codes_fault, padded_fault}
-use Rattle.info_doc.specs.Groups.{volume_steps, volume_fault, volume_in, shape_steps, shape_fault, shape_in, coding_steps, coding_fault, encoding_in, part, parts_steps, parts_fault, limit_steps, limit_fault}
+use Rattle.info_doc.specs.Groups.{volume_steps, volume_fault, volume_in, shape_steps, shape_fault, shape_in, coding_fault, encoding_in, part, parts_steps, parts_fault, limit_steps, limit_fault}
 
 -- ---- rows and steps without a fault
 

@@ -1,5 +1,5 @@
 -- The scale of an info document, or its first fault.
-use Rattle.std.specs.Prelude.{◌≡◌, ℕ, ◌^◌, nat_lt, codes, Bool, true, false, List, [], ◌∷◌, length, Option, Some, None, unwrap_or, Result, Ok, Err, if◌then◌else◌, refl}
+use Rattle.std.specs.Prelude.{◌≡◌, ℕ, ◌^◌, nat_lt, codes, Bool, true, false, List, [], ◌∷◌, length, Option, Some, None, unwrap_or, Result, Err, if◌then◌else◌, refl}
 use Rattle.serde_json.specs.Data.{Data, null}
 use Rattle.serde_json.specs.Find.{get}
 use Rattle.vol_spec.specs.declared.scale.Scale.{Scale}

@@ -1,5 +1,5 @@
 -- Values of a JSON text as `serde_json` reads it, and members that may be absent.
-use Rattle.std.specs.Prelude.{ℕ, ℤ, Bool, false, is_some, bytes_eq, List, [], ◌∷◌, Option, None, option_and_then, option_map, unwrap_or, if◌then◌else◌}
+use Rattle.std.specs.Prelude.{ℕ, ℤ, Bool, is_some, List, [], ◌∷◌, Option, None, option_and_then, option_map, if◌then◌else◌}
 use Rattle.std.specs.Str.{is_utf8}
 use Rattle.serde_json.specs.Data.{Data, Items, no_items, item}
 use Rattle.serde_json.specs.Find.{as_null, as_number, as_u64, as_i64, as_str, as_array}

@@ -9,7 +9,6 @@ use Rattle.serde_json.specs.Data.{Data}
 use Rattle.serde_json.specs.Find.{get, as_number, as_object}
 use Rattle.vol_spec.specs.Limits.{first_bytes, cell_counts, padded_of}
 use Rattle.vol_spec.specs.declared.encoding.Encoding.{Encoding}
-use Rattle.vol_spec.specs.declared.encoding.Encoding.TheVariants.{Raw, Seg}
 use Rattle.vol_spec.specs.declared.sharding.HashKind.{HashKind}
 use Rattle.vol_spec.specs.declared.sharding.HashKind.TheVariants.{Identity, Murmur}
 use Rattle.info_doc.specs.declared.fault.InfoFault.{InfoFault}
