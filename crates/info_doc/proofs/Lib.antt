@@ -1,5 +1,6 @@
 mod JsonSteps
 mod Judging
+pub mod Laws
 mod Parts
 mod Saturated
 mod Reading
