@@ -9,7 +9,7 @@ use Rattle.info_doc.specs.declared.fault.InfoFault.TheVariants.{TooLong, NotJson
 use Rattle.info_doc.specs.declared.fault.Item.TheVariants as items
 use Rattle.info_doc.specs.Faults.{first, unless}
 use Rattle.info_doc.specs.Json.{tree}
-use Rattle.info_doc.specs.Steps.{list_fault, list_in, scale_of_key, key_fault, is_sharded, only_if, number_in, hash_in}
+use Rattle.info_doc.specs.Steps.{root_fault, at_type_fault, type_fault, is_segmentation, data_type_fault, channels_fault, list_fault, list_in, scale_of_key, key_fault, sizes_fault, offset_fault, chunks_fault, resolution_fault, encoding_fault, is_seg, only_if, block_fault, is_sharded, object_fault, sharding_type_fault, preshift_fault, hash_fault, hash_in, minishard_fault, shard_fault, number_in, inner_encoding_fault, bytes_fault, codes_fault, padded_fault}
 use Rattle.info_doc.specs.Groups.{volume_fault, volume_in, shape_fault, shape_in, coding_fault, encoding_in, part, parts_fault, limit_fault}
 use Rattle.info_doc.specs.Fits as fits
 
@@ -63,6 +63,40 @@ steps key volume =
     coding_fault (volume_in volume).width scale ∷
     only_if (is_sharded sharding) (parts_fault sharding) ∷
     limit_fault (volume_in volume) (shape_in scale) (encoding_in scale) (is_sharded sharding) ∷ []
+
+-- the same steps one by one, as the format lists them (proved: they have the same first fault)
+abbrev pub table : List ℕ → Data → List (Option InfoFault)
+table key volume =
+    let scale = scale_at key volume in
+    let values = volume_in volume in
+    let shape = shape_in scale in
+    let segmented = is_seg (get (codes "encoding") scale) in
+    let sharding = get (codes "sharding") scale in
+    let sharded = is_sharded sharding in
+    root_fault volume ∷
+    at_type_fault (get (codes "@type") volume) ∷
+    type_fault (get (codes "type") volume) ∷
+    data_type_fault (get (codes "data_type") volume) ∷
+    channels_fault (is_segmentation (get (codes "type") volume)) (get (codes "num_channels") volume) ∷
+    list_fault items.Scales (get (codes "scales") volume) ∷
+    key_fault (found_in key volume) ∷
+    sizes_fault items.Size (2 ^ 40) (get (codes "size") scale) ∷
+    offset_fault (get (codes "voxel_offset") scale) ∷
+    chunks_fault (get (codes "chunk_sizes") scale) ∷
+    resolution_fault (get (codes "resolution") scale) ∷
+    encoding_fault values.width (get (codes "encoding") scale) ∷
+    only_if segmented (block_fault (get (codes "compressed_segmentation_block_size") scale)) ∷
+    only_if sharded (object_fault sharding) ∷
+    only_if sharded (sharding_type_fault (part (codes "@type") sharding)) ∷
+    only_if sharded (preshift_fault (part (codes "preshift_bits") sharding)) ∷
+    only_if sharded (hash_fault (part (codes "hash") sharding)) ∷
+    only_if sharded (minishard_fault (part (codes "minishard_bits") sharding)) ∷
+    only_if sharded (shard_fault (number_in (part (codes "minishard_bits") sharding)) (part (codes "shard_bits") sharding)) ∷
+    only_if sharded (inner_encoding_fault items.MinishardIndexEncoding (part (codes "minishard_index_encoding") sharding)) ∷
+    only_if sharded (inner_encoding_fault items.DataEncoding (part (codes "data_encoding") sharding)) ∷
+    bytes_fault values.width values.channels shape.size shape.chunk ∷
+    only_if sharded (codes_fault shape.size shape.chunk) ∷
+    padded_fault (encoding_in scale) values.channels shape.size shape.chunk ∷ []
 
 -- the scale of a volume without a fault
 unfoldable pub scale_from : (key : List ℕ) (volume : Data) → first (steps key volume) ≡ None → Scale
