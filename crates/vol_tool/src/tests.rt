@@ -1,5 +1,7 @@
 //! Calls of the tool over stand-ins in memory. What each answers was worked out by hand.
 
+mod plain;
+
 use crate::streams::{NoDoor, NoFeed};
 use crate::top::run;
 use std::alloc::{AllocError, Global};
@@ -173,6 +175,9 @@ const REFUSALS: [([&str; 2], &[(&str, &[u8])], &str, u8, &str); 16] = [
     ),
 ];
 
+// All of two rows: call 0 of the store reads the document, calls 1 and 2 read the chunks.
+const WHOLE: &str = "cutout d s [0:5,0:1,0:1]";
+
 // Words, the calls that fail over two rows, the status, and the front of the refusal's line.
 const ERR_FAULTS: [(&str, Faults, u8, &str); 5] = [
     (
@@ -224,9 +229,6 @@ const ERR_FAULTS: [(&str, Faults, u8, &str); 5] = [
         "",
     ),
 ];
-
-// All of two rows: call 0 of the store reads the document, calls 1 and 2 read the chunks.
-const WHOLE: &str = "cutout d s [0:5,0:1,0:1]";
 
 // A document of one scale, `s`.
 fn info_of(alloc: Global, size: &str, chunk: &str) -> Result<String, AllocError> {
