@@ -89,7 +89,8 @@ fn make(dataset: &Path) -> io::Result<()> {
     let folder = dataset.join("s");
     fs::create_dir_all(&folder)?;
     let info = format!(
-        "{{\"type\":\"image\",\"data_type\":\"uint8\",\"num_channels\":1,\"scales\":[{{\"key\":\"s\",\
+        "{{\"@type\":\"neuroglancer_multiscale_volume\",\"type\":\"image\",\"data_type\":\"uint8\",\
+         \"num_channels\":1,\"scales\":[{{\"key\":\"s\",\
          \"size\":[{SIZE},{SIZE},{SIZE}],\"chunk_sizes\":[[{CHUNK},{CHUNK},{CHUNK}]],\
          \"resolution\":[8,8,40],\"encoding\":\"raw\"}}]}}\n"
     );

@@ -29,6 +29,7 @@ def chunks():
 
 def main():
     info = {
+        "@type": "neuroglancer_multiscale_volume",
         "type": "image",
         "data_type": "uint8",
         "num_channels": 1,
