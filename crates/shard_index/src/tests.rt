@@ -96,7 +96,10 @@ fn judges_entries(rt: HostRuntime) {
     // empty ones, wherever they point
     assert_eq!(rt; judge_entry(&entry(0, 0), 32, 32), Ok(0));
     assert_eq!(rt; judge_entry(&entry(u64::MAX, u64::MAX), 32, 32), Ok(0));
-    assert_eq!(rt; judge_entry(&entry(25, 1), 32, 82), Err(ShardFault::BadRange));
+    assert_eq!(rt;
+        judge_entry(&entry(25, 1), 32, 82),
+        Err(ShardFault::BadRange)
+    );
     let bad_length = Err(ShardFault::BadLength { bytes: 23 });
     assert_eq!(rt; judge_entry(&entry(2, 25), 32, 82), bad_length);
     let short = Err(ShardFault::ShortMinishard);
