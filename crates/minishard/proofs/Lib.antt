@@ -1,0 +1,5 @@
+pub mod ColumnSteps
+mod FewRows
+pub mod ReadBack
+pub mod Steps
+mod Vectors

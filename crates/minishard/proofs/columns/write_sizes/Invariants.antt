@@ -1,0 +1,6 @@
+use Rattle.std.proofs.Common.{◌≡◌, ◌*◌, take}
+use Rattle.minishard.specs.Written.{numbers, stored}
+use Rattle.minishard.proofs.columns.write_sizes.Given as goal
+
+abbrev pub invariant-loop-r : goal.invariant-loop-r
+invariant-loop-r l = take (8 * l.r) l.out ≡ numbers (take l.r (stored l.rows).sizes)

@@ -1,0 +1,3 @@
+pub mod EntrySteps
+mod KnownScales
+pub mod NameSteps
