@@ -1,5 +1,5 @@
 -- Whether a box lies inside a scale, as a test.
-use Rattle.std.proofs.Common.{◌≡◌, true, false, Bool, IsTrue, ℕ, ◌<◌, lit<, refl, arith, sym, ◌∙◌}
+use Rattle.std.proofs.Common.{◌≡◌, true, false, Bool, IsTrue, ℕ, ◌<◌, lit<, refl, arith, sym}
 use Rattle.std.specs.Prelude.{◌&&◌, ◌||◌, ◌==◌, ℤ, ◌≤ℤ◌, int_le}
 use Rattle.std.proofs.lemmas.Int.{ints}
 use Rattle.std.proofs.lemmas.Bool.Decides.{nat_tests}

@@ -1,5 +1,5 @@
 -- What readers of a feed do, one behind another.
-use Rattle.std.proofs.Common.{◌≡◌, ℕ, ◌+◌, ◌-◌, ◌<◌, ◌≤◌, List, length, take, drop, length-take, Option, Some, None, IfSome, Result, Ok, Err, IsTrue, true, false, nat_lt, refl, ap, subst, ◌++◌, ◌∙◌, sym, arith}
+use Rattle.std.proofs.Common.{◌≡◌, ℕ, ◌+◌, ◌<◌, ◌≤◌, List, length, take, drop, length-take, Option, Some, None, IfSome, Result, Ok, Err, IsTrue, true, false, nat_lt, refl, ap, subst, ◌++◌, ◌∙◌, sym, arith}
 use Rattle.std.specs.Option.{option_map}
 use Rattle.std.proofs.Math.Seq.{take-add, take-append-add}
 use Rattle.std.proofs.lemmas.List.{take-append-le}

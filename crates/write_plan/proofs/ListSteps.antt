@@ -1,11 +1,11 @@
 -- A list of writes that grows, and the rest of a stream.
-use Rattle.std.proofs.Common.{◌≡◌, ℕ, zero, suc, ◌+◌, ◌-◌, ◌*◌, ◌^◌, ◌<◌, ◌≤◌, List, [], ◌∷◌, ◌++◌, length, map, sum, Option, Some, None, IfSome, Result, Ok, Err, IsTrue, refl, ap, ◌∙◌, sym, subst, arith}
+use Rattle.std.proofs.Common.{◌≡◌, ℕ, suc, ◌+◌, ◌-◌, ◌<◌, List, [], ◌∷◌, ◌++◌, length, map, sum, Option, ap, ◌∙◌, subst, arith}
 use Rattle.std.specs.Option.{option_map}
 use Rattle.std.proofs.lemmas.List.{map-append}
 use Rattle.std.proofs.lemmas.Grind.{common_steps}
 use Rattle.vol_spec.specs.declared.scale.Scale.{Scale}
-use Rattle.write_plan.specs.Stream.{◌>>=◌, write_at, writes_at}
-use Rattle.write_plan.specs.Readers.{gives, Gave, Refused}
+use Rattle.write_plan.specs.Stream.{write_at, writes_at}
+use Rattle.write_plan.specs.Readers.{Gave, Refused}
 use Rattle.write_plan.specs.WriteLists.{BoxWrite, write_in, writes_in, total}
 use Rattle.write_plan.specs.declared.fault.PlanFault.{PlanFault}
 use Rattle.write_plan.specs.declared.writes.Write.{Write}

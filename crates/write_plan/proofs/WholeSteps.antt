@@ -1,5 +1,5 @@
 -- The whole of a stream.
-use Rattle.std.proofs.Common.{◌≡◌, ℕ, zero, suc, ◌+◌, ◌*◌, ◌<◌, ◌≤◌, ◌^◌, List, [], ◌∷◌, length, map, Option, Some, None, IfSome, Result, Ok, Err, IsTrue, true, false, Bool, nat_eq, refl, ap, ◌∙◌, sym, arith, inl, inr}
+use Rattle.std.proofs.Common.{◌≡◌, ℕ, zero, suc, ◌<◌, ◌≤◌, ◌^◌, List, [], length, Option, Some, None, IfSome, Ok, Err, false, refl, ap, sym, arith, inl, inr}
 use Rattle.std.specs.Prelude.{◌==◌, drop}
 use Rattle.std.specs.List.{All}
 use Rattle.std.specs.Option.{option_map}
@@ -9,7 +9,7 @@ use Rattle.std.proofs.lemmas.List.{length-map}
 use Rattle.std.proofs.lemmas.List.Elements.{All-weaker}
 use Rattle.vol_spec.specs.Limits.{IsWidth}
 use Rattle.vol_spec.specs.declared.scale.Scale.{Scale}
-use Rattle.write_plan.specs.Stream.{◌>>=◌, ended}
+use Rattle.write_plan.specs.Stream.{ended}
 use Rattle.write_plan.specs.WriteLists.{BoxWrite, AreWrites, IsWrite, IsWriteOf, writes_in, total}
 use Rattle.write_plan.specs.declared.fault.PlanFault.{PlanFault}
 use Rattle.write_plan.specs.declared.fault.PlanFault.TheVariants.{TrailingBytes}

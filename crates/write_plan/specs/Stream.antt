@@ -1,7 +1,7 @@
 -- The stream of box writes, this project's own format. Numbers have their lowest byte first. The bytes `PVW1`; a count of 32 bits; for
 -- each write three signed 64-bit begins and three 64-bit sizes, x first, and the values of its box in the order of a raw chunk. Nothing
 -- follows. The definition judges from the front, so the first fault is the answer. A write's fault has its number, counted from 0.
-use Rattle.std.specs.Prelude.{ℕ, zero, suc, ◌+◌, ◌*◌, ◌^◌, ◌==◌, ◌&&◌, ◌||◌, not, nat_lt, nat_eq, Bool, List, [], ◌∷◌, ◌++◌, length, take, drop, int_le, Result, Ok, Err, if◌then◌else◌}
+use Rattle.std.specs.Prelude.{ℕ, zero, suc, ◌+◌, ◌*◌, ◌^◌, ◌==◌, ◌&&◌, not, nat_lt, Bool, List, [], ◌∷◌, ◌++◌, length, take, drop, int_le, Result, Ok, Err, if◌then◌else◌}
 use Rattle.std.specs.Int.{w32, w64, from_le_bytes, cast_signed}
 use Rattle.std.specs.List.{list_all, list_any}
 use Rattle.std.specs.Str.{bytes_eq}

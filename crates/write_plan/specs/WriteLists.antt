@@ -1,8 +1,8 @@
 -- Writes of boxes.
-use Rattle.std.specs.Prelude.{◌≡◌, ℕ, ◌+◌, ◌*◌, ◌<◌, ◌≤◌, ◌^◌, List, length, map, sum}
+use Rattle.std.specs.Prelude.{◌≡◌, ℕ, ◌<◌, ◌≤◌, ◌^◌, List, length, map, sum}
 use Rattle.std.specs.List.{All}
 use Rattle.vol_base.specs.declared.boxes.Box3.{Box3}
-use Rattle.vol_base.specs.Boxes.{IsSome, voxels}
+use Rattle.vol_base.specs.Boxes.{IsSome}
 use Rattle.vol_spec.specs.Grid.{Inside}
 use Rattle.vol_spec.specs.Raw.{raw_len}
 use Rattle.vol_spec.specs.declared.scale.Scale.{Scale}

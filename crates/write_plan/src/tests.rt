@@ -23,8 +23,8 @@ fn key(rt: &impl Abort) -> Name
     name
 }
 
-// A raw scale of bytes that begins at 0; sizes of 0 count as 1.
-fn sample(key: Name, size: [u16; 3]) -> Scale
+// A raw scale of bytes; sizes of 0 count as 1.
+fn sample(key: Name, size: [u16; 3], offset: [i8; 3], chunk: [u8; 3]) -> Scale
     requires { length key ≤ 200 }
 {
     Scale {
@@ -36,8 +36,12 @@ fn sample(key: Name, size: [u16; 3]) -> Scale
             size[1].max(1) as u64,
             size[2].max(1) as u64,
         ],
-        offset: [0; 3],
-        chunk: [2, 2, 1],
+        offset: [offset[0] as i64, offset[1] as i64, offset[2] as i64],
+        chunk: [
+            chunk[0].max(1) as u64,
+            chunk[1].max(1) as u64,
+            chunk[2].max(1) as u64,
+        ],
         encoding: Encoding::Raw,
         sharding: None,
     }
@@ -68,7 +72,7 @@ fn find_fault(
 #[test]
 fn reads_a_stream_in_pieces(rt: HostRuntime) -> Result<(), Fail> {
     let alloc = rt.alloc();
-    let scale = sample(key(&rt), [2, 2, 1]);
+    let scale = sample(key(&rt), [2, 2, 1], [0, 0, 0], [2, 2, 1]);
     for piece in [1, 7, 64] {
         let bytes = Vec::from_slice(alloc, &STREAM)?;
         assert!(rt; piece > 0);
@@ -92,8 +96,8 @@ fn reads_a_stream_in_pieces(rt: HostRuntime) -> Result<(), Fail> {
 #[test]
 fn finds_each_fault(rt: HostRuntime) -> Result<(), Fail> {
     let alloc = rt.alloc();
-    let small = sample(key(&rt), [2, 2, 1]);
-    let large = sample(key(&rt), [2048, 2048, 512]);
+    let small = sample(key(&rt), [2, 2, 1], [0, 0, 0], [2, 2, 1]);
+    let large = sample(key(&rt), [2048, 2048, 512], [0, 0, 0], [2, 2, 1]);
     for piece in [1, 7] {
         assert!(rt; piece > 0);
         for (change, len, wanted) in [
@@ -127,7 +131,7 @@ fn finds_each_fault(rt: HostRuntime) -> Result<(), Fail> {
 #[test]
 fn tells_each_failing_call(rt: HostRuntime) -> Result<(), Fail> {
     let alloc = rt.alloc();
-    let scale = sample(key(&rt), [2, 2, 1]);
+    let scale = sample(key(&rt), [2, 2, 1], [0, 0, 0], [2, 2, 1]);
     for number in 0..6 {
         let mut failing = Vec::new(alloc);
         failing.push(number)?;

@@ -1,10 +1,9 @@
-use Rattle.std.proofs.Common.{◌∙◌, ap, arith, [], ◌+◌, ◌*◌, ◌^◌}
-use Rattle.std.specs.Option.{option_map}
+use Rattle.std.proofs.Common.{◌∙◌, arith, [], ◌+◌, ◌*◌, ◌^◌}
 use Rattle.std.proofs.lemmas.Result.{err_from_is_err_and}
-use Rattle.write_plan.specs.Stream.{◌>>=◌, count_at, writes_at, writes_of, ended}
+use Rattle.write_plan.specs.Stream.{count_at, writes_at, writes_of}
 use Rattle.write_plan.specs.WriteLists.{writes_in}
-use Rattle.write_plan.proofs.FeedSteps.{answer_err, answer_ok, gave_then, refused_first, refused_then, took_more, took_at_most}
-use Rattle.write_plan.proofs.WholeSteps.{ended_refused, ended_all, all_gone, are_writes}
+use Rattle.write_plan.proofs.FeedSteps.{answer_err, answer_ok, gave_then, refused_first, refused_then, took_more}
+use Rattle.write_plan.proofs.WholeSteps.{ended_refused, ended_all, are_writes}
 use Rattle.write_plan.proofs.stream.read_writes.Goals as goal
 
 pub returns-in_err-count-clause-exact : goal.returns-in_err-count-clause-exact
