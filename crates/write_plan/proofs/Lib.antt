@@ -1,0 +1,4 @@
+pub mod BoxSteps
+pub mod FeedSteps
+pub mod ListSteps
+pub mod WholeSteps

@@ -1,0 +1,49 @@
+-- A list of writes that grows, and the rest of a stream.
+use Rattle.std.proofs.Common.{◌≡◌, ℕ, suc, ◌+◌, ◌-◌, ◌<◌, List, [], ◌∷◌, ◌++◌, length, map, sum, Option, ap, ◌∙◌, subst, arith}
+use Rattle.std.specs.Option.{option_map}
+use Rattle.std.proofs.lemmas.List.{map-append}
+use Rattle.std.proofs.lemmas.Grind.{common_steps}
+use Rattle.vol_spec.specs.declared.scale.Scale.{Scale}
+use Rattle.write_plan.specs.Stream.{write_at, writes_at}
+use Rattle.write_plan.specs.Readers.{Gave, Refused}
+use Rattle.write_plan.specs.WriteLists.{BoxWrite, write_in, writes_in, total}
+use Rattle.write_plan.specs.declared.fault.PlanFault.{PlanFault}
+use Rattle.write_plan.specs.declared.writes.Write.{Write}
+use Rattle.write_plan.proofs.FeedSteps.{gave_then, refused_first, refused_along}
+
+sum_last : (xs : List ℕ) (x : ℕ) → sum (xs ++ x ∷ []) ≡ sum xs + x
+sum_last xs x = grind (arith, common_steps)
+
+pub total_last : (ws : List BoxWrite) (w : BoxWrite) → total (ws ++ w ∷ []) ≡ total ws + length w.1
+total_last ws w = ap sum (map-append (λ (v : BoxWrite). length v.1) ws (w ∷ [])) ∙ sum_last (map (λ (v : BoxWrite). length v.1) ws) (length w.1)
+
+pub writes_last : (ws : List Write) (w : Write) → writes_in (ws ++ w ∷ []) ≡ writes_in ws ++ write_in w ∷ []
+writes_last ws w = map-append write_in ws (w ∷ [])
+
+-- one write more
+writes_next : (s : Scale) (n : ℕ) (ws : List BoxWrite) (o p : Option (List ℕ)) (w : BoxWrite) → Gave (write_at s (length ws) (total ws)) o p w → option_map (writes_at s (suc n) ws) o ≡ option_map (writes_at s n (ws ++ w ∷ [])) p
+unfolding writes_at
+writes_next s n ws o p w h = gave_then (write_at s (length ws) (total ws)) (λ r. writes_at s n (ws ++ r.0 ∷ []) r.1) o p w h
+
+writes_refused : (s : Scale) (n : ℕ) (ws : List BoxWrite) (o : Option (List ℕ)) (e : PlanFault) → Refused (write_at s (length ws) (total ws)) o e → Refused (writes_at s (suc n) ws) o e
+unfolding writes_at
+writes_refused s n ws o e h = refused_first (write_at s (length ws) (total ws)) (λ r. writes_at s n (ws ++ r.0 ∷ []) r.1) o e h
+
+one_left : (count number : ℕ) → number < count → count - number ≡ suc (count - (number + 1))
+one_left count number h = omega arith
+
+pub list_more : (s : Scale) (count number before : ℕ) (ws : List BoxWrite) (w : BoxWrite) (o m p : Option (List ℕ)) → option_map (writes_at s count []) o ≡ option_map (writes_at s (count - number) ws) m → number < count → number ≡ length ws → before ≡ total ws → Gave (write_at s number before) m p w → option_map (writes_at s count []) o ≡ option_map (writes_at s (count - (number + 1)) (ws ++ w ∷ [])) p
+list_more s count number before ws w o m p steps below len size h =
+    let g : Gave (write_at s (length ws) (total ws)) m p w = subst (λ (i : ℕ). Gave (write_at s i (total ws)) m p w) len (subst (λ (b : ℕ). Gave (write_at s number b) m p w) size h) in
+    steps ∙ ap (λ n. option_map (writes_at s n ws) m) (one_left count number below) ∙ writes_next s (count - (number + 1)) ws m p w g
+
+pub list_refused : (s : Scale) (count number before : ℕ) (ws : List BoxWrite) (o m : Option (List ℕ)) (e : PlanFault) → option_map (writes_at s count []) o ≡ option_map (writes_at s (count - number) ws) m → number < count → number ≡ length ws → before ≡ total ws → Refused (write_at s number before) m e → Refused (writes_at s count []) o e
+list_refused s count number before ws o m e steps below len size h =
+    let g : Refused (write_at s (length ws) (total ws)) m e = subst (λ (i : ℕ). Refused (write_at s i (total ws)) m e) len (subst (λ (b : ℕ). Refused (write_at s number b) m e) size h) in
+    refused_along (writes_at s count []) (writes_at s (suc (count - (number + 1))) ws) o m e (steps ∙ ap (λ n. option_map (writes_at s n ws) m) (one_left count number below)) (writes_refused s (count - (number + 1)) ws m e g)
+
+pub list_done : (s : Scale) (count number : ℕ) (ws : List BoxWrite) (o p : Option (List ℕ)) → option_map (writes_at s count []) o ≡ option_map (writes_at s (count - number) ws) p → number ≡ count → Gave (writes_at s count []) o p ws
+unfolding writes_at
+list_done s count number ws o p steps e =
+    let z : count - number ≡ 0 = omega arith in
+    steps ∙ ap (λ n. option_map (writes_at s n ws) p) z

@@ -1,0 +1,3 @@
+pub mod Readers
+pub mod Stream
+pub mod WriteLists

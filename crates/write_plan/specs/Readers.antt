@@ -1,0 +1,69 @@
+-- What readers of a feed do. What is left before and after a call is an option: it is there where the feed tells it.
+use Rattle.std.specs.Prelude.{◌≡◌, ℕ, ◌+◌, ◌^◌, ◌≤◌, IsTrue, Bool, true, false, List, length, take, drop, Option, IfSome, Result, Ok, Err, IsErrOf}
+use Rattle.std.specs.Option.{option_map}
+use Rattle.vol_base.specs.Causes.{Rose}
+use Rattle.vol_base.specs.declared.boxes.Box3.{Box3}
+use Rattle.vol_spec.specs.Grid.{Inside}
+use Rattle.vol_spec.specs.Raw.{raw_len}
+use Rattle.vol_spec.specs.declared.scale.Scale.{Scale}
+use Rattle.write_plan.specs.Stream.{judged}
+use Rattle.write_plan.specs.declared.fault.PlanFault.{PlanFault}
+use Rattle.write_plan.specs.declared.fault.PlanFault.TheVariants.{FeedFault, BadMagic, TooManyWrites, EmptyBox, OutsideBox, WritesTooLarge, Truncated, TrailingBytes, OutOfMemory}
+
+-- a fault of the stream, neither of the feed nor want of memory
+abbrev pub of_stream : PlanFault → Bool
+of_stream FeedFault = false
+of_stream BadMagic = true
+of_stream (TooManyWrites _) = true
+of_stream (EmptyBox _) = true
+of_stream (OutsideBox _) = true
+of_stream (WritesTooLarge _) = true
+of_stream (Truncated _) = true
+of_stream TrailingBytes = true
+of_stream OutOfMemory = false
+
+-- the first n bytes of what was left stand in front of a buffer
+pub record IsFront (n : ℕ) (buffer bytes : List ℕ) : Type 0 where
+  pub same : take n buffer ≡ take n bytes
+  pub within : n ≤ length bytes
+
+abbrev pub Came : ℕ → Option (List ℕ) → List ℕ → Type 0
+Came n before buffer = IfSome before (IsFront n buffer)
+
+-- at most so many bytes were taken
+pub record Took (most : ℕ) (before now : Option (List ℕ)) : Type 0 where
+  pub count : ℕ
+  pub small : count ≤ most
+  pub left : now ≡ option_map (drop count) before
+
+abbrev pub gives : {A : Type 0} → A → List ℕ → Result (A × List ℕ) PlanFault
+gives value rest = Ok (value, rest)
+
+-- reading gives this value, and leaves what is left
+abbrev pub Gave : {A : Type 0} → (List ℕ → Result (A × List ℕ) PlanFault) → Option (List ℕ) → Option (List ℕ) → A → Type 0
+Gave read before now value = option_map read before ≡ option_map (gives value) now
+
+-- reading gives this fault, if it is one of the stream
+abbrev pub Refused : {A : Type 0} → (List ℕ → Result A PlanFault) → Option (List ℕ) → PlanFault → Type 0
+Refused read before fault = IsTrue (of_stream fault) → IfSome before (λ bytes. read bytes ≡ Err fault)
+
+-- what was answered is what reading gives, but for faults of the feed and want of memory
+abbrev pub Answers : {A : Type 0} → Result A PlanFault → Result A PlanFault → Type 0
+Answers (Ok value) read = read ≡ Ok value
+Answers (Err fault) read = IsTrue (of_stream fault) → read ≡ Err fault
+
+-- the feed's count of faults doesn't fall, and a fault of the feed comes only where it rose
+pub record HasFeedCause {A : Type 0} (before now : ℕ) (result : Result A PlanFault) : Type 0 where
+  pub later : before ≤ now
+  pub failed : IsErrOf result FeedFault → Rose before now
+
+-- the box lies inside the scale, its values have so many bytes, and those before leave room for them
+pub record IsSized (s : Scale) (before : ℕ) (b : Box3) (len : ℕ) : Type 0 where
+  pub inside : Inside s b
+  pub bytes : len ≡ raw_len b s.channels s.width
+  pub room : before + len ≤ 2 ^ 30
+
+-- the box has no fault, and its values have so many bytes
+pub record IsJudged (s : Scale) (i before : ℕ) (b : Box3) (len : ℕ) : Type 0 where
+  pub sound : judged s i before b ≡ Ok b
+  pub sized : IsSized s before b len

@@ -1,0 +1,227 @@
+//! The stream of box writes, this project's own format (docs/stream.md).
+ghost use Rattle.std.specs.Prelude.{◌≡◌, ◌+◌, ◌-◌, ◌*◌, ◌<◌, ◌≤◌, ◌^◌, ℕ, [], false, IsTrue, Ok, Err, Some, length, IfOk, IfErr, IfSome, OnOk, OnErr};
+ghost use Rattle.std.specs.Int.{w64, from_le_bytes};
+ghost use Rattle.std.specs.List.{All};
+ghost use Rattle.std.specs.Option.{option_map};
+ghost use Rattle.std.specs.Result.{MatchResult};
+ghost use Rattle.std.specs.Str.{bytes_eq};
+ghost use Rattle.vol_spec.specs.Grid.{Inside};
+ghost use Rattle.vol_spec.specs.Raw.{raw_len};
+ghost use Rattle.write_plan.specs.Stream.{is_empty, is_within, magic, word, box_of, judged, box_at, write_at, writes_at, marked, count_at, writes_of};
+ghost use Rattle.write_plan.specs.Readers.{Took, Gave, Refused, Answers, HasFeedCause, IsJudged, IsSized, of_stream};
+ghost use Rattle.write_plan.specs.WriteLists.{IsWriteOf, write_in, writes_in, total};
+ghost use Rattle.write_plan.specs.declared.fault.PlanFault.TheVariants.{TrailingBytes};
+
+use crate::bytes::{read_front, read_values};
+use crate::fault::PlanFault;
+use crate::writes::{Write, Writes};
+use chunk_grid::{byte_len, inside};
+use std::alloc::Global;
+use vol_base::{Box3, Feed};
+use vol_spec::Scale;
+
+const MOST_WRITES: u32 = 65_536;
+
+// The most bytes of all values together.
+const MOST_BYTES: u64 = 1 << 30;
+
+fn find_word(head: &[u8], n: usize) -> u64
+    requires head { length head.now ≡ 48 }
+    requires n { n < 6 }
+    ensures { result ≡ word head.now n }
+{
+    let bytes = &head[8 * n..8 * n + 8];
+    u64::from_le_bytes([
+        bytes[0], bytes[1], bytes[2], bytes[3], bytes[4], bytes[5], bytes[6], bytes[7],
+    ])
+}
+
+fn read_box(head: &[u8]) -> Box3
+    requires { length head.now ≡ 48 }
+    ensures { result ≡ box_of head.now }
+{
+    Box3 {
+        begin: [
+            find_word(head, 0).cast_signed(),
+            find_word(head, 1).cast_signed(),
+            find_word(head, 2).cast_signed(),
+        ],
+        size: [find_word(head, 3), find_word(head, 4), find_word(head, 5)],
+    }
+}
+
+fn has_empty_axis(part: &Box3) -> bool
+    ensures { result ≡ is_empty part.now }
+{
+    part.size.contains(&0)
+}
+
+// Whether a box with no empty axis lies inside the scale.
+fn lies_inside(scale: &Scale, part: &Box3) -> bool
+    requires { is_empty part.now ≡ false }
+    ensures test { result ≡ is_within scale.now part.now }
+    ensures inside { IsTrue result → Inside scale.now part.now }
+{
+    inside(scale, part)
+}
+
+// How many bytes the values of a write's box have, behind so many bytes of values; or the first
+// fault of the box.
+#[tactic(auto, unfolding(crate::specs::Stream::judged))]
+fn judge(scale: &Scale, number: u32, before: u64, part: &Box3) -> Result<usize, PlanFault>
+    requires { before ≤ 2 ^ 30 }
+    ensures { MatchResult result (λ len. IsJudged scale.now number before part.now len) (λ e. IsTrue (of_stream e) × (judged scale.now number before part.now ≡ Err e)) }
+{
+    if has_empty_axis(part) {
+        return Err(PlanFault::EmptyBox { write: number });
+    }
+    if !lies_inside(scale, part) {
+        return Err(PlanFault::OutsideBox { write: number });
+    }
+    let len = byte_len(part, scale.channels, scale.width);
+    if len > u128::from(MOST_BYTES - before) {
+        return Err(PlanFault::WritesTooLarge { write: number });
+    }
+    Ok(len as usize)
+}
+
+// The box of a write and how many bytes its values have.
+fn read_part<F: Feed>(
+    feed: &mut F,
+    scale: &Scale,
+    number: u32,
+    before: u64,
+) -> Result<(Box3, usize), PlanFault>
+    requires { before ≤ 2 ^ 30 }
+    ensures gave { IfOk result (λ r. Gave (box_at scale.now number before) (F.left feed.old) (F.left feed.new) r.0) }
+    ensures refused { IfErr result (Refused (box_at scale.now number before) (F.left feed.old)) }
+    ensures fits { IfOk result (λ r. IsSized scale.now before r.0 r.1) }
+    ensures took { Took 48 (F.left feed.old) (F.left feed.new) }
+    ensures cause { HasFeedCause (F.faults feed.old) (F.faults feed.new) result }
+{
+    let mut head = [0; 48];
+    read_front(feed, &mut head, PlanFault::Truncated { write: number })?;
+    let part = read_box(&head);
+    let len = judge(scale, number, before, &part)?;
+    Ok((part, len))
+}
+
+// A write behind so many bytes of values.
+fn read_write<F: Feed>(
+    alloc: Global,
+    feed: &mut F,
+    scale: &Scale,
+    number: u32,
+    before: u64,
+) -> Result<Write, PlanFault>
+    requires { before ≤ 2 ^ 30 }
+    ensures gave { IfOk result (λ write. Gave (write_at scale.now number before) (F.left feed.old) (F.left feed.new) (write_in write)) }
+    ensures refused { IfErr result (Refused (write_at scale.now number before) (F.left feed.old)) }
+    ensures fits { IfOk result (λ write. IsWriteOf scale.now (write_in write)) }
+    ensures small { IfOk result (λ write. before + length write.bytes.items ≤ 2 ^ 30) }
+    ensures took { IfOk result (λ write. Took (48 + length write.bytes.items) (F.left feed.old) (F.left feed.new)) }
+    ensures took_err { OnErr result (Took (48 + (2 ^ 30 - before)) (F.left feed.old) (F.left feed.new)) }
+    ensures cause { HasFeedCause (F.faults feed.old) (F.faults feed.new) result }
+{
+    let (part, len) = read_part(feed, scale, number, before)?;
+    let bytes = read_values(alloc, feed, len, PlanFault::Truncated { write: number })?;
+    Ok(Write { part, bytes })
+}
+
+// So many writes.
+fn read_list<F: Feed>(
+    alloc: Global,
+    feed: &mut F,
+    scale: &Scale,
+    count: u32,
+) -> Result<Vec<Write>, PlanFault>
+    requires { count ≤ 65536 }
+    ensures gave { IfOk result (λ writes. Gave (writes_at scale.now count []) (F.left feed.old) (F.left feed.new) (writes_in writes.items)) }
+    ensures refused { IfErr result (Refused (writes_at scale.now count []) (F.left feed.old)) }
+    ensures fits { IfOk result (λ writes. All (IsWriteOf scale.now) (writes_in writes.items)) }
+    ensures small { IfOk result (λ writes. total (writes_in writes.items) ≤ 2 ^ 30) }
+    ensures count { IfOk result (λ writes. length writes.items ≡ count) }
+    ensures took { Took (48 * 65536 + 2 ^ 30) (F.left feed.old) (F.left feed.new) }
+    ensures cause { HasFeedCause (F.faults feed.old) (F.faults feed.new) result }
+{
+    let mut writes = Vec::new(alloc);
+    let mut before = 0;
+    for number in 0..count {
+        let write = read_write(alloc, feed, scale, number, before)?;
+        before += write.bytes.len() as u64;
+        writes.push(write)?;
+    }
+    Ok(writes)
+}
+
+fn is_mark(head: &[u8]) -> bool
+    ensures { result ≡ bytes_eq head.now magic }
+{
+    head == b"PVW1".as_slice()
+}
+
+// The four bytes that a stream begins with.
+fn read_mark<F: Feed>(feed: &mut F) -> Result<(), PlanFault>
+    ensures gave { OnOk result (option_map marked (F.left feed.old) ≡ option_map Ok (F.left feed.new)) }
+    ensures refused { IfErr result (Refused marked (F.left feed.old)) }
+    ensures took { Took 4 (F.left feed.old) (F.left feed.new) }
+    ensures cause { HasFeedCause (F.faults feed.old) (F.faults feed.new) result }
+{
+    let mut head = [0; 4];
+    read_front(feed, &mut head, PlanFault::BadMagic)?;
+    if !is_mark(&head) {
+        return Err(PlanFault::BadMagic);
+    }
+    Ok(())
+}
+
+// How many writes a stream has.
+fn read_count<F: Feed>(feed: &mut F) -> Result<u32, PlanFault>
+    ensures gave { IfOk result (Gave count_at (F.left feed.old) (F.left feed.new)) }
+    ensures refused { IfErr result (Refused count_at (F.left feed.old)) }
+    ensures small { IfOk result (λ count. count ≤ 65536) }
+    ensures took { Took 8 (F.left feed.old) (F.left feed.new) }
+    ensures cause { HasFeedCause (F.faults feed.old) (F.faults feed.new) result }
+{
+    read_mark(feed)?;
+    let mut bytes = [0; 4];
+    read_front(feed, &mut bytes, PlanFault::Truncated { write: 0 })?;
+    let count = u32::from_le_bytes(bytes);
+    if count > MOST_WRITES {
+        return Err(PlanFault::TooManyWrites { count });
+    }
+    Ok(count)
+}
+
+// That nothing is left.
+fn read_end<F: Feed>(feed: &mut F) -> Result<(), PlanFault>
+    ensures ended { OnOk result (F.left feed.old ≡ option_map (λ _. []) (F.left feed.old)) }
+    ensures end { OnOk result (F.left feed.new ≡ F.left feed.old) }
+    ensures refused { IfErr result (λ e. IsTrue (of_stream e) → (e ≡ TrailingBytes) × IfSome (F.left feed.old) (λ bytes. 0 < length bytes)) }
+    ensures took { Took 1 (F.left feed.old) (F.left feed.new) }
+    ensures cause { HasFeedCause (F.faults feed.old) (F.faults feed.new) result }
+{
+    let mut byte = [0];
+    match feed.read(&mut byte)? {
+        0 => Ok(()),
+        _ => Err(PlanFault::TrailingBytes),
+    }
+}
+
+/// The writes of a stream, or its first fault from the front; the feed is read to its end. It takes
+/// at most 2^30 + 48 * 65,536 + 9 bytes, and each read takes at least one.
+///
+/// # Errors
+/// `FeedFault` only where the feed failed, `OutOfMemory`, and the faults of the stream.
+pub fn read_writes<F: Feed>(alloc: Global, feed: &mut F, scale: &Scale) -> Result<Writes, PlanFault>
+    ensures exact { IfSome (F.left feed.old) (λ bytes. Answers result (writes_of bytes scale.now)) }
+    ensures end { OnOk result (F.left feed.new ≡ option_map (λ _. []) (F.left feed.old)) }
+    ensures fits { IfOk result (All (IsWriteOf scale.now)) }
+    ensures took { Took (2 ^ 30 + 48 * 65536 + 9) (F.left feed.old) (F.left feed.new) }
+    ensures cause { HasFeedCause (F.faults feed.old) (F.faults feed.new) result }
+{
+    let count = read_count(feed)?;
+    let items = read_list(alloc, feed, scale, count)?;
+    read_end(feed)?;
+    Ok(Writes { items })
+}

@@ -1,0 +1,29 @@
+//! Writes of boxes.
+
+use std::marker::Model;
+use vol_base::Box3;
+
+/// A box and the bytes of its values, in the order of a raw chunk.
+#[derive(Drop)]
+pub(crate) struct Write {
+    pub part: Box3,
+    pub bytes: Vec<u8>,
+}
+
+/// Writes in order: at most 65,536, their values together at most 2^30 bytes, each box with no
+/// empty axis and with the bytes of its values.
+#[derive(Drop)]
+pub struct Writes {
+    pub(crate) items: Vec<Write>,
+}
+
+impl Model for Writes {
+    ghost use Rattle.std.specs.Prelude.{List, ℕ};
+    ghost use Rattle.write_plan.specs.WriteLists.{AreWrites, BoxWrite, writes_in};
+
+    ghost Value = { List BoxWrite };
+
+    ghost view = { λ w. writes_in w.items.items };
+
+    ghost invariant = { λ w. AreWrites (writes_in w.items.items) };
+}
