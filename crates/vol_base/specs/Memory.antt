@@ -42,6 +42,11 @@ called m = record m { calls = one_more m.calls }
 abbrev pub failed : Memory → Memory
 failed m = record m { calls = one_more m.calls; faults = one_more m.faults }
 
+-- the store after a call that is refused, but for what the call changes
+abbrev pub refused : StoreRefusal → Memory → Memory
+refused Failed m = failed m
+refused OutOfMemory m = called m
+
 abbrev pub bytes_code : Coded (List ℕ)
 bytes_code = coded_list coded_ℕ
 

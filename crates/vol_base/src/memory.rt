@@ -216,7 +216,7 @@ fn under(folder: &[u8], name: &[u8]) -> bool
 }
 
 impl Store for MemoryStore {
-    ghost use Rattle.vol_base.specs.Memory.{called, draft_of, failed, fails, FailsAs, memory_tells, one_more};
+    ghost use Rattle.vol_base.specs.Memory.{called, draft_of, failed, fails, FailsAs, memory_tells, refused};
 
     ghost tells = { memory_tells };
 
@@ -264,7 +264,8 @@ impl Store for MemoryStore {
         ensures cause { HasStoreCause self.old.faults self.new.faults result }
         ensures fails { IsTrue (fails self.old) → IsErr result }
         ensures refusal { IfErr result (λ refusal. FailsAs refusal (fails self.old)) }
-        ensures counted { self.new.calls ≡ one_more self.old.calls }
+        ensures ok { OnOk result (self.new ≡ record (called self.old) { writing = option_map (λ d. (d.0, d.1 ++ piece.now)) self.old.writing }) }
+        ensures err { IfErr result (λ refusal. self.new ≡ record (refused refusal self.old) { writing = None }) }
     {
         let Some(object) = self.writing.take() else {
             return Ok(());
@@ -290,6 +291,7 @@ impl Store for MemoryStore {
         ensures asked { self.new.asked ≡ self.old.asked }
         ensures cause { HasStoreCause self.old.faults self.new.faults result }
         ensures fails { IsErr result ↔ IsTrue (fails self.old) }
+        ensures ok { OnOk result (self.new ≡ record (called self.old) { writing = option_map (λ d. (d.0, overwritten d.1 at piece.now)) self.old.writing }) }
         ensures err { OnErr result (self.new ≡ record (failed self.old) { writing = None }) }
     {
         let Some(object) = self.writing.take() else {
@@ -314,7 +316,8 @@ impl Store for MemoryStore {
         ensures cause { HasStoreCause self.old.faults self.new.faults result }
         ensures fails { IsTrue (fails self.old) → IsErr result }
         ensures refusal { IfErr result (λ refusal. FailsAs refusal (fails self.old)) }
-        ensures counted { self.new.calls ≡ one_more self.old.calls }
+        ensures ok { OnOk result (self.new ≡ record (called self.old) { objects = finished self.old.writing self.old.objects; writing = None }) }
+        ensures err { IfErr result (λ refusal. self.new ≡ record (refused refusal self.old) { writing = None }) }
     {
         let Some(object) = self.writing.take() else {
             return Ok(());
