@@ -6,8 +6,9 @@ use Rattle.std.proofs.lemmas.List.{take_more, get_or-map, length-map}
 use Rattle.std.proofs.Math.Seq.{drop-drop}
 use borrow.Rule.Slice.PartMut.{put_mid}
 use Rattle.byteorder.specs.Numbers.{length-bytes_low_first}
-use Rattle.minishard.specs.Written.{ids, starts, ends, over, stored, eight, numbers, with_number}
-use Rattle.minishard.specs.declared.row.Row.{Row}
+use Rattle.vol_spec.specs.IndexBytes.{ids, starts, ends, over, stored, eight, numbers}
+use Rattle.minishard.specs.Numbers.{with_number}
+use Rattle.vol_spec.specs.declared.row.Row.{Row}
 
 pub length-eight : (n : ℕ) → length (eight n) ≡ 8
 unfolding eight

@@ -1,7 +1,7 @@
 -- One row and two rows that can be stored.
 use Rattle.std.proofs.Common.{ℕ, zero, suc, ◌+◌, ◌^◌, ◌<◌, ◌≤◌, [], ◌∷◌, length, slice_index, arith}
-use Rattle.minishard.specs.Written.{ids, starts, ends, AreRows}
-use Rattle.minishard.specs.declared.row.Row.{Row}
+use Rattle.vol_spec.specs.IndexBytes.{ids, starts, ends, AreRows}
+use Rattle.vol_spec.specs.declared.row.Row.{Row}
 
 pub one_row : (a : Row) → a.start + a.size < 2 ^ 64 → AreRows (a ∷ [])
 one_row a small = record { ascend = λ r h. absurd (omega arith); follow = λ r h. absurd (omega arith); fit = fit }

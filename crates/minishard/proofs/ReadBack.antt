@@ -9,9 +9,10 @@ use Rattle.std.proofs.lemmas.List.{get_or-map, length-map}
 use Rattle.std.proofs.lemmas.List.Sums.{sum_by_more}
 use Rattle.std.proofs.lemmas.Option.{get_or_from_slice_get, slice_get_within}
 use Rattle.byteorder.specs.Numbers.{little_number-reads_back}
-use Rattle.minishard.specs.Rows.{Columns, word, words, columns_of, judged_by, judged_row, id_at, start_at, find_in, stops, stops_at, wanted_row}
-use Rattle.minishard.specs.Written.{ids, starts, ends, sizes, stored, eight, numbers, index_bytes, AreRows, AreIds}
-use Rattle.minishard.specs.declared.row.Row.{Row}
+use Rattle.vol_spec.specs.Rows.{Columns, word, words, columns_of, judged_by, judged_row, id_at, start_at, find_in, stops, stops_at, wanted_row}
+use Rattle.vol_spec.specs.IndexBytes.{ids, starts, ends, sizes, stored, eight, numbers, index_bytes, AreRows}
+use Rattle.minishard.specs.Numbers.{AreIds}
+use Rattle.vol_spec.specs.declared.row.Row.{Row}
 use Rattle.minishard.proofs.ColumnSteps.{length-eight, length-ids, length-starts, stored_id, stored_start, next_before}
 use Rattle.minishard.proofs.Steps.{stops_ok, goes_on, chosen_row, other_row}
 

@@ -8,8 +8,9 @@ use Rattle.std.proofs.lemmas.List.FromFn.{length-map-range_with_len, get_or-map-
 use Rattle.std.proofs.lemmas.Bool.{cases_lt}
 use Rattle.std.proofs.lemmas.Bool.Decides.{nat_tests}
 use Rattle.std.specs.Option.{option_map_or}
-use Rattle.minishard.specs.Rows.{stops, stops_at, wanted_row, find_in, word, words, columns_of, Columns, Progress, IsWalked, IsStored, judged_by, judged_row, id_at, start_at}
-use Rattle.minishard.specs.declared.row.Row.{Row}
+use Rattle.vol_spec.specs.Rows.{stops, stops_at, wanted_row, find_in, word, words, columns_of, Columns, judged_by, judged_row, id_at, start_at}
+use Rattle.minishard.specs.Walks.{Progress, IsWalked, IsStored}
+use Rattle.vol_spec.specs.declared.row.Row.{Row}
 use Rattle.vol_base.specs.declared.faults.IndexFault.{IndexFault}
 
 pub on_ok : {T E : Type 0} {P Q : Type 0} → (r : Result T E) → OnOk r P → (P → Q) → OnOk r Q

@@ -2,7 +2,7 @@
 use Rattle.std.proofs.Common.{◌≡◌, refl, [], ◌∷◌, List, ℕ, Ok, Err, Some, None, ◌-◌, ◌^◌}
 use Rattle.std.specs.Prelude.{flat_map}
 use Rattle.byteorder.specs.Endian.{little_bytes}
-use Rattle.minishard.specs.Rows.{columns_of, find_in, word}
+use Rattle.vol_spec.specs.Rows.{columns_of, find_in, word}
 use Rattle.vol_base.specs.declared.faults.IndexFault.TheVariants.{BadId, BadStart}
 
 index : List ℕ → List ℕ

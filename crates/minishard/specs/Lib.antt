@@ -1,2 +1,2 @@
-pub mod Rows
-pub mod Written
+pub mod Numbers
+pub mod Walks

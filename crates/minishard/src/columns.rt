@@ -1,13 +1,14 @@
 //! Rows as the bytes of an index.
 ghost use Rattle.std.specs.Prelude.{◌≡◌, ◌≢◌, ◌+◌, ◌*◌, ◌<◌, ◌≤◌, ◌^◌, ℕ, [], ◌∷◌, length, slice_index, slice_get};
-ghost use Rattle.minishard.specs.Rows.{columns_of, find_in, judged_row};
-ghost use Rattle.minishard.specs.declared.row.Row.{Row};
-ghost use Rattle.minishard.specs.Written.{AreIds, AreRows, ends, ids, index_bytes, numbers, sizes, starts, stored, with_number};
+ghost use Rattle.vol_spec.specs.Rows.{columns_of, find_in, judged_row};
+ghost use Rattle.vol_spec.specs.declared.row.Row.{Row};
+ghost use Rattle.minishard.specs.Numbers.{AreIds, with_number};
+ghost use Rattle.vol_spec.specs.IndexBytes.{AreRows, ends, ids, index_bytes, numbers, sizes, starts, stored};
 
 use crate::Row;
 use byteorder::{ByteOrder, LittleEndian};
 
-#[tactic(auto, unfolding(crate::specs::Written::eight))]
+#[tactic(auto, unfolding(vol_spec::specs::IndexBytes::eight))]
 fn put_number(out: &mut [u8], place: usize, number: u64)
     requires { 8 * place + 8 ≤ length out.old }
     ensures { out.new ≡ with_number out.old place number }

@@ -1,12 +1,13 @@
 //! A look-up in a whole index.
 ghost use Rattle.std.specs.Prelude.{◌≡◌, ◌+◌, ◌*◌, ◌/◌, ◌%◌, ◌<◌, ◌≤◌, ◌^◌, length, OnOk};
-ghost use Rattle.minishard.specs.Rows.{columns_of, find_in, word, IsWalked, judged_row};
+ghost use Rattle.vol_spec.specs.Rows.{columns_of, find_in, word, judged_row};
+ghost use Rattle.minishard.specs.Walks.{IsWalked};
 
 use crate::{Row, Walk};
 use byteorder::{ByteOrder, LittleEndian};
 use vol_base::IndexFault;
 
-#[tactic(auto, unfolding(crate::specs::Rows::word))]
+#[tactic(auto, unfolding(vol_spec::specs::Rows::word))]
 fn read_word(bytes: &[u8], place: usize) -> u64
     requires { 8 * place + 8 ≤ length bytes.now }
     ensures { result ≡ word bytes.now place }

@@ -5,12 +5,11 @@
 
 mod columns;
 mod index;
-mod row;
 #[cfg(test)]
 mod tests;
 mod walk;
 
 pub use columns::write_rows;
 pub use index::find;
-pub use row::Row;
+pub use vol_spec::Row;
 pub use walk::Walk;

@@ -58,7 +58,13 @@ fn judges_ids(rt: HostRuntime) {
     assert_eq!(rt; find(&last, 0), Ok(None));
     assert_eq!(rt; find(&last, 1), Ok(None));
     assert_eq!(rt; find(&last, u64::MAX), Ok(Some(row(u64::MAX, 0, 1))));
+    let near = index_of([u64::MAX - 1, 1], [0, 0], [1, 1]);
+    assert_eq!(rt; find(&near, u64::MAX), Ok(Some(row(u64::MAX, 1, 1))));
     let past = index_of([u64::MAX - 1, 2], [0, 0], [1, 1]);
+    assert_eq!(rt;
+        find(&past, u64::MAX - 1),
+        Ok(Some(row(u64::MAX - 1, 0, 1)))
+    );
     assert_eq!(rt; find(&past, u64::MAX), Err(IndexFault::BadId { row: 1 }));
 }
 
@@ -70,6 +76,9 @@ fn judges_starts(rt: HostRuntime) {
     let long = index_of([0, 1], [0, 0], [u64::MAX, 1]);
     assert_eq!(rt; find(&long, 0), Ok(Some(row(0, 0, u64::MAX))));
     assert_eq!(rt; find(&long, 1), Err(IndexFault::BadStart { row: 1 }));
+    let near = index_of([0, 1], [1, 0], [u64::MAX - 1, 0]);
+    assert_eq!(rt; find(&near, 0), Ok(Some(row(0, 1, u64::MAX - 1))));
+    assert_eq!(rt; find(&near, 1), Ok(Some(row(1, u64::MAX, 0))));
     let past = index_of([0, 1], [u64::MAX, 0], [1, 1]);
     assert_eq!(rt; find(&past, 0), Err(IndexFault::BadStart { row: 0 }));
     let start_alone = index_of([0, 1], [1, u64::MAX], [0, 0]);

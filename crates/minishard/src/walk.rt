@@ -1,6 +1,7 @@
 //! A walk over the rows of an index, in order.
 ghost use Rattle.std.specs.Prelude.{◌≡◌, ◌+◌, ◌<◌, ◌≤◌, ◌^◌, ◌==◌, ◌&&◌, ◌||◌, nat_lt, nat_le, ℕ, OnOk, OnErr};
-ghost use Rattle.minishard.specs.Rows.{Columns, IsWalked, IsStored, judged_row, judged_by};
+ghost use Rattle.vol_spec.specs.Rows.{Columns, judged_row, judged_by};
+ghost use Rattle.minishard.specs.Walks.{IsWalked, IsStored};
 
 use crate::Row;
 use std::marker::Model;
@@ -16,7 +17,7 @@ pub struct Walk {
 }
 
 impl Model for Walk {
-    ghost use Rattle.minishard.specs.Rows.{Progress};
+    ghost use Rattle.minishard.specs.Walks.{Progress};
 
     ghost Value = { Progress };
 

@@ -5,7 +5,7 @@ use Rattle.std.proofs.lemmas.Grind.{pow_more}
 use Rattle.std.proofs.lemmas.Nat.{mod_below}
 use borrow.Author.Tests.{ltb-false}
 use Rattle.vol_base.specs.Grids.{is_pair, AreSizes}
-use Rattle.morton_code.specs.Codes.{bit_of, code_of, IsCell}
+use Rattle.vol_spec.specs.Codes.{bit_of, code_of, IsCell}
 use Rattle.morton_code.proofs.Steps.{code_from, code_from-more, code_from-0, below, by_axis, same_cells}
 
 -- a number tells the lowest bit, where it counts, and what is above it

@@ -10,7 +10,7 @@ use Rattle.std.proofs.lemmas.Nat.{mod_below, mod-pow-add, leading_length}
 use Rattle.std.specs.Int.Count.{count_leading_zeros}
 use borrow.Author.Tests.{ltb-false}
 use Rattle.vol_base.specs.Grids.{is_pair, axes_of, pairs}
-use Rattle.morton_code.specs.Codes.{bit_of, number, code_of, IsCell}
+use Rattle.vol_spec.specs.Codes.{bit_of, number, code_of, IsCell}
 use Rattle.morton_code.specs.declared.codes.Taken.{Taken}
 
 abbrev Pair : Type 0

@@ -1,7 +1,7 @@
 -- Known codes.
 use Rattle.std.proofs.Common.{◌≡◌, refl, length, [], ◌∷◌}
 use Rattle.vol_base.specs.Grids.{pairs}
-use Rattle.morton_code.specs.Codes.{code_of}
+use Rattle.vol_spec.specs.Codes.{code_of}
 
 bits_5_1_3 : length (pairs (5 ∷ 1 ∷ 3 ∷ [])) ≡ 5
 unfolding pairs

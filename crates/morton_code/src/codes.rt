@@ -1,7 +1,7 @@
 //! The code of a cell, and the cell of a code.
 ghost use Rattle.std.specs.Prelude.{◌≡◌, ◌+◌, ◌*◌, ◌/◌, ◌%◌, ◌<◌, ◌≤◌, ◌^◌, ℕ, List, length, slice_index, nat_lt, IfSome, Some, if◌then◌else◌, IsTrue, ◌↔◌};
 ghost use Rattle.vol_base.specs.Grids.{pairs};
-ghost use Rattle.morton_code.specs.Codes.{IsCell, code_of};
+ghost use Rattle.vol_spec.specs.Codes.{IsCell, code_of};
 
 use vol_base::Grid;
 

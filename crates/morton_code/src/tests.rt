@@ -1,7 +1,7 @@
 //! Codes and cells against a plain slow program.
 ghost use Rattle.std.specs.Prelude.{◌≡◌, ◌≤◌, IfSome, IsTrue, length};
 ghost use Rattle.vol_base.specs.Grids.{pairs};
-ghost use Rattle.morton_code.specs.Codes.{IsCell};
+ghost use Rattle.vol_spec.specs.Codes.{IsCell};
 
 use crate::{cell, code};
 use std::process::Abort;

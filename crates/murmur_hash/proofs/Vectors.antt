@@ -1,6 +1,6 @@
 -- Known hashes.
 use Rattle.std.proofs.Common.{◌≡◌, refl}
-use Rattle.murmur_hash.specs.Hashes.{hash8, stirred, all_mixed, loaded, mixed}
+use Rattle.vol_spec.specs.Hashes.{hash8, stirred, all_mixed, loaded, mixed}
 
 of_0 : hash8 0 ≡ 0x4772b084e028ae41
 unfolding hash8 stirred all_mixed loaded mixed

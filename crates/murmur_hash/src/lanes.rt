@@ -1,6 +1,8 @@
 //! The four lanes of the hash.
 ghost use Rattle.std.specs.Prelude.{◌≡◌, ◌<◌, ◌^◌};
-ghost use Rattle.murmur_hash.specs.Hashes.{all_mixed, hash8, high_keyed, loaded, low_keyed, mixed, stirred};
+ghost use Rattle.vol_spec.specs.Hashes.{all_mixed, hash8, high_keyed, loaded, low_keyed, mixed, stirred};
+
+use std::marker::Model;
 
 // The factors c1, c2 and c3 of the public code.
 const FIRST: u32 = 0x239b961b;
@@ -20,6 +22,16 @@ struct Lanes {
     four: u32,
 }
 
+impl Model for Lanes {
+    ghost use Rattle.vol_spec.specs.Hashes.{Lanes};
+
+    ghost Value = { Lanes };
+
+    ghost view = { λ h. record { one = h.one; two = h.two; three = h.three; four = h.four } };
+
+    ghost inverse = { λ h. record { one = h.one; two = h.two; three = h.three; four = h.four } };
+}
+
 fn key_low(word: u32) -> u32
     ensures { result ≡ low_keyed word }
 {
@@ -36,7 +48,7 @@ fn key_high(word: u32) -> u32
         .wrapping_mul(THIRD)
 }
 
-#[tactic(auto, unfolding(crate::specs::Hashes::loaded))]
+#[tactic(auto, unfolding(vol_spec::specs::Hashes::loaded))]
 fn load(value: u64) -> Lanes
     ensures { result ≡ loaded value }
 {
@@ -48,7 +60,7 @@ fn load(value: u64) -> Lanes
     }
 }
 
-#[tactic(auto, unfolding(crate::specs::Hashes::stirred))]
+#[tactic(auto, unfolding(vol_spec::specs::Hashes::stirred))]
 fn stir(h: Lanes) -> Lanes
     ensures { result ≡ stirred h }
 {
@@ -65,7 +77,7 @@ fn stir(h: Lanes) -> Lanes
     }
 }
 
-#[tactic(auto, unfolding(crate::specs::Hashes::mixed))]
+#[tactic(auto, unfolding(vol_spec::specs::Hashes::mixed))]
 fn mix(h: u32) -> u32
     ensures { result ≡ mixed h }
 {
@@ -74,7 +86,7 @@ fn mix(h: u32) -> u32
     h ^ (h >> 16)
 }
 
-#[tactic(auto, unfolding(crate::specs::Hashes::all_mixed))]
+#[tactic(auto, unfolding(vol_spec::specs::Hashes::all_mixed))]
 fn mix_all(h: Lanes) -> Lanes
     ensures { result ≡ all_mixed h }
 {
@@ -88,7 +100,7 @@ fn mix_all(h: Lanes) -> Lanes
 
 /// The low eight bytes of MurmurHash3_x86_128, with seed 0, of the eight bytes of a number, the
 /// lowest first (precomputed volume format, sharded format; Austin Appleby's public code).
-#[tactic(auto, unfolding(crate::specs::Hashes::hash8))]
+#[tactic(auto, unfolding(vol_spec::specs::Hashes::hash8))]
 pub fn hash8(value: u64) -> u64
     ensures { result ≡ hash8 value }
 {

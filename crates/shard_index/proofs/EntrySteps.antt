@@ -9,8 +9,8 @@ use Rattle.byteorder.specs.Endian.{little_bytes, little_number, little_from}
 use Rattle.vol_spec.proofs.CutSteps.{bytes_part}
 use Rattle.byteorder.specs.Numbers.{little_from-cons, little_number-reads_back, length-bytes_low_first}
 use Rattle.vol_spec.specs.Bytes.{AreBytes}
-use Rattle.shard_index.specs.Entries.{entry_bytes, entry_of}
-use Rattle.shard_index.specs.declared.entries.Entry.{Entry}
+use Rattle.vol_spec.specs.Entries.{entry_bytes, entry_of}
+use Rattle.vol_spec.specs.declared.entry.Entry.{Entry}
 
 pub base_small : (bits : ℕ) → bits ≤ 24 → 16 * 2 ^ bits ≤ 2 ^ 28
 base_small bits h = let a : 2 ^ bits ≤ 2 ^ 24 = pow_mono h in omega arith

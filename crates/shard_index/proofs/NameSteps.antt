@@ -14,7 +14,7 @@ use Rattle.std.proofs.lemmas.Nat.{mod_below}
 use Rattle.vol_base.specs.Names.{is_name, is_name_byte}
 use Rattle.vol_spec.specs.CellNames.{folder_of}
 use Rattle.vol_spec.specs.declared.scale.Scale.{Scale}
-use Rattle.shard_index.specs.ShardNames.{filled_hex, hex_at, hex_len, shard_bits_of, shard_name, suffix}
+use Rattle.vol_spec.specs.ShardNames.{filled_hex, hex_at, hex_len, shard_bits_of, shard_name, suffix}
 
 -- a hexadecimal digit is four bits
 pub sixteen : (k : ℕ) → 2 ^ (4 * k) ≡ 16 ^ k

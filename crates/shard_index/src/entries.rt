@@ -1,23 +1,16 @@
 //! The entries in front of a shard.
 ghost use Rattle.std.specs.Prelude.{◌≡◌, ◌<◌, ◌≤◌, ◌^◌, length};
 ghost use Rattle.byteorder.specs.Endian.{little_bytes};
-ghost use Rattle.shard_index.specs.Entries.{base_of, entry_bytes, entry_of, judged_entry};
+ghost use Rattle.vol_spec.specs.Entries.{base_of, entry_bytes, entry_of, judged_entry};
 
 use byteorder::{ByteOrder, LittleEndian};
 use vol_base::ShardFault;
-use vol_spec::Sharding;
+use vol_spec::{Entry, Sharding};
 
 // The most rows of a minishard index (this project's limit), and the bytes of each.
 const ROWS_LIMIT: u64 = 1 << 22;
 
 const ROW_LEN: u64 = 24;
-
-/// Where the index of a minishard starts and ends, in bytes from the end of the shard's entries.
-#[derive(Clone, Copy, Debug, PartialEq, Eq)]
-pub struct Entry {
-    pub start: u64,
-    pub end: u64,
-}
 
 /// The bytes of all entries of a shard: 16 for each minishard.
 pub fn base_len(sharding: &Sharding) -> u64
@@ -28,7 +21,7 @@ pub fn base_len(sharding: &Sharding) -> u64
 }
 
 /// An entry from its bytes: the start, then the end, each with its lowest byte first.
-#[tactic(auto, unfolding(crate::specs::Entries::entry_of))]
+#[tactic(auto, unfolding(vol_spec::specs::Entries::entry_of))]
 pub fn read_entry(bytes: &[u8; 16]) -> Entry
     ensures value { result ≡ entry_of bytes.now }
     // It is written back as it was.
@@ -49,7 +42,7 @@ fn put_number(out: &mut [u8], number: u64)
 }
 
 // The bytes of an entry, into 16 bytes.
-#[tactic(auto, unfolding(crate::specs::Entries::entry_bytes))]
+#[tactic(auto, unfolding(vol_spec::specs::Entries::entry_bytes))]
 fn put_entry(out: &mut [u8], entry: &Entry)
     requires { length out.old ≡ 16 }
     ensures bytes { out.new ≡ entry_bytes entry.now }

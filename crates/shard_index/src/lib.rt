@@ -8,7 +8,7 @@ mod places;
 #[cfg(test)]
 mod tests;
 
-pub use entries::{Entry, base_len, judge_entry, read_entry, write_entry};
+pub use entries::{base_len, judge_entry, read_entry, write_entry};
 pub use names::shard_name;
 pub use places::place;
-pub use vol_spec::ShardPlace;
+pub use vol_spec::{Entry, ShardPlace};

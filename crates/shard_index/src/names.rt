@@ -1,6 +1,6 @@
 //! The names of shards' objects.
 ghost use Rattle.std.specs.Prelude.{◌≡◌, ◌-◌, ◌<◌, ◌≤◌, ◌^◌, ◌++◌, IsSome, length};
-ghost use Rattle.shard_index.specs.ShardNames.{filled_hex, hex_at, hex_len, shard_bits_of, shard_file, shard_name, suffix};
+ghost use Rattle.vol_spec.specs.ShardNames.{filled_hex, hex_at, hex_len, shard_bits_of, shard_file, shard_name, suffix};
 
 use vol_base::Name;
 use vol_spec::Scale;

@@ -1,6 +1,6 @@
 //! Places of chunk ids.
 ghost use Rattle.std.specs.Prelude.{◌≡◌, ◌/◌, ◌%◌, ◌<◌, ◌≤◌, ◌^◌};
-ghost use Rattle.shard_index.specs.Places.{hash_of, minishard_of, shard_of};
+ghost use Rattle.vol_spec.specs.Places.{hash_of, minishard_of, shard_of};
 
 use murmur_hash::{hash8, identity};
 use vol_spec::{HashKind, ShardPlace, Sharding};

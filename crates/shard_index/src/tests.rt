@@ -100,6 +100,10 @@ fn judges_entries(rt: HostRuntime) {
         judge_entry(&entry(25, 1), 32, 82),
         Err(ShardFault::BadRange)
     );
+    assert_eq!(rt;
+        judge_entry(&entry(u64::MAX, 0), 32, 82),
+        Err(ShardFault::BadRange)
+    );
     let bad_length = Err(ShardFault::BadLength { bytes: 23 });
     assert_eq!(rt; judge_entry(&entry(2, 25), 32, 82), bad_length);
     let short = Err(ShardFault::ShortMinishard);

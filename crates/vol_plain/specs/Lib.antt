@@ -1,1 +1,4 @@
+pub mod CellParts
 pub mod Objects
+pub mod ShardParts
+pub mod StoredParts

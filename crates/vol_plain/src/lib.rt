@@ -1,9 +1,22 @@
-//! The value of one voxel, read the plain slow way: a program to compare others with.
+//! Plain slow programs to compare others with: the value of one voxel, and the bytes of a shard.
 #![tactic(auto)]
 
+mod found;
+mod index_rows;
 mod numbers;
+mod objects;
+mod placing;
 mod positions;
+mod shards;
+mod sums;
+#[cfg(test)]
+mod tests;
 mod values;
 
+pub use found::plain_found;
+pub use objects::{StoredObject, plain_objects};
+pub use placing::CellChunk;
 pub use positions::covers;
+pub use shards::plain_shard;
+pub use sums::ShardChunk;
 pub use values::plain_value;

@@ -1,1 +1,4 @@
 pub mod CutSteps
+mod KnownShards
+pub mod PutSteps
+pub mod RawSteps

@@ -2,9 +2,17 @@
 #![tactic(auto)]
 
 mod encoding;
+mod entry;
+mod row;
 mod scale;
+mod seg_shape;
 mod sharding;
+mod span;
 
 pub use encoding::Encoding;
+pub use entry::Entry;
+pub use row::Row;
 pub use scale::Scale;
+pub use seg_shape::SegShape;
 pub use sharding::{HashKind, ShardPlace, Sharding};
+pub use span::ChunkSpan;

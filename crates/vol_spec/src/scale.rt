@@ -34,6 +34,22 @@ pub struct Scale {
 }
 
 impl Scale {
+    /// The same scale once more. It takes no memory.
+    pub fn duplicate(&self) -> Scale
+        ensures { result ≡ self.now }
+    {
+        Scale {
+            key: self.key.duplicate(),
+            width: self.width,
+            channels: self.channels,
+            size: self.size,
+            offset: self.offset,
+            chunk: self.chunk,
+            encoding: self.encoding,
+            sharding: self.sharding,
+        }
+    }
+
     /// The bytes of the values of the first cell, which no other cell passes.
     pub fn raw_limit(&self) -> u64
         ensures { result ≡ first_bytes self.now.width self.now.channels self.now.size self.now.chunk }

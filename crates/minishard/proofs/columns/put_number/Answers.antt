@@ -1,5 +1,5 @@
 use Rattle.std.proofs.Common.{◌*◌, ap, ◌∙◌}
-use Rattle.minishard.specs.Written.{eight}
+use Rattle.vol_spec.specs.IndexBytes.{eight}
 use borrow.Rule.Slice.PartMut.{put_mid}
 use Rattle.minishard.proofs.ColumnSteps.{put_over, length-eight}
 use Rattle.minishard.proofs.columns.put_number.Goals as goal

@@ -1,5 +1,5 @@
 use Rattle.std.proofs.Common.{◌+◌, ◌*◌, arith, ap, ◌∙◌, sym, take}
-use Rattle.minishard.specs.Written.{stored, ids}
+use Rattle.vol_spec.specs.IndexBytes.{stored, ids}
 use Rattle.minishard.proofs.ColumnSteps.{length-ids, stored_id, next_before, number_more, all_numbers, below_next}
 use Rattle.minishard.proofs.columns.write_ids.Goals as goal
 

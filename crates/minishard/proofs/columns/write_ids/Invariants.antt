@@ -1,5 +1,5 @@
 use Rattle.std.proofs.Common.{◌≡◌, ◌*◌, ◌<◌, ◌^◌, ℕ, take, slice_index, ◌∷◌}
-use Rattle.minishard.specs.Written.{numbers, stored, ids}
+use Rattle.vol_spec.specs.IndexBytes.{numbers, stored, ids}
 use Rattle.minishard.proofs.columns.write_ids.Given as goal
 
 abbrev pub invariant-loop-r : goal.invariant-loop-r

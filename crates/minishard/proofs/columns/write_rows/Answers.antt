@@ -1,6 +1,6 @@
 use Rattle.std.proofs.Common.{ap, ◌∙◌}
-use Rattle.minishard.specs.Rows.{columns_of, find_in, judged_row}
-use Rattle.minishard.specs.declared.row.Row.{Row}
+use Rattle.vol_spec.specs.Rows.{columns_of, find_in, judged_row}
+use Rattle.vol_spec.specs.declared.row.Row.{Row}
 use Rattle.minishard.proofs.ReadBack.{row_back, found_back, absent_back}
 use Rattle.minishard.proofs.columns.write_rows.Goals as goal
 

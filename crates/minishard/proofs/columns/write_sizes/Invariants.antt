@@ -1,5 +1,5 @@
 use Rattle.std.proofs.Common.{◌≡◌, ◌*◌, take}
-use Rattle.minishard.specs.Written.{numbers, stored}
+use Rattle.vol_spec.specs.IndexBytes.{numbers, stored}
 use Rattle.minishard.proofs.columns.write_sizes.Given as goal
 
 abbrev pub invariant-loop-r : goal.invariant-loop-r

@@ -1,5 +1,5 @@
 use Rattle.std.proofs.Common.{◌+◌, ◌*◌, arith, ap, ◌∙◌, sym, take}
-use Rattle.minishard.specs.Written.{stored, ends}
+use Rattle.vol_spec.specs.IndexBytes.{stored, ends}
 use Rattle.minishard.proofs.ColumnSteps.{length-starts, stored_start, next_before, number_more, all_numbers}
 use Rattle.minishard.proofs.columns.write_starts.Goals as goal
 

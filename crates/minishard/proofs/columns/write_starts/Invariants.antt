@@ -1,5 +1,5 @@
 use Rattle.std.proofs.Common.{◌≡◌, ◌*◌, take, slice_index, ◌∷◌}
-use Rattle.minishard.specs.Written.{numbers, stored, ends}
+use Rattle.vol_spec.specs.IndexBytes.{numbers, stored, ends}
 use Rattle.minishard.proofs.columns.write_starts.Given as goal
 
 abbrev pub invariant-loop-r : goal.invariant-loop-r

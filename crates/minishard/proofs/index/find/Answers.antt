@@ -1,5 +1,5 @@
 use Rattle.std.proofs.Common.{◌≡◌, arith, ap, ◌∙◌, sym, Ok, Err}
-use Rattle.minishard.specs.Rows.{columns_of, judged_row}
+use Rattle.vol_spec.specs.Rows.{columns_of, judged_row}
 use Rattle.minishard.proofs.Steps.{columns_rows, stops_ok, stops_err, chosen_row, other_row, found_none}
 use Rattle.minishard.proofs.index.find.Goals as goal
 

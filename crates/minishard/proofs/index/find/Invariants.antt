@@ -1,5 +1,6 @@
 use Rattle.std.proofs.Common.{◌≡◌, ◌<◌, ℕ, false}
-use Rattle.minishard.specs.Rows.{IsWalked, columns_of, stops}
+use Rattle.minishard.specs.Walks.{IsWalked}
+use Rattle.vol_spec.specs.Rows.{columns_of, stops}
 use Rattle.minishard.proofs.index.find.Given as goal
 
 abbrev pub invariant-loop-row : goal.invariant-loop-row

@@ -1,5 +1,5 @@
 use Rattle.std.proofs.Common.{◌/◌, length, arith, ap, ◌∙◌, refl}
-use Rattle.minishard.specs.Rows.{columns_of, word, judged_row}
+use Rattle.vol_spec.specs.Rows.{columns_of, word, judged_row}
 use Rattle.minishard.proofs.Steps.{stored_here, on_ok}
 use Rattle.minishard.proofs.index.next_of.Goals as goal
 

@@ -1,5 +1,5 @@
 use Rattle.std.proofs.Common.{arith, ap}
-use Rattle.minishard.specs.declared.row.Row.{Row}
+use Rattle.vol_spec.specs.declared.row.Row.{Row}
 use Rattle.minishard.proofs.FewRows.{one_row, two_rows}
 use Rattle.minishard.proofs.tests.writes_rows.Goals as goal
 

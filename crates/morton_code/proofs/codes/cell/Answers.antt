@@ -1,5 +1,5 @@
 use Rattle.std.proofs.Common.{◌≡◌, ◌%◌, ◌^◌, ℕ, List, arith, ap, ◌∙◌, sym, slice_index, lit<, subst, Some}
-use Rattle.morton_code.specs.Codes.{IsCell, code_of}
+use Rattle.vol_spec.specs.Codes.{IsCell, code_of}
 use Rattle.vol_base.specs.Grids.{is_pair}
 use Rattle.morton_code.proofs.Steps.{taken_small, taken_step, taken_all, not_true, code_from-0}
 use Rattle.morton_code.proofs.codes.cell.Goals as goal

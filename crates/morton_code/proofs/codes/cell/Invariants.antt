@@ -1,5 +1,5 @@
 use Rattle.std.proofs.Common.{◌≡◌, ◌%◌, ◌^◌, ◌<◌, List, ℕ, slice_index}
-use Rattle.morton_code.specs.Codes.{IsCell, code_of}
+use Rattle.vol_spec.specs.Codes.{IsCell, code_of}
 use Rattle.morton_code.proofs.Steps.{code_from}
 use Rattle.morton_code.proofs.codes.cell.Given as goal
 

@@ -1,5 +1,5 @@
 use Rattle.std.proofs.Common.{◌∙◌, ap}
-use Rattle.shard_index.specs.Entries.{entry_of}
+use Rattle.vol_spec.specs.Entries.{entry_of}
 use Rattle.shard_index.proofs.EntrySteps.{entry_again}
 use Rattle.shard_index.proofs.entries.write_entry.Goals as goal
 

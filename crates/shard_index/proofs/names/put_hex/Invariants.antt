@@ -1,6 +1,6 @@
 use Rattle.std.proofs.Common.{◌≡◌, ◌-◌, length, take, map}
 use Rattle.std.specs.List.{range_with_len}
-use Rattle.shard_index.specs.ShardNames.{hex_at}
+use Rattle.vol_spec.specs.ShardNames.{hex_at}
 use Rattle.shard_index.proofs.names.put_hex.Given as goal
 
 abbrev pub invariant-loop-i : goal.invariant-loop-i
