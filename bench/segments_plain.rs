@@ -1,0 +1,271 @@
+// The same chunks as crates/bench_segments, written and read by the same steps in plain Rust, with the same words.
+
+use std::env;
+
+#[derive(Clone, Copy)]
+struct Shape {
+    size: [usize; 3],
+    block: [usize; 3],
+}
+
+impl Shape {
+    fn counts(&self) -> [usize; 3] {
+        [0, 1, 2].map(|axis| self.size[axis].div_ceil(self.block[axis]))
+    }
+
+    fn voxels(&self) -> usize {
+        self.block.iter().product()
+    }
+
+    // The first voxel of a block, and how many of its voxels lie in the chunk.
+    fn place(&self, k: usize) -> ([usize; 3], [usize; 3]) {
+        let [cx, cy, _] = self.counts();
+        let cell = [k % cx, k / cx % cy, k / cx / cy];
+        let first = [0, 1, 2].map(|axis| cell[axis] * self.block[axis]);
+        let count = [0, 1, 2].map(|axis| self.block[axis].min(self.size[axis] - first[axis]));
+        (first, count)
+    }
+}
+
+fn word(bytes: &[u8], i: usize) -> u32 {
+    u32::from_le_bytes(bytes[4 * i..4 * i + 4].try_into().unwrap())
+}
+
+fn value(bytes: &[u8], i: usize) -> u64 {
+    u64::from_le_bytes(bytes[8 * i..8 * i + 8].try_into().unwrap())
+}
+
+fn put_word(out: &mut [u8], at: usize, x: u32) {
+    out[at..at + 4].copy_from_slice(&x.to_le_bytes());
+}
+
+// The values of a block, with one value for its padding.
+fn fill_voxels(raw: &[u8], shape: &Shape, k: usize, padding: u64, voxels: &mut [u64]) {
+    let (first, count) = shape.place(k);
+    let [bx, by, _] = shape.block;
+    for (r, row) in voxels.chunks_exact_mut(bx).enumerate() {
+        let (y, z) = (r % by, r / by);
+        let inside = if y < count[1] && z < count[2] { count[0] } else { 0 };
+        let at = ((first[2] + z) * shape.size[1] + first[1] + y) * shape.size[0] + first[0];
+        for (x, voxel) in row.iter_mut().enumerate() {
+            *voxel = if x < inside { value(raw, at + x) } else { padding };
+        }
+    }
+}
+
+// The table of the values, in front of `table`.
+fn find_table(voxels: &[u64], table: &mut [u64]) -> usize {
+    let mut count = 0;
+    for (i, &x) in voxels.iter().enumerate() {
+        if i == 0 || x != voxels[i - 1] {
+            table[count] = x;
+            count += 1;
+        }
+    }
+    table[..count].sort_unstable();
+    let mut kept = 0;
+    for i in 0..count {
+        if i == 0 || table[i] != table[kept - 1] {
+            table[kept] = table[i];
+            kept += 1;
+        }
+    }
+    kept
+}
+
+fn find_bits(entries: usize) -> usize {
+    [0, 1, 2, 4, 8, 16]
+        .into_iter()
+        .find(|bits| entries <= 1 << bits)
+        .unwrap_or(32)
+}
+
+fn hash_table(table: &[u64], places: usize) -> usize {
+    let hash = table.iter().fold(0u64, |hash, &v| {
+        let x = (hash ^ v).wrapping_mul(0x9e3779b97f4a7c15);
+        x ^ x >> 29
+    });
+    (hash % places as u64) as usize
+}
+
+struct Scratch {
+    voxels: Vec<u64>,
+    table: Vec<u64>,
+    heads: Vec<u32>,
+    next: Vec<u32>,
+    at: Vec<u32>,
+    lens: Vec<u32>,
+}
+
+fn reserve(shape: &Shape) -> Scratch {
+    let blocks = shape.counts().iter().product();
+    Scratch {
+        voxels: vec![0; shape.voxels()],
+        table: vec![0; shape.voxels()],
+        heads: vec![0; blocks],
+        next: vec![0; blocks],
+        at: vec![0; blocks],
+        lens: vec![0; blocks],
+    }
+}
+
+fn encode(raw: &[u8], shape: &Shape, s: &mut Scratch, out: &mut [u8]) -> usize {
+    let blocks: usize = shape.counts().iter().product();
+    put_word(out, 0, 1);
+    let out = &mut out[4..];
+    s.heads.fill(0);
+    let mut at = 8 * blocks;
+    for k in 0..blocks {
+        let (first, _) = shape.place(k);
+        let begin = (first[2] * shape.size[1] + first[1]) * shape.size[0] + first[0];
+        fill_voxels(raw, shape, k, value(raw, begin), &mut s.voxels);
+        let count = find_table(&s.voxels, &mut s.table);
+        fill_voxels(raw, shape, k, s.table[0], &mut s.voxels);
+        let table = &s.table[..count];
+        let bits = find_bits(count);
+        let end = at + 4 * (bits * s.voxels.len()).div_ceil(32);
+        out[at..end].fill(0);
+        if bits > 0 {
+            let mut place = 0;
+            for (n, &x) in s.voxels.iter().enumerate() {
+                if table.get(place) != Some(&x) {
+                    place = table.binary_search(&x).unwrap();
+                }
+                let bit = n * bits;
+                let to = at + bit / 32 * 4;
+                let old = word(&out[to..], 0);
+                put_word(out, to, old + ((place as u32) << (bit % 32)));
+            }
+        }
+        for (i, x) in table.iter().enumerate() {
+            out[end + 8 * i..end + 8 * i + 8].copy_from_slice(&x.to_le_bytes());
+        }
+        s.at[k] = end as u32;
+        s.lens[k] = count as u32;
+        let hash = hash_table(table, s.heads.len());
+        let mut cursor = s.heads[hash] as usize;
+        while cursor != 0 {
+            let j = cursor - 1;
+            let other = s.at[j] as usize;
+            if s.lens[j] == count as u32 && out[other..other + 8 * count] == out[end..end + 8 * count] {
+                break;
+            }
+            cursor = s.next[j] as usize;
+        }
+        let values = at;
+        if cursor != 0 {
+            s.at[k] = s.at[cursor - 1];
+            at = end;
+        } else {
+            s.next[k] = s.heads[hash];
+            s.heads[hash] = k as u32 + 1;
+            at = end + 8 * count;
+        }
+        put_word(out, 8 * k, s.at[k] / 4 | (bits as u32) << 24);
+        put_word(out, 8 * k + 4, values as u32 / 4);
+    }
+    at + 4
+}
+
+fn decode(bytes: &[u8], shape: &Shape, raw: &mut [u8]) -> bool {
+    let words = bytes.len() / 4;
+    if bytes.len() % 4 != 0 || words < 1 {
+        return false;
+    }
+    let start = word(bytes, 0) as usize;
+    let blocks: usize = shape.counts().iter().product();
+    if words < start + 2 * blocks {
+        return false;
+    }
+    for k in 0..blocks {
+        let head = word(bytes, start + 2 * k);
+        let bits = (head >> 24) as usize;
+        let table = start + (head & 0xffffff) as usize;
+        let values = start + word(bytes, start + 2 * k + 1) as usize;
+        if !matches!(bits, 0 | 1 | 2 | 4 | 8 | 16 | 32)
+            || bits != 0 && words < values + (bits * shape.voxels()).div_ceil(32)
+        {
+            return false;
+        }
+        let table = bytes.get(4 * table..).unwrap_or(&[]);
+        let values = bytes.get(4 * values..).unwrap_or(&[]);
+        let room = table.len() / 8;
+        let (first, count) = shape.place(k);
+        for z in 0..count[2] {
+            for y in 0..count[1] {
+                let n = (z * shape.block[1] + y) * shape.block[0];
+                let at = ((first[2] + z) * shape.size[1] + first[1] + y) * shape.size[0] + first[0];
+                let row = &mut raw[8 * at..8 * (at + count[0])];
+                for (x, voxel) in row.chunks_exact_mut(8).enumerate() {
+                    let index = if bits == 0 {
+                        0
+                    } else {
+                        let bit = (n + x) * bits;
+                        (word(values, bit / 32) >> (bit % 32) & u32::MAX >> (32 - bits)) as usize
+                    };
+                    if index >= room {
+                        return false;
+                    }
+                    voxel.copy_from_slice(&table[8 * index..8 * index + 8]);
+                }
+            }
+        }
+    }
+    true
+}
+
+fn mix(n: u64) -> u64 {
+    let n = (n ^ n >> 30).wrapping_mul(0xbf58476d1ce4e5b9);
+    let n = (n ^ n >> 27).wrapping_mul(0x94d049bb133111eb);
+    n ^ n >> 31
+}
+
+fn value_at(kind: &str, n: u64) -> u64 {
+    let [x, y, z] = [n % 64, n / 64 % 64, n / 4096];
+    if kind.ends_with("labels") {
+        1000 + (x / 19 + y / 19 * 4 + z / 19 * 16) % 40
+    } else if kind.ends_with("noise") {
+        5000 + mix(n) % (2 + (x / 8 + y / 8 * 8 + z / 8 * 64) % 29)
+    } else {
+        mix(n) % (1 << 24)
+    }
+}
+
+fn sum_bytes(bytes: &[u8]) -> u64 {
+    bytes
+        .iter()
+        .fold(0u64, |sum, &b| sum.wrapping_mul(31).wrapping_add(b as u64))
+}
+
+fn main() {
+    let mut words = env::args().skip(1);
+    while let Some(kind) = words.next() {
+        let count: u64 = words.next().and_then(|word| word.parse().ok()).unwrap_or(1);
+        let shape = match kind.as_str() {
+            "short" => Shape { size: [65536, 1, 1], block: [1; 3] },
+            "long" => Shape { size: [1048576, 1, 1], block: [1; 3] },
+            _ => Shape { size: [64; 3], block: [8; 3] },
+        };
+        let voxels: usize = shape.size.iter().product();
+        let raw: Vec<u8> = (0..voxels as u64)
+            .flat_map(|n| value_at(&kind, n).to_le_bytes())
+            .collect();
+        let mut out = vec![0; 4 + 16 * voxels];
+        let mut scratch = reserve(&shape);
+        let mut len = 0;
+        let writes = if kind.starts_with("decode") { 1 } else { count };
+        for _ in 0..writes {
+            len = encode(&raw, &shape, &mut scratch, &mut out);
+        }
+        let sum = if kind.starts_with("decode") {
+            let mut read = vec![0; raw.len()];
+            let sound = (0..count)
+                .filter(|_| decode(&out[..len], &shape, &mut read))
+                .count();
+            sum_bytes(&read).wrapping_add(sound as u64)
+        } else {
+            sum_bytes(&out[..len])
+        };
+        println!("{kind} {count} {sum}");
+    }
+}

@@ -1,0 +1,210 @@
+//! Segmentation chunks read and written, for measuring. The words are pairs of a kind and a count: `decode` or
+//! `encode` with `-labels` or `-noise` behind it, of a chunk of 64 x 64 x 64 wide values in blocks of 8 x 8 x 8; or
+//! `short` or `long`, to write a chunk of blocks of one voxel. Each pair's line has the sum of the bytes made.
+#![tactic(auto)]
+
+ghost use Rattle.std.specs.Prelude.{◌≡◌, ◌*◌, ◌≤◌, ◌^◌, IfOk, length};
+ghost use Rattle.vol_spec.specs.SegBlocks.{raw_len};
+ghost use Rattle.vol_spec.specs.SegShapes.{sizes_of};
+ghost use Rattle.vol_spec.specs.SegSizes.{encoded_limit, padded_in};
+ghost use Rattle.segment_blocks.specs.Reserved.{sizes_for};
+
+use byteorder::{ByteOrder, LittleEndian};
+use segment_blocks::{Scratch, SegShape, decode, encode};
+use std::alloc::{AllocError, Global};
+use std::{env, io};
+use vol_base::OutOfMemory;
+
+// What the values of a chunk are.
+#[derive(Clone, Copy)]
+enum Values {
+    // forty labels in pieces that cut the blocks
+    Labels,
+    // 2 to 30 labels in each block, at every voxel another
+    Noise,
+    // mostly other values
+    Many,
+}
+
+fn cube() -> SegShape
+    ensures raw { raw_len (sizes_of result) ≡ 2097152 }
+    ensures limit { encoded_limit (sizes_of result) ≡ 4194308 }
+    ensures padded { padded_in (sizes_of result) ≤ 2 ^ 22 }
+{
+    SegShape {
+        size: [64, 64, 64],
+        block: [8, 8, 8],
+        channels: 1,
+        wide: true,
+    }
+}
+
+fn short_line() -> SegShape
+    ensures raw { raw_len (sizes_of result) ≡ 524288 }
+    ensures limit { encoded_limit (sizes_of result) ≡ 1048580 }
+    ensures padded { padded_in (sizes_of result) ≤ 2 ^ 22 }
+{
+    SegShape {
+        size: [65536, 1, 1],
+        block: [1, 1, 1],
+        channels: 1,
+        wide: true,
+    }
+}
+
+fn long_line() -> SegShape
+    ensures raw { raw_len (sizes_of result) ≡ 8388608 }
+    ensures limit { encoded_limit (sizes_of result) ≡ 16777220 }
+    ensures padded { padded_in (sizes_of result) ≤ 2 ^ 22 }
+{
+    SegShape {
+        size: [1048576, 1, 1],
+        block: [1, 1, 1],
+        channels: 1,
+        wide: true,
+    }
+}
+
+fn mix(n: u64) -> u64 {
+    let n = (n ^ (n >> 30)).wrapping_mul(0xbf58476d1ce4e5b9);
+    let n = (n ^ (n >> 27)).wrapping_mul(0x94d049bb133111eb);
+    n ^ (n >> 31)
+}
+
+fn value_at(values: Values, n: u64) -> u64 {
+    let x = n % 64;
+    let y = n / 64 % 64;
+    let z = n / 4096;
+    match values {
+        Values::Labels => 1000 + (x / 19 + y / 19 * 4 + z / 19 * 16) % 40,
+        Values::Noise => 5000 + mix(n) % (2 + (x / 8 + y / 8 * 8 + z / 8 * 64) % 29),
+        Values::Many => mix(n) % (1 << 24),
+    }
+}
+
+fn fill(raw: &mut [u8], values: Values) {
+    for n in 0..raw.len() / 8 {
+        LittleEndian::write_u64(&mut raw[8 * n..], value_at(values, n as u64));
+    }
+}
+
+fn zeros(alloc: Global, len: usize) -> Result<Vec<u8>, OutOfMemory>
+    ensures { IfOk result (λ v. length v.items ≡ len) }
+{
+    match take_zeros(alloc, len) {
+        Ok(bytes) => Ok(bytes),
+        Err(_) => Err(OutOfMemory),
+    }
+}
+
+fn take_zeros(alloc: Global, len: usize) -> Result<Vec<u8>, AllocError>
+    ensures { IfOk result (λ v. length v.items ≡ len) }
+{
+    vec![in alloc; 0u8; len]
+}
+
+fn sum_bytes(bytes: &[u8]) -> u64 {
+    let mut sum = 0u64;
+    for byte in bytes {
+        sum = sum.wrapping_mul(31).wrapping_add(*byte as u64);
+    }
+    sum
+}
+
+// Writes a chunk so often; the length of the last.
+fn encode_often(
+    shape: &SegShape,
+    raw: &[u8],
+    scratch: &mut Scratch,
+    out: &mut [u8],
+    count: u64,
+) -> usize
+    requires limit { padded_in (sizes_of shape.now) ≤ 2 ^ 22 }
+    requires scratch { sizes_for scratch.old ≡ sizes_of shape.now }
+    requires raw { length raw.now ≡ raw_len (sizes_of shape.now) }
+    requires out { encoded_limit (sizes_of shape.now) ≤ length out.old }
+    ensures { result ≤ length out.old }
+{
+    let mut len = 0;
+    for _ in 0..count {
+        len = encode(raw, shape, scratch, out);
+    }
+    len
+}
+
+// The sum of the bytes of a chunk that was written so often.
+fn sum_encoded(
+    alloc: Global,
+    shape: &SegShape,
+    raw_bytes: usize,
+    limit: usize,
+    values: Values,
+    count: u64,
+) -> Result<u64, OutOfMemory>
+    requires padded { padded_in (sizes_of shape.now) ≤ 2 ^ 22 }
+    requires raw { raw_bytes ≡ raw_len (sizes_of shape.now) }
+    requires out { limit ≡ encoded_limit (sizes_of shape.now) }
+{
+    let mut raw = zeros(alloc, raw_bytes)?;
+    let mut out = zeros(alloc, limit)?;
+    fill(&mut raw, values);
+    let mut scratch = Scratch::reserve(alloc, shape)?;
+    let len = encode_often(shape, &raw, &mut scratch, &mut out, count);
+    Ok(sum_bytes(&out[..len]))
+}
+
+// Reads a chunk so often; how often it was sound.
+fn decode_often(shape: &SegShape, bytes: &[u8], raw: &mut [u8], count: u64) -> u64
+    requires { length raw.old ≡ raw_len (sizes_of shape.now) }
+{
+    let mut sound = 0u64;
+    for _ in 0..count {
+        if decode(bytes, shape, raw).is_ok() {
+            sound = sound.wrapping_add(1);
+        }
+    }
+    sound
+}
+
+// The sum of the values of a chunk that was read so often.
+fn sum_decoded(alloc: Global, values: Values, count: u64) -> Result<u64, OutOfMemory> {
+    let shape = cube();
+    let mut raw = zeros(alloc, 2097152)?;
+    let mut out = zeros(alloc, 4194308)?;
+    fill(&mut raw, values);
+    let mut scratch = Scratch::reserve(alloc, &shape)?;
+    let len = encode_often(&shape, &raw, &mut scratch, &mut out, 1);
+    let mut read = zeros(alloc, 2097152)?;
+    let sound = decode_often(&shape, &out[..len], &mut read, count);
+    Ok(sum_bytes(&read).wrapping_add(sound))
+}
+
+fn sum_of(alloc: Global, kind: &str, count: u64) -> Result<u64, OutOfMemory> {
+    match kind {
+        "decode-labels" => sum_decoded(alloc, Values::Labels, count),
+        "decode-noise" => sum_decoded(alloc, Values::Noise, count),
+        "encode-labels" => sum_encoded(alloc, &cube(), 2097152, 4194308, Values::Labels, count),
+        "encode-noise" => sum_encoded(alloc, &cube(), 2097152, 4194308, Values::Noise, count),
+        "short" => sum_encoded(alloc, &short_line(), 524288, 1048580, Values::Many, count),
+        _ => sum_encoded(alloc, &long_line(), 8388608, 16777220, Values::Many, count),
+    }
+}
+
+// The words name at most so many kinds.
+const MOST: u32 = 16;
+
+fn main(rt: HostRuntime) -> io::Result<()> {
+    let mut words = env::args(&rt)?;
+    words.next();
+    for _ in 0..MOST {
+        let Some(kind) = words.next() else {
+            break;
+        };
+        let count = words.next().and_then(|word| word.parse().ok()).unwrap_or(1);
+        match sum_of(rt.alloc(), kind.as_str(), count) {
+            Ok(sum) => println!(&rt; "{kind} {count} {sum}")?,
+            Err(_) => println!(&rt; "{kind} {count} out of memory")?,
+        }
+    }
+    Ok(())
+}

@@ -1,0 +1,11 @@
+pub mod Filled
+pub mod Hashes
+pub mod Located
+pub mod Placed
+pub mod Row
+pub mod Reserved
+pub mod Rooms
+pub mod Shape
+pub mod Stored
+pub mod Voxels
+pub mod Whole

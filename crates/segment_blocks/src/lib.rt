@@ -1,0 +1,25 @@
+//! Segmentation chunks: blocks of packed indices into tables of values (precomputed volume format,
+//! compressed_segmentation encoding).
+#![tactic(auto)]
+
+mod append;
+mod block;
+mod hashes;
+mod header;
+mod locate;
+mod pack;
+mod reading;
+mod room;
+mod row;
+mod scratch;
+mod table;
+#[cfg(test)]
+mod tests;
+mod voxels;
+mod word;
+mod writing;
+
+pub use reading::decode;
+pub use scratch::Scratch;
+pub use vol_spec::SegShape;
+pub use writing::encode;

@@ -1,0 +1,419 @@
+//! Chunks of known words: sound ones and damaged ones.
+ghost use Rattle.std.specs.Prelude.{◌≡◌, ◌≤◌, ◌^◌, IfOk, IfSome, length};
+ghost use Rattle.vol_spec.specs.SegBlocks.{raw_len};
+ghost use Rattle.vol_spec.specs.SegShapes.{sizes_of};
+ghost use Rattle.vol_spec.specs.SegSizes.{padded_in};
+
+mod plain;
+
+use crate::{Scratch, SegShape, decode, encode};
+use byteorder::{ByteOrder, LittleEndian};
+use plain::{plain_fault, plain_value};
+use std::alloc::{AllocError, Global};
+use std::process::Abort;
+use std::test::Fail;
+use vol_base::{ChunkFault, OutOfMemory};
+
+// A chunk of one or two channels: its sizes, its words, and the values that they say.
+struct Known {
+    size: [u64; 3],
+    block: [u64; 3],
+    channels: u32,
+    wide: bool,
+    words: &'static [u32],
+    values: &'static [u64],
+}
+
+// Spelled as this writer does. The words were found by hand or by another program.
+const SPELLED: [Known; 11] = [
+    // one bit
+    Known {
+        size: [2, 1, 1],
+        block: [2, 1, 1],
+        channels: 1,
+        wide: false,
+        words: &[1, 0x01000003, 2, 2, 7, 9],
+        values: &[7, 9],
+    },
+    // no bits
+    Known {
+        size: [2, 1, 1],
+        block: [2, 1, 1],
+        channels: 1,
+        wide: false,
+        words: &[1, 2, 2, 5],
+        values: &[5, 5],
+    },
+    // two bits, and a block that x clips
+    Known {
+        size: [3, 2, 1],
+        block: [2, 2, 1],
+        channels: 1,
+        wide: false,
+        words: &[1, 0x02000005, 4, 0x01000009, 8, 164, 1, 2, 4, 4, 3, 5],
+        values: &[1, 2, 3, 4, 4, 5],
+    },
+    // a shared table
+    Known {
+        size: [4, 1, 1],
+        block: [2, 1, 1],
+        channels: 1,
+        wide: false,
+        words: &[1, 0x01000005, 4, 0x01000005, 7, 2, 7, 9, 1],
+        values: &[7, 9, 9, 7],
+    },
+    // wide values
+    Known {
+        size: [2, 1, 1],
+        block: [2, 1, 1],
+        channels: 1,
+        wide: true,
+        words: &[1, 0x01000003, 2, 1, 3, 0, 1, 1],
+        values: &[4294967297, 3],
+    },
+    // two channels
+    Known {
+        size: [2, 1, 1],
+        block: [2, 1, 1],
+        channels: 2,
+        wide: false,
+        words: &[2, 7, 0x01000003, 2, 2, 7, 9, 2, 2, 9],
+        values: &[7, 9, 9, 9],
+    },
+    // four bits
+    Known {
+        size: [5, 1, 1],
+        block: [5, 1, 1],
+        channels: 1,
+        wide: false,
+        words: &[1, 0x04000003, 2, 135940, 10, 20, 30, 40, 50],
+        values: &[50, 10, 40, 20, 30],
+    },
+    // eight bits
+    Known {
+        size: [17, 1, 1],
+        block: [17, 1, 1],
+        channels: 1,
+        wide: false,
+        words: &[
+            1, 0x08000007, 2, 0x0f0a0500, 0x010d0803, 0x04100b06, 0x07020e09, 12, 0, 1, 2, 3, 4, 5,
+            6, 7, 8, 9, 10, 11, 12, 13, 14, 15, 16,
+        ],
+        values: &[0, 5, 10, 15, 3, 8, 13, 1, 6, 11, 16, 4, 9, 14, 2, 7, 12],
+    },
+    // blocks of one voxel
+    Known {
+        size: [3, 1, 1],
+        block: [1, 1, 1],
+        channels: 1,
+        wide: false,
+        words: &[1, 6, 6, 7, 7, 6, 8, 5, 6],
+        values: &[5, 6, 5],
+    },
+    // a block that y clips
+    Known {
+        size: [1, 3, 1],
+        block: [1, 2, 1],
+        channels: 1,
+        wide: false,
+        words: &[1, 0x01000005, 4, 7, 7, 1, 7, 8, 9],
+        values: &[8, 7, 9],
+    },
+    // a block that z clips
+    Known {
+        size: [2, 1, 3],
+        block: [2, 1, 2],
+        channels: 1,
+        wide: true,
+        words: &[
+            1, 0x02000005, 4, 0x0100000c, 11, 161, 7, 0, 8, 0, 9, 0, 2, 7, 0, 0, 256,
+        ],
+        values: &[8, 7, 9, 9, 7, 1099511627776],
+    },
+];
+
+// Spelled otherwise: two channels that share their bytes, 32 bits to an index, and a word that nothing refers to.
+const OTHERS: [Known; 3] = [
+    Known {
+        size: [1, 1, 1],
+        block: [1, 1, 1],
+        channels: 2,
+        wide: false,
+        words: &[2, 2, 2, 2, 7],
+        values: &[7, 7],
+    },
+    Known {
+        size: [2, 1, 1],
+        block: [2, 1, 1],
+        channels: 1,
+        wide: false,
+        words: &[1, 0x20000004, 2, 1, 0, 7, 9],
+        values: &[9, 7],
+    },
+    Known {
+        size: [2, 1, 1],
+        block: [2, 1, 1],
+        channels: 1,
+        wide: false,
+        words: &[1, 0x01000004, 3, 8, 2, 7, 9],
+        values: &[7, 9],
+    },
+];
+
+// A small shape.
+fn shape(size: [u64; 3], block: [u64; 3], channels: u32, wide: bool) -> Option<SegShape>
+    ensures { IfSome result (λ s. padded_in (sizes_of s) ≤ 2 ^ 20) }
+{
+    for axis in 0..3 {
+        if size[axis] < 1 || size[axis] > 32 || block[axis] < 1 || block[axis] > 32 {
+            return None;
+        }
+    }
+    if channels < 1 || channels > 4 {
+        return None;
+    }
+    Some(SegShape {
+        size,
+        block,
+        channels,
+        wide,
+    })
+}
+
+// The bytes of the chunk's values.
+fn count_bytes(shape: &SegShape) -> usize
+    ensures { result ≡ raw_len (sizes_of shape.now) }
+{
+    let [x, y, z] = shape.size;
+    let width = if shape.wide { 8 } else { 4 };
+    (x * y * z) as usize * shape.channels as usize * width
+}
+
+fn words_to_bytes(alloc: Global, words: &[u32]) -> Result<Vec<u8>, AllocError> {
+    let mut bytes = Vec::new(alloc);
+    for word in words {
+        bytes.extend_from_slice(&word.to_le_bytes())?;
+    }
+    Ok(bytes)
+}
+
+fn bytes_to_values(alloc: Global, raw: &[u8], wide: bool) -> Result<Vec<u64>, AllocError> {
+    let mut values = Vec::new(alloc);
+    if wide {
+        for value in raw.chunks_exact(8) {
+            values.push(LittleEndian::read_u64(value))?;
+        }
+    } else {
+        for value in raw.chunks_exact(4) {
+            values.push(LittleEndian::read_u32(value) as u64)?;
+        }
+    }
+    Ok(values)
+}
+
+// The values of a chunk, or its fault.
+fn decoded(
+    alloc: Global,
+    bytes: &[u8],
+    shape: &SegShape,
+) -> Result<Result<Vec<u64>, ChunkFault>, AllocError> {
+    let mut raw = vec![in alloc; 0u8; count_bytes(shape)]?;
+    match decode(bytes, shape, &mut raw) {
+        Ok(()) => Ok(Ok(bytes_to_values(alloc, &raw, shape.wide)?)),
+        Err(fault) => Ok(Err(fault)),
+    }
+}
+
+fn test_known(rt: &impl Abort, alloc: Global, known: &Known) -> Result<(), Fail> {
+    let shape = shape(known.size, known.block, known.channels, known.wide).ok_or("shape")?;
+    let bytes = words_to_bytes(alloc, known.words)?;
+    let values = decoded(alloc, &bytes, &shape)?.ok().ok_or("fault")?;
+    assert_eq!(rt; values.as_slice(), known.values);
+    Ok(())
+}
+
+#[test]
+fn decodes_known_words(rt: HostRuntime) -> Result<(), Fail> {
+    for known in &SPELLED {
+        test_known(&rt, rt.alloc(), known)?;
+    }
+    for known in &OTHERS {
+        test_known(&rt, rt.alloc(), known)?;
+    }
+    Ok(())
+}
+
+fn zeros(alloc: Global, len: usize) -> Result<Vec<u8>, AllocError>
+    ensures { IfOk result (λ v. length v.items ≡ len) }
+{
+    vec![in alloc; 0u8; len]
+}
+
+fn values_to_raw(alloc: Global, values: &[u64], wide: bool) -> Result<Vec<u8>, AllocError> {
+    let width = if wide { 8 } else { 4 };
+    let mut raw = Vec::new(alloc);
+    for value in values {
+        raw.extend_from_slice(&value.to_le_bytes()[..width])?;
+    }
+    Ok(raw)
+}
+
+// The most bytes that a small shape's chunk takes.
+const MOST: usize = 4096 + (16 << 20);
+
+fn most_zeros(alloc: Global) -> Result<Vec<u8>, OutOfMemory>
+    ensures { IfOk result (λ v. length v.items ≡ MOST) }
+{
+    match zeros(alloc, MOST) {
+        Ok(out) => Ok(out),
+        Err(_) => Err(OutOfMemory),
+    }
+}
+
+fn encoded(alloc: Global, shape: &SegShape, raw: &[u8]) -> Result<Vec<u8>, OutOfMemory>
+    requires limit { padded_in (sizes_of shape.now) ≤ 2 ^ 20 }
+    requires raw { length raw.now ≡ raw_len (sizes_of shape.now) }
+{
+    let mut out = most_zeros(alloc)?;
+    let mut scratch = Scratch::reserve(alloc, shape)?;
+    let len = encode(raw, shape, &mut scratch, &mut out);
+    out.truncate(len);
+    Ok(out)
+}
+
+#[test]
+fn encodes_known_words(rt: HostRuntime) -> Result<(), Fail> {
+    for known in &SPELLED {
+        let shape = shape(known.size, known.block, known.channels, known.wide).ok_or("shape")?;
+        let raw = values_to_raw(rt.alloc(), known.values, known.wide)?;
+        assert_eq!(rt; raw.len(), count_bytes(&shape));
+        let bytes = encoded(rt.alloc(), &shape, &raw).ok().ok_or("memory")?;
+        let wanted = words_to_bytes(rt.alloc(), known.words)?;
+        assert_eq!(rt; bytes.as_slice(), wanted.as_slice());
+    }
+    Ok(())
+}
+
+// Values that rise from 0 in one block: 288 of them take 16 bits to an index.
+#[test]
+fn encodes_sixteen_bits(rt: HostRuntime) -> Result<(), Fail> {
+    let shape = shape([32, 9, 1], [32, 9, 1], 1, false).ok_or("shape")?;
+    let mut words = vec![in rt.alloc(); 1u32, 0x10000000 + 146, 2]?;
+    for n in 0..144u32 {
+        words.push(2 * n + ((2 * n + 1) << 16))?;
+    }
+    let mut values = Vec::new(rt.alloc());
+    for n in 0..288u32 {
+        words.push(n)?;
+        values.push(n as u64)?;
+    }
+    let raw = values_to_raw(rt.alloc(), &values, false)?;
+    assert_eq!(rt; raw.len(), count_bytes(&shape));
+    let bytes = encoded(rt.alloc(), &shape, &raw).ok().ok_or("memory")?;
+    let wanted = words_to_bytes(rt.alloc(), &words)?;
+    assert_eq!(rt; bytes.as_slice(), wanted.as_slice());
+    let read = decoded(rt.alloc(), &bytes, &shape)?.ok().ok_or("fault")?;
+    assert_eq!(rt; read, values);
+    Ok(())
+}
+
+#[test]
+fn tells_the_first_fault(rt: HostRuntime) -> Result<(), Fail> {
+    let pair = shape([2, 1, 1], [2, 1, 1], 1, false).ok_or("shape")?;
+    let clipped = shape([1, 1, 1], [2, 1, 1], 1, false).ok_or("shape")?;
+    let double = shape([1, 1, 1], [1, 1, 1], 2, false).ok_or("shape")?;
+    let cases: [(&SegShape, &[u32], Result<&[u64], ChunkFault>); 9] = [
+        // bits 3
+        (
+            &pair,
+            &[1, 0x03000003, 2, 2, 7, 9],
+            Err(ChunkFault::SegBits {
+                c: 0,
+                b: 0,
+                bits: 3,
+            }),
+        ),
+        // the last word is missing
+        (
+            &pair,
+            &[1, 0x01000003, 2, 2, 7],
+            Err(ChunkFault::SegTable { c: 0, b: 0, n: 1 }),
+        ),
+        // the indices are far away
+        (
+            &pair,
+            &[1, 0x01000003, 5, 2, 7, 9],
+            Err(ChunkFault::SegValues { c: 0, b: 0 }),
+        ),
+        (
+            &pair,
+            &[5, 0x01000003, 2, 2, 7, 9],
+            Err(ChunkFault::SegChannel { c: 0 }),
+        ),
+        (&pair, &[0xffffffff], Err(ChunkFault::SegChannel { c: 0 })),
+        (&pair, &[], Err(ChunkFault::SegLength { found: 0 })),
+        // the index of padding isn't judged
+        (&clipped, &[1, 0x01000003, 2, 2, 7], Ok(&[7])),
+        // a table fault of the first channel comes before the second channel
+        (
+            &double,
+            &[2, 9, 9, 2],
+            Err(ChunkFault::SegTable { c: 0, b: 0, n: 0 }),
+        ),
+        (&double, &[2, 9, 1, 2], Err(ChunkFault::SegChannel { c: 1 })),
+    ];
+    for (shape, words, wanted) in &cases {
+        let bytes = words_to_bytes(rt.alloc(), words)?;
+        let found = decoded(rt.alloc(), &bytes, shape)?;
+        match (&found, wanted) {
+            (Ok(values), Ok(wanted)) => assert_eq!(rt; values.as_slice(), *wanted),
+            (Err(fault), Err(wanted)) => assert_eq!(rt; fault, wanted),
+            _ => assert!(rt; false, "{words:?}"),
+        }
+    }
+    let odd = words_to_bytes(rt.alloc(), &[1, 0x01000003, 2, 2, 7, 9])?;
+    let found = decoded(rt.alloc(), &odd[..odd.len().min(23)], &pair)?;
+    assert_eq!(rt; found.err(), Some(ChunkFault::SegLength { found: 23 }));
+    Ok(())
+}
+
+// Compares what is read of a chunk with what is read of it plainly.
+fn compare(rt: &impl Abort, alloc: Global, bytes: &[u8], shape: &SegShape) -> Result<(), Fail> {
+    match decoded(alloc, bytes, shape)? {
+        Ok(values) => {
+            assert_eq!(rt; plain_fault(bytes, shape), None);
+            for (n, value) in values.iter().enumerate() {
+                assert_eq!(rt; plain_value(bytes, shape, n as u64), *value);
+            }
+        }
+        Err(fault) => assert_eq!(rt; plain_fault(bytes, shape), Some(fault)),
+    }
+    Ok(())
+}
+
+// What a word may be changed to: small places, headers of each count of bits, and the ends.
+const DAMAGES: [u32; 16] = [
+    0, 1, 2, 3, 4, 5, 7, 9, 0x01000002, 0x02000001, 0x03000005, 0x04000007, 0x08000000, 0x10000005,
+    0x20000002, 0xffffffff,
+];
+
+fn damage_words(rt: &impl Abort, alloc: Global, known: &Known) -> Result<(), Fail> {
+    let shape = shape(known.size, known.block, known.channels, known.wide).ok_or("shape")?;
+    for at in 0..known.words.len() {
+        for damage in DAMAGES {
+            let mut words = known.words.to_vec(alloc)?;
+            assert!(rt; at < words.len());
+            words[at] = damage;
+            compare(rt, alloc, &words_to_bytes(alloc, &words)?, &shape)?;
+        }
+    }
+    Ok(())
+}
+
+#[test]
+fn reads_damaged_words_as_a_plain_program_does(rt: HostRuntime) -> Result<(), Fail> {
+    damage_words(&rt, rt.alloc(), &SPELLED[2])?;
+    damage_words(&rt, rt.alloc(), &SPELLED[4])?;
+    damage_words(&rt, rt.alloc(), &SPELLED[5])?;
+    Ok(())
+}
