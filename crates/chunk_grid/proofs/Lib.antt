@@ -1,9 +1,13 @@
 pub mod AxisSteps
 pub mod BlockSteps
+pub mod CountSteps
 pub mod GridSteps
 pub mod LayoutSteps
 pub mod ListSteps
 pub mod ListingSteps
 pub mod MeetSteps
+pub mod NameSteps
+pub mod OrderSteps
+pub mod StoredSteps
 pub mod TextSteps
 pub mod WalkSteps

@@ -54,16 +54,16 @@ Meets-from s b cell e =
     )
 
 -- the cells of the grid by their numbers
-abbrev whole_count : Scale → List ℕ
+abbrev pub whole_count : Scale → List ℕ
 whole_count s = cells_on s 0 ∷ cells_on s 1 ∷ cells_on s 2 ∷ []
 
-abbrev all_cells : Scale → ℕ → List ℕ
+abbrev pub all_cells : Scale → ℕ → List ℕ
 all_cells s = cell_by_number (0 ∷ 0 ∷ 0 ∷ []) (whole_count s)
 
-abbrev all_count : Scale → ℕ
+abbrev pub all_count : Scale → ℕ
 all_count s = cells_on s 0 * cells_on s 1 * cells_on s 2
 
-numbered : (s : Scale) → numbers_on (cells_on s) ≡ map (all_cells s) (range_with_len 0 (all_count s))
+pub numbered : (s : Scale) → numbers_on (cells_on s) ≡ map (all_cells s) (range_with_len 0 (all_count s))
 numbered s = product_numbers 0 0 0 (cells_on s 0) (cells_on s 1) (cells_on s 2)
 
 some_cells : (s : Scale) (axis : ℕ) → axis < 3 → 1 ≤ (slice_index s.size axis + slice_index s.chunk axis - 1) / slice_index s.chunk axis
@@ -76,7 +76,7 @@ All-numbers P f n h k d l =
     let at_k : 0 + k ≡ k = omega arith in
     subst P (sym (get_or-map-range_with_len f 0 n k k d below at_k)) (h k below)
 
-AllPairs-numbers : {X : Type 0} (R : X → X → Type 0) (f : ℕ → X) (n : ℕ) → ((i j : ℕ) → i < j → j < n → R (f i) (f j)) → AllPairs R (map f (range_with_len 0 n))
+pub AllPairs-numbers : {X : Type 0} (R : X → X → Type 0) (f : ℕ → X) (n : ℕ) → ((i j : ℕ) → i < j → j < n → R (f i) (f j)) → AllPairs R (map f (range_with_len 0 n))
 AllPairs-numbers R f n h i j d l m =
     let below : j < n = omega (arith, m, length-map-range_with_len f 0 n) in
     let at_i : 0 + i ≡ i = omega arith in
@@ -96,7 +96,7 @@ kept : {X : Type 0} (b : Bool) (y : X) (xs : List X) (x : X) → Contains xs x �
 kept true y xs x h = Contains-cons y xs x h
 kept false y xs x h = h
 
-Contains-filter : {X : Type 0} (p : X → Bool) (xs : List X) (x : X) → Contains xs x → p x ≡ true → Contains (filter p xs) x
+pub Contains-filter : {X : Type 0} (p : X → Bool) (xs : List X) (x : X) → Contains xs x → p x ≡ true → Contains (filter p xs) x
 Contains-filter p [] x (k, l, e) h = absurd (omega arith)
 Contains-filter p (y ∷ ys) x (zero, l, e) h = rw (e, h) (zero, omega arith, refl)
 Contains-filter p (y ∷ ys) x (suc k, l, e) h = kept (p y) y (filter p ys) x (Contains-filter p ys x (k, omega arith, e) h)

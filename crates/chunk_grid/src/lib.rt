@@ -4,6 +4,7 @@
 mod boxes;
 mod layout;
 mod listing;
+mod stored;
 #[cfg(test)]
 mod tests;
 mod text;
@@ -12,5 +13,6 @@ mod walk;
 pub use boxes::{cell_box, cell_of, grid, inside, whole};
 pub use layout::{byte_len, local_index};
 pub use listing::{cells, count_cells, tell_cells};
+pub use stored::tell_stored;
 pub use text::object_name;
 pub use walk::CellWalk;

@@ -3,10 +3,12 @@
 
 mod axes;
 mod boxes;
+mod common;
 mod length;
 mod source;
 #[cfg(test)]
 mod tests;
 
 pub use boxes::{copy_box, fill_box};
+pub use common::common_part;
 pub use length::check_len;

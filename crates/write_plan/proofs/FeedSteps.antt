@@ -132,3 +132,11 @@ pub write_gave : (s : Scale) (i before : ℕ) (o p r : Option (List ℕ)) (b : B
 unfolding write_at
 write_gave s i before o p r b len bytes g q h =
     gave_then (box_at s i before) _ o p b g ∙ gave_then (front (raw_len b s.channels s.width) (Truncated i)) _ p r bytes (subst (λ n. Gave (front n (Truncated i)) p r bytes) q h)
+
+pub if_some_any : {A : Type 0} (o : Option A) (P : A → Type 0) → ((x : A) → P x) → IfSome o P
+if_some_any None P h = tt
+if_some_any (Some x) P h = h x
+
+-- a buffer that was filled in whole
+pub whole_buffer : (n : ℕ) (buffer items : List ℕ) → length buffer ≡ length items → length items ≡ n → take n (buffer ++ drop (length buffer) items) ≡ buffer
+whole_buffer n buffer items e l = grind (arith, common_steps)

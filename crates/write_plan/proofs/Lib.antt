@@ -1,4 +1,12 @@
 pub mod BoxSteps
 pub mod FeedSteps
+pub mod FillSteps
+pub mod FoundSteps
 pub mod ListSteps
+pub mod NumberSteps
+pub mod OrderSteps
+pub mod PlanSteps
+pub mod RunSteps
+pub mod SizeSteps
+pub mod WalkedSteps
 pub mod WholeSteps

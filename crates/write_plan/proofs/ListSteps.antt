@@ -11,7 +11,7 @@ use Rattle.write_plan.specs.declared.fault.PlanFault.{PlanFault}
 use Rattle.write_plan.specs.declared.writes.Write.{Write}
 use Rattle.write_plan.proofs.FeedSteps.{gave_then, refused_first, refused_along}
 
-sum_last : (xs : List ℕ) (x : ℕ) → sum (xs ++ x ∷ []) ≡ sum xs + x
+pub sum_last : (xs : List ℕ) (x : ℕ) → sum (xs ++ x ∷ []) ≡ sum xs + x
 sum_last xs x = grind (arith, common_steps)
 
 pub total_last : (ws : List BoxWrite) (w : BoxWrite) → total (ws ++ w ∷ []) ≡ total ws + length w.1

@@ -39,7 +39,7 @@ no_width (inr (inl h)) = cc h
 no_width (inr (inr (inl h))) = cc h
 no_width (inr (inr (inr h))) = cc h
 
-some_width : (w : ℕ) → ∥ IsWidth w ∥₁ → 0 < w
+pub some_width : (w : ℕ) → ∥ IsWidth w ∥₁ → 0 < w
 some_width zero h = absurd (not_there h no_width)
 some_width (suc n) h = omega arith
 

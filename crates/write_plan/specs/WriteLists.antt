@@ -1,5 +1,5 @@
 -- Writes of boxes.
-use Rattle.std.specs.Prelude.{◌≡◌, ℕ, ◌<◌, ◌≤◌, ◌^◌, List, length, map, sum}
+use Rattle.std.specs.Prelude.{◌≡◌, ℕ, ◌<◌, ◌≤◌, ◌^◌, List, [], length, map, slice_index_or, sum}
 use Rattle.std.specs.List.{All}
 use Rattle.vol_base.specs.declared.boxes.Box3.{Box3}
 use Rattle.vol_base.specs.Boxes.{IsSome}
@@ -17,6 +17,10 @@ write_in w = (w.part, w.bytes.items)
 
 abbrev pub writes_in : List Write → List BoxWrite
 writes_in ws = map write_in ws
+
+-- a write of a list, by its number
+abbrev pub write_of : List BoxWrite → ℕ → BoxWrite
+write_of ws n = slice_index_or ws n (record { begin = []; size = [] }, [])
 
 -- the bytes of all values
 abbrev pub total : List BoxWrite → ℕ

@@ -2,6 +2,7 @@
 ghost use Rattle.std.specs.Prelude.{◌≡◌, ◌<◌, ◌≤◌, IsTrue, length, drop, IfOk, IfErr, IfSome, OnOk, OnErr};
 ghost use Rattle.std.specs.Option.{option_map};
 ghost use Rattle.vol_base.specs.Causes.{HasCause};
+ghost use Rattle.vol_spec.specs.Bytes.{AreBytes};
 ghost use Rattle.write_plan.specs.Stream.{front};
 ghost use Rattle.write_plan.specs.Readers.{Came, Took, Gave, Refused, HasFeedCause, of_stream};
 
@@ -37,6 +38,7 @@ pub(crate) fn read_front<F: Feed>(
 ) -> Result<(), PlanFault>
     requires { IsTrue (of_stream fault) }
     ensures gave { OnOk result (Gave (front (length buffer.old) fault) (F.left feed.old) (F.left feed.new) buffer.new) }
+    ensures bytes { AreBytes buffer.new }
     ensures refused { IfErr result (Refused (front (length buffer.old) fault) (F.left feed.old)) }
     ensures took { Took (length buffer.old) (F.left feed.old) (F.left feed.new) }
     ensures cause { HasFeedCause (F.faults feed.old) (F.faults feed.new) result }
@@ -57,6 +59,7 @@ pub(crate) fn read_values<F: Feed>(
     requires { IsTrue (of_stream fault) }
     ensures gave { IfOk result (λ bytes. Gave (front len fault) (F.left feed.old) (F.left feed.new) bytes.items) }
     ensures len { IfOk result (λ bytes. length bytes.items ≡ len) }
+    ensures bytes { IfOk result (λ bytes. AreBytes bytes.items) }
     ensures refused { IfErr result (Refused (front len fault) (F.left feed.old)) }
     ensures took { Took len (F.left feed.old) (F.left feed.new) }
     ensures cause { HasFeedCause (F.faults feed.old) (F.faults feed.new) result }

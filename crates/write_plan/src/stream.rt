@@ -5,6 +5,7 @@ ghost use Rattle.std.specs.List.{All};
 ghost use Rattle.std.specs.Option.{option_map};
 ghost use Rattle.std.specs.Result.{MatchResult};
 ghost use Rattle.std.specs.Str.{bytes_eq};
+ghost use Rattle.vol_spec.specs.Bytes.{AreBytes};
 ghost use Rattle.vol_spec.specs.Grid.{Inside};
 ghost use Rattle.vol_spec.specs.Raw.{raw_len};
 ghost use Rattle.write_plan.specs.Stream.{is_empty, is_within, magic, word, box_of, judged, box_at, write_at, writes_at, marked, count_at, writes_of};
@@ -118,6 +119,7 @@ fn read_write<F: Feed>(
     ensures gave { IfOk result (λ write. Gave (write_at scale.now number before) (F.left feed.old) (F.left feed.new) (write_in write)) }
     ensures refused { IfErr result (Refused (write_at scale.now number before) (F.left feed.old)) }
     ensures fits { IfOk result (λ write. IsWriteOf scale.now (write_in write)) }
+    ensures bytes { IfOk result (λ write. AreBytes write.bytes.items) }
     ensures small { IfOk result (λ write. before + length write.bytes.items ≤ 2 ^ 30) }
     ensures took { IfOk result (λ write. Took (48 + length write.bytes.items) (F.left feed.old) (F.left feed.new)) }
     ensures took_err { OnErr result (Took (48 + (2 ^ 30 - before)) (F.left feed.old) (F.left feed.new)) }
@@ -139,6 +141,7 @@ fn read_list<F: Feed>(
     ensures gave { IfOk result (λ writes. Gave (writes_at scale.now count []) (F.left feed.old) (F.left feed.new) (writes_in writes.items)) }
     ensures refused { IfErr result (Refused (writes_at scale.now count []) (F.left feed.old)) }
     ensures fits { IfOk result (λ writes. All (IsWriteOf scale.now) (writes_in writes.items)) }
+    ensures bytes { IfOk result (λ writes. All (λ w. AreBytes w.1) (writes_in writes.items)) }
     ensures small { IfOk result (λ writes. total (writes_in writes.items) ≤ 2 ^ 30) }
     ensures count { IfOk result (λ writes. length writes.items ≡ count) }
     ensures took { Took (48 * 65536 + 2 ^ 30) (F.left feed.old) (F.left feed.new) }
@@ -209,7 +212,7 @@ fn read_end<F: Feed>(feed: &mut F) -> Result<(), PlanFault>
 }
 
 /// The writes of a stream, or its first fault from the front; the feed is read to its end. It takes
-/// at most 2^30 + 48 * 65,536 + 9 bytes, and each read takes at least one.
+/// at most 2^30 + 48 * 65,536 + 9 bytes.
 ///
 /// # Errors
 /// `FeedFault` only where the feed failed, `OutOfMemory`, and the faults of the stream.
@@ -217,6 +220,7 @@ pub fn read_writes<F: Feed>(alloc: Global, feed: &mut F, scale: &Scale) -> Resul
     ensures exact { IfSome (F.left feed.old) (λ bytes. Answers result (writes_of bytes scale.now)) }
     ensures end { OnOk result (F.left feed.new ≡ option_map (λ _. []) (F.left feed.old)) }
     ensures fits { IfOk result (All (IsWriteOf scale.now)) }
+    ensures bytes { IfOk result (All (λ w. AreBytes w.1)) }
     ensures took { Took (2 ^ 30 + 48 * 65536 + 9) (F.left feed.old) (F.left feed.new) }
     ensures cause { HasFeedCause (F.faults feed.old) (F.faults feed.new) result }
 {

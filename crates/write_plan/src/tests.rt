@@ -1,12 +1,14 @@
 //! Streams and their answers, worked out by hand from the format.
 
-ghost use Rattle.std.specs.Prelude.{◌≤◌, ◌<◌, length};
+ghost use Rattle.std.specs.Prelude.{◌≡◌, ◌≤◌, ◌<◌, None, length};
+ghost use Rattle.vol_spec.specs.StoredCells.{met_cells};
 
-use crate::{PlanFault, read_writes};
+use crate::{Chunks, Plan, PlanFault, PlanRefusal, Writes, read_writes, window};
+use chunk_grid::{byte_len, cell_box};
 use std::alloc::{AllocError, Global};
 use std::process::Abort;
 use std::test::Fail;
-use vol_base::{Box3, MemoryFeed, Name};
+use vol_base::{Box3, MemoryFeed, MemoryStore, Name};
 use vol_spec::{Encoding, Scale};
 
 // One write of the bytes 1 to 4 to the box [0:2,0:2,0:1].
@@ -26,6 +28,7 @@ fn key(rt: &impl Abort) -> Name
 // A raw scale of bytes; sizes of 0 count as 1.
 fn sample(key: Name, size: [u16; 3], offset: [i8; 3], chunk: [u8; 3]) -> Scale
     requires { length key ≤ 200 }
+    ensures { result.sharding ≡ None }
 {
     Scale {
         key,
@@ -45,6 +48,27 @@ fn sample(key: Name, size: [u16; 3], offset: [i8; 3], chunk: [u8; 3]) -> Scale
         encoding: Encoding::Raw,
         sharding: None,
     }
+}
+
+// One voxel a cell, more cells than half of the most pairs.
+fn long_scale(key: Name) -> Scale
+    requires { length key ≤ 200 }
+    ensures { result.sharding ≡ None }
+{
+    Scale {
+        key,
+        width: 1,
+        channels: 1,
+        size: [2_097_153, 1, 1],
+        offset: [0; 3],
+        chunk: [1; 3],
+        encoding: Encoding::Raw,
+        sharding: None,
+    }
+}
+
+fn zeros(alloc: Global, len: usize) -> Result<Vec<u8>, AllocError> {
+    Ok(vec![in alloc; 0; len]?)
 }
 
 // The fault of the stream with some of its bytes exchanged and so many of them left, in pieces.
@@ -144,5 +168,173 @@ fn tells_each_failing_call(rt: HostRuntime) -> Result<(), Fail> {
         };
         assert_eq!(rt; fault, wanted, "at {number}");
     }
+    Ok(())
+}
+
+// What is handed to threads.
+fn share<T: Send + Sync>(_value: &T) {}
+
+// The stream of some writes.
+fn print_stream(alloc: Global, writes: &[(Box3, &[u8])]) -> Result<Vec<u8>, AllocError> {
+    let mut bytes = Vec::from_slice(alloc, b"PVW1")?;
+    bytes.extend_from_slice(&writes.len().to_le_bytes()[..4])?;
+    for (part, values) in writes {
+        for begin in part.begin {
+            bytes.extend_from_slice(&begin.to_le_bytes())?;
+        }
+        for size in part.size {
+            bytes.extend_from_slice(&size.to_le_bytes())?;
+        }
+        bytes.extend_from_slice(values)?;
+    }
+    Ok(bytes)
+}
+
+// The bytes of a job's cell.
+fn fill_job(alloc: Global, plan: &Plan, scale: &Scale, job: u64) -> Result<Vec<u8>, AllocError>
+    requires scale { plan.now.scale ≡ scale.now }
+    requires job { job < length (met_cells plan.now.scale plan.now.writes) }
+{
+    let part = cell_box(scale, plan.jobs().get(job).cell);
+    let len = byte_len(&part, scale.channels, scale.width) as usize;
+    let mut raw = vec![in alloc; 7; len]?;
+    plan.fill(job, &mut raw);
+    Ok(raw)
+}
+
+// The writes are these.
+fn check_writes(rt: &impl Abort, found: &Writes, writes: &[(Box3, &[u8])]) {
+    assert_eq!(rt; found.len(), writes.len());
+    for (number, (part, values)) in writes.iter().enumerate() {
+        assert!(rt; number < found.len());
+        assert_eq!(rt; found.part(number), *part);
+        assert_eq!(rt; found.bytes(number), *values);
+    }
+}
+
+// The plan has these jobs, with these bytes.
+fn check_jobs(
+    rt: &impl Abort,
+    alloc: Global,
+    plan: &Plan,
+    scale: &Scale,
+    wanted: &[([u64; 3], [u8; 4])],
+) -> Result<(), Fail>
+    requires { plan.now.scale ≡ scale.now }
+{
+    assert_eq!(rt; plan.jobs().len(), wanted.len() as u64);
+    for (job, (cell, bytes)) in wanted.iter().enumerate() {
+        assert!(rt; (job as u64) < plan.jobs().len());
+        assert_eq!(rt; plan.jobs().get(job as u64).cell, *cell);
+        let raw = fill_job(alloc, plan, scale, job as u64)?;
+        assert_eq!(rt; raw.as_slice(), bytes.as_slice());
+    }
+    Ok(())
+}
+
+// The plan of some writes has these jobs, with these bytes.
+fn check_plan(
+    rt: &impl Abort,
+    alloc: Global,
+    scale: &Scale,
+    writes: &[(Box3, &[u8])],
+    wanted: &[([u64; 3], [u8; 4])],
+) -> Result<(), Fail>
+    requires { scale.now.sharding ≡ None }
+{
+    let stream = print_stream(alloc, writes)?;
+    let mut feed = MemoryFeed::new(stream, 64, Vec::new(alloc));
+    let Ok(found) = read_writes(alloc, &mut feed, scale) else {
+        return Err("the stream has no fault".into());
+    };
+    check_writes(rt, &found, writes);
+    let Ok(mut plan) = Plan::of(alloc, scale, found) else {
+        return Err("the plan has no refusal".into());
+    };
+    let mut store = MemoryStore::new(alloc, Vec::new(alloc));
+    let count = plan.jobs().len();
+    assert_eq!(rt; plan.prepare(&mut store, 0, count), Ok(()));
+    check_jobs(rt, alloc, &plan, scale, wanted)?;
+    share(&plan);
+    share(plan.jobs());
+    share(scale);
+    Ok(())
+}
+
+fn part(begin: [i64; 3], size: [u64; 3]) -> Box3 {
+    Box3 { begin, size }
+}
+
+#[test]
+fn plans_overlapping_writes(rt: HostRuntime) -> Result<(), Fail> {
+    let alloc = rt.alloc();
+    let scale = sample(key(&rt), [4, 2, 1], [-1, 0, 0], [2, 2, 1]);
+    assert_eq!(rt; window(&scale), 256);
+    let all = (
+        part([-1, 0, 0], [4, 2, 1]),
+        [1, 2, 3, 4, 5, 6, 7, 8].as_slice(),
+    );
+    let middle = (part([0, 0, 0], [2, 1, 1]), [9, 10].as_slice());
+    let first = (part([-1, 0, 0], [1, 1, 1]), [11].as_slice());
+    let again = (part([-1, 0, 0], [1, 1, 1]), [12].as_slice());
+    let last = (part([2, 1, 0], [1, 1, 1]), [13].as_slice());
+    let left = [0, 0, 0];
+    let right = [1, 0, 0];
+    check_plan(&rt, alloc, &scale, &[], &[])?;
+    check_plan(
+        &rt,
+        alloc,
+        &scale,
+        &[all, middle],
+        &[(left, [1, 9, 5, 6]), (right, [10, 4, 7, 8])],
+    )?;
+    check_plan(
+        &rt,
+        alloc,
+        &scale,
+        &[middle, all],
+        &[(left, [1, 2, 5, 6]), (right, [3, 4, 7, 8])],
+    )?;
+    check_plan(
+        &rt,
+        alloc,
+        &scale,
+        &[first, again],
+        &[(left, [12, 0, 0, 0])],
+    )?;
+    check_plan(
+        &rt,
+        alloc,
+        &scale,
+        &[last, first],
+        &[(left, [11, 0, 0, 0]), (right, [0, 0, 0, 13])],
+    )?;
+    check_plan(
+        &rt,
+        alloc,
+        &scale,
+        &[middle, last],
+        &[(left, [0, 9, 0, 0]), (right, [10, 0, 0, 13])],
+    )?;
+    Ok(())
+}
+
+#[test]
+fn refuses_too_many_pairs(rt: HostRuntime) -> Result<(), Fail> {
+    let alloc = rt.alloc();
+    let scale = long_scale(key(&rt));
+    let values = zeros(alloc, 2_097_153)?;
+    let whole = (part([0, 0, 0], [2_097_153, 1, 1]), values.as_slice());
+    let stream = print_stream(alloc, &[whole, whole])?;
+    let mut feed = MemoryFeed::new(stream, 1 << 20, Vec::new(alloc));
+    let Ok(writes) = read_writes(alloc, &mut feed, &scale) else {
+        return Err("the stream has no fault".into());
+    };
+    share(&writes);
+    let refusal = Plan::of(alloc, &scale, writes).err();
+    assert_eq!(rt;
+        refusal,
+        Some(PlanRefusal::TooManyCells { cells: 4_194_306 })
+    );
     Ok(())
 }

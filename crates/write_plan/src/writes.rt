@@ -27,3 +27,39 @@ impl Model for Writes {
 
     ghost invariant = { λ w. AreWrites (writes_in w.items.items) };
 }
+
+impl Writes {
+    ghost use Rattle.std.specs.Prelude.{◌≡◌, ◌<◌, length};
+    ghost use Rattle.write_plan.specs.WriteLists.{AreWrites, write_of, writes_in};
+
+    /// How many writes there are.
+    pub fn len(&self) -> usize
+        ensures { result ≡ length self.now }
+    {
+        self.items.len()
+    }
+
+    /// The box of a write, by its number.
+    pub fn part(&self, write: usize) -> Box3
+        requires { write < length self.now }
+        ensures { result ≡ (write_of self.now write).0 }
+    {
+        self.items[write].part
+    }
+
+    /// The bytes of a write's values, by its number.
+    pub fn bytes(&self, write: usize) -> &[u8]
+        requires { write < length self.now }
+        ensures { result.now ≡ (write_of self.now write).1 }
+    {
+        &self.items[write].bytes
+    }
+
+    /// All writes.
+    pub(crate) fn list(&self) -> &[Write]
+        ensures writes { writes_in result.now ≡ self.now }
+        ensures limits { AreWrites self.now }
+    {
+        &self.items
+    }
+}

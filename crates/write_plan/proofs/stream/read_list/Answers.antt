@@ -5,8 +5,9 @@ use Rattle.std.proofs.lemmas.Grind.{common_steps}
 use Rattle.std.proofs.lemmas.List.{length-map}
 use Rattle.std.proofs.lemmas.List.Elements.{All-push}
 use Rattle.std.proofs.lemmas.Result.{err_from_is_err_and}
+use Rattle.vol_spec.specs.Bytes.{AreBytes}
 use Rattle.write_plan.specs.Stream.{writes_at}
-use Rattle.write_plan.specs.WriteLists.{IsWriteOf, write_in, writes_in, total}
+use Rattle.write_plan.specs.WriteLists.{BoxWrite, IsWriteOf, write_in, writes_in, total}
 use Rattle.write_plan.proofs.FeedSteps.{took_more}
 use Rattle.write_plan.proofs.ListSteps.{list_more, list_refused, list_done, total_last, writes_last}
 use Rattle.write_plan.proofs.stream.read_list.Goals as goal
@@ -25,6 +26,7 @@ loop-number-preserved g c =
       sum = omega (arith, c.len.ensures, inv.sum, t);
       small = omega (arith, c.in_ok-write.ensures.small, c.len.ensures);
       fits = subst (All (IsWriteOf s)) (sym e) (All-push (IsWriteOf s) (writes_in c.loop-number.writes.items) (write_in c.in_ok-write.write) inv.fits c.in_ok-write.ensures.fits);
+      bytes = subst (All (λ (w : BoxWrite). AreBytes w.1)) (sym e) (All-push (λ (w : BoxWrite). AreBytes w.1) (writes_in c.loop-number.writes.items) (write_in c.in_ok-write.write) inv.bytes c.in_ok-write.ensures.bytes);
       took = took_more (48 * c.loop-number.number + c.loop-number.before) (48 + length c.in_ok-write.write.bytes.items) _ _ _ _ inv.took c.in_ok-write.ensures.took (omega (arith, c.len.ensures));
       later = omega (arith, inv.later, c.read_write.ensures.cause.later);
     }

@@ -1,6 +1,7 @@
 use Rattle.std.proofs.Common.{◌≡◌, ◌+◌, ◌-◌, ◌*◌, ◌≤◌, ◌^◌, [], length}
 use Rattle.std.specs.List.{All}
 use Rattle.std.specs.Option.{option_map}
+use Rattle.vol_spec.specs.Bytes.{AreBytes}
 use Rattle.write_plan.specs.Readers.{Took}
 use Rattle.write_plan.specs.Stream.{writes_at}
 use Rattle.write_plan.specs.WriteLists.{IsWriteOf, writes_in, total}
@@ -13,6 +14,7 @@ invariant-loop-number g l = record {
   sum : l.before ≡ total (writes_in l.writes.items);
   small : l.before ≤ 2 ^ 30;
   fits : All (IsWriteOf l.scale) (writes_in l.writes.items);
+  bytes : All (λ w. AreBytes w.1) (writes_in l.writes.items);
   took : Took (48 * l.number + l.before) (g.F.Feed.left l.fn.feed) (g.F.Feed.left l.feed);
   later : g.F.Feed.faults l.fn.feed ≤ g.F.Feed.faults l.feed;
 }

@@ -1,0 +1,162 @@
+-- The jobs of a plan are the cells that its writes meet.
+use Rattle.std.proofs.Common.{◌≡◌, ◌↔◌, ℕ, ◌-◌, ◌^◌, ◌<◌, ◌≤◌, min, Some, None, IsSomeAnd, nat_lt, List, [], ◌∷◌, length, map, get_or, Bool, true, false, cond, refl, sym, ap, ◌∙◌, subst, arith}
+use Rattle.std.specs.Prelude.{◌==◌, ◌||◌, All, Contains, filter, if◌then◌else◌, slice_index_or}
+use Rattle.std.specs.List.{list_any}
+use Rattle.std.proofs.lemmas.Bool.Decides.{nat_tests}
+use Rattle.std.proofs.lemmas.List.{get_or-map, length-map}
+use Rattle.std.proofs.lemmas.List.Elements.{All-contains, All-contains_itself, All-filter, Contains-get_or, filter_passes}
+use Rattle.vol_base.specs.declared.boxes.Box3.{Box3}
+use Rattle.vol_base.specs.Outside.{Objects}
+use Rattle.vol_spec.specs.Cut.{first_some}
+use Rattle.vol_spec.specs.Grid.{cell_box, cells_on, IsCell, meets, numbers_on}
+use Rattle.vol_spec.specs.Raw.{raw_len}
+use Rattle.vol_spec.specs.StoredCells.{AreInOrder, cell_number, cell_of, met, met_cells, written_raw}
+use Rattle.vol_spec.specs.declared.scale.Scale.{Scale}
+use Rattle.chunk_grid.proofs.GridSteps.{cell_box-short}
+use Rattle.chunk_grid.proofs.ListingSteps.{Contains-numbers_on}
+use Rattle.write_plan.specs.Pairs.{ArePairs, IsPlan, run_of}
+use Rattle.write_plan.specs.Plans.{no_fault, Planned, ready_of}
+use Rattle.write_plan.specs.WriteLists.{BoxWrite, IsWriteOf}
+use Rattle.write_plan.specs.declared.pairs.Pair.{Pair}
+use Rattle.write_plan.specs.PlanLaws.{length-written, met_in_grid, met_rise}
+use Rattle.write_plan.proofs.OrderSteps.{same_rising}
+use Rattle.write_plan.proofs.RunSteps.{Contains-filter, number_from, same_number}
+
+-- a test holds of some element exactly where the filter keeps one
+one_kept : {X : Type 0} (b any : Bool) (x : X) (rest : List X) → (any ≡ true → 0 < length rest) → (b || any) ≡ true → 0 < length (cond b (x ∷ rest) rest)
+one_kept true any x rest f e = omega arith
+one_kept false any x rest f e = f e
+
+any_kept : {X : Type 0} (p : X → Bool) (xs : List X) → list_any p xs ≡ true → 0 < length (filter p xs)
+any_kept p [] e = absurd (cc e)
+any_kept p (x ∷ xs) e = one_kept (p x) (list_any p xs) x (filter p xs) (any_kept p xs) e
+
+kept_one : {X : Type 0} (b any : Bool) (x : X) (rest : List X) → (0 < length rest → any ≡ true) → 0 < length (cond b (x ∷ rest) rest) → (b || any) ≡ true
+kept_one true any x rest f l = refl
+kept_one false any x rest f l = f l
+
+kept_any : {X : Type 0} (p : X → Bool) (xs : List X) → 0 < length (filter p xs) → list_any p xs ≡ true
+kept_any p [] l = absurd (omega arith)
+kept_any p (x ∷ xs) l = kept_one (p x) (list_any p xs) x (filter p xs) (kept_any p xs) l
+
+some : {X : Type 0} (xs : List X) (x : X) → Contains xs x → 0 < length xs
+some xs x (k, l, e) = omega arith
+
+-- how many of the writes meet a cell
+run_len : (s : Scale) (ws : List BoxWrite) (ps : List Pair) (cell : List ℕ) → ArePairs s ws ps → IsCell s cell → length (run_of ps (cell_number s cell)) ≡ length (filter (λ w. meets s w.0 cell) ws)
+run_len s ws ps cell h is =
+    let none : Box3 = record { begin = []; size = [] } in
+    let d : BoxWrite = (none, []) in
+    sym (length-map (run_of ps (cell_number s cell)) (λ (pair : Pair). slice_index_or ws pair.write d)) ∙ ap length (h.runs cell d is)
+
+-- a cell has a pair exactly where some write meets it
+numbered_met : (s : Scale) (ws : List BoxWrite) (ps : List Pair) (cell : List ℕ) → ArePairs s ws ps → IsCell s cell → Contains (map (λ (pair : Pair). pair.number) ps) (cell_number s cell) → met s ws cell ≡ true
+numbered_met s ws ps cell h is (k, l, e) =
+    let n : ℕ = cell_number s cell in
+    let none : Pair = record { number = n; write = 0 } in
+    let low : k < length ps = omega (arith, l, length-map ps (λ (pair : Pair). pair.number)) in
+    let own : (get_or ps k none).number ≡ n = sym (get_or-map (λ (pair : Pair). pair.number) ps k none n low) ∙ e in
+    let in_run : Contains (run_of ps n) (get_or ps k none) = Contains-filter (λ (pair : Pair). pair.number == n) ps (get_or ps k none) (Contains-get_or ps k none low) (same_number _ _ own) in
+    let long = some (run_of ps n) _ in_run in
+    kept_any (λ (w : BoxWrite). meets s w.0 cell) ws (omega (arith, long, run_len s ws ps cell h is))
+
+met_numbered : (s : Scale) (ws : List BoxWrite) (ps : List Pair) (cell : List ℕ) → ArePairs s ws ps → IsCell s cell → met s ws cell ≡ true → Contains (map (λ (pair : Pair). pair.number) ps) (cell_number s cell)
+met_numbered s ws ps cell h is e =
+    let n : ℕ = cell_number s cell in
+    let none : Pair = record { number = n; write = 0 } in
+    let long : 0 < length (run_of ps n) = omega (arith, any_kept (λ (w : BoxWrite). meets s w.0 cell) ws e, run_len s ws ps cell h is) in
+    let first : Pair = get_or (run_of ps n) 0 none in
+    let own : first.number ≡ n = number_from _ _ (filter_passes (λ (pair : Pair). pair.number == n) ps 0 none long) in
+    let in_ps : Contains ps first = All-filter (λ (pair : Pair). pair.number == n) (Contains ps) ps (All-contains_itself ps) 0 none long in
+    listed first own in_ps
+  where
+    listed : (pair : Pair) → pair.number ≡ cell_number s cell → Contains ps pair → Contains (map (λ (pair : Pair). pair.number) ps) (cell_number s cell)
+    listed pair own (k, l, f) = (k, omega (arith, l, length-map ps (λ (pair : Pair). pair.number)), get_or-map (λ (pair : Pair). pair.number) ps k pair (cell_number s cell) l ∙ ap (λ (pair : Pair). pair.number) f ∙ own)
+
+in_met : (s : Scale) (ws : List BoxWrite) (cell : List ℕ) → IsCell s cell → met s ws cell ≡ true → Contains (met_cells s ws) cell
+unfolding met_cells
+in_met s ws cell is e = Contains-filter (met s ws) (numbers_on (cells_on s)) cell (Contains-numbers_on s cell is) e
+
+met_passes : (s : Scale) (ws : List BoxWrite) → All (λ cell. met s ws cell ≡ true) (met_cells s ws)
+unfolding met_cells
+met_passes s ws = filter_passes (met s ws) (numbers_on (cells_on s))
+
+jobs_met : (s : Scale) (ws : List BoxWrite) (ps : List Pair) (jobs : List (List ℕ)) → ArePairs s ws ps → AreInOrder s jobs
+    → ((cell : List ℕ) → IsCell s cell → Contains jobs cell ↔ Contains (map (λ (pair : Pair). pair.number) ps) (cell_number s cell)) → jobs ≡ met_cells s ws
+jobs_met s ws ps jobs h order same =
+    same_rising (cell_number s) jobs (met_cells s ws) order.rising (met_rise s ws)
+    (λ cell c. let is = All-contains (IsCell s) jobs cell order.each c in in_met s ws cell is (numbered_met s ws ps cell h is ((same cell is).0 c)))
+    (λ cell c.
+    let is = All-contains (IsCell s) (met_cells s ws) cell (met_in_grid s ws) c in
+    (same cell is).1 (met_numbered s ws ps cell h is (All-contains (λ (cell : List ℕ). met s ws cell ≡ true) (met_cells s ws) cell (met_passes s ws) c)))
+
+pub planned : (s t : Scale) (ws vs : List BoxWrite) (ps qs : List Pair) (found jobs : List (List ℕ)) → t ≡ s → ws ≡ vs → qs ≡ ps → All (IsWriteOf s) ws → ArePairs s vs ps → AreInOrder s jobs
+    → ((cell : List ℕ) → Contains jobs cell ↔ Contains found cell)
+    → ((cell : List ℕ) → IsCell s cell → Contains found cell ↔ Contains (map (λ (pair : Pair). pair.number) qs) (cell_number s cell)) → IsPlan t ws jobs ps
+planned s t ws vs ps qs found jobs es ew ep fits pairs order same found_same =
+    let own : ArePairs s ws ps = subst (λ (xs : List BoxWrite). ArePairs s xs ps) (sym ew) pairs in
+    subst (λ (x : Scale). IsPlan x ws jobs ps) (sym es) (record {
+      fits = fits;
+      ready = own;
+      cells = jobs_met s ws ps jobs own order (λ cell is.
+          let P : List Pair → Type 0 = λ xs. Contains found cell ↔ Contains (map (λ (pair : Pair). pair.number) xs) (cell_number s cell) in
+          let h : P ps = subst P ep (found_same cell is) in
+          (λ c. h.0 ((same cell).0 c), λ c. (same cell).1 (h.1 c)));
+    })
+
+below_from : (a b : ℕ) → nat_lt a b ≡ true → a < b
+below_from a b e = grind (arith, nat_tests)
+
+-- a job that is ready, with room for its bytes
+pub record IsRoom (s : Scale) (cell : List ℕ) (n : ℕ) : Type 0 where
+  pub in_grid : IsCell s cell
+  pub len : n ≡ raw_len (cell_box s cell) s.channels s.width
+
+room_at : (s : Scale) (ws : List BoxWrite) (job n : ℕ) (b : Bool) → b ≡ nat_lt job (length (met_cells s ws)) → IsSomeAnd (if b then Some (written_raw s ws (cell_of (met_cells s ws) job)) else None) (λ bytes. length bytes ≡ n)
+    → IsRoom s (cell_of (met_cells s ws) job) n
+room_at s ws job n true e h =
+    let low : job < length (met_cells s ws) = below_from job (length (met_cells s ws)) (sym e) in
+    record { in_grid = met_in_grid s ws job [] low; len = sym h ∙ length-written s ws (cell_of (met_cells s ws) job) }
+room_at s ws job n false e h = absurd h
+
+pub room : (plan : Planned) (s : Scale) (ws : List BoxWrite) (jobs : List (List ℕ)) (cell : List ℕ) (job n : ℕ) → plan ≡ record { scale = s; writes = ws } → jobs ≡ met_cells s ws → cell ≡ cell_of jobs job
+    → IsSomeAnd (ready_of plan job) (λ bytes. length bytes ≡ n) → IsRoom s cell n
+room plan s ws jobs cell job n is all own h =
+    let whole : Planned = record { scale = s; writes = ws } in
+    let ready : IsSomeAnd (ready_of whole job) (λ bytes. length bytes ≡ n) = subst (λ (p : Planned). IsSomeAnd (ready_of p job) (λ bytes. length bytes ≡ n)) is h in
+    subst (λ (c : List ℕ). IsRoom s c n) (sym (own ∙ ap (λ (cs : List (List ℕ)). cell_of cs job) all)) (room_at s ws job n (nat_lt job (length (met_cells s ws))) refl ready)
+
+-- no job has a fault
+pub none_first : (plan : Planned) (m : Objects) (xs : List ℕ) → first_some (map (no_fault plan m) xs) ≡ None
+none_first plan m [] = refl
+none_first plan m (x ∷ xs) = none_first plan m xs
+
+-- a job below the number of jobs, and room for its bytes
+pub job_in_grid : (s : Scale) (ws : List BoxWrite) (jobs : List (List ℕ)) (cell : List ℕ) (job : ℕ) → jobs ≡ met_cells s ws → cell ≡ cell_of jobs job → job < length (met_cells s ws) → IsCell s cell
+job_in_grid s ws jobs cell job all own low = subst (IsCell s) (sym (own ∙ ap (λ (cs : List (List ℕ)). cell_of cs job) all)) (met_in_grid s ws job [] low)
+
+below_true : (a b : ℕ) → a < b → nat_lt a b ≡ true
+below_true a b h = grind (arith, nat_tests)
+
+ready_at : (s : Scale) (ws : List BoxWrite) (job n : ℕ) (b : Bool) → b ≡ true → n ≡ raw_len (cell_box s (cell_of (met_cells s ws) job)) s.channels s.width
+    → IsSomeAnd (if b then Some (written_raw s ws (cell_of (met_cells s ws) job)) else None) (λ bytes. length bytes ≡ n)
+ready_at s ws job n true e len = length-written s ws (cell_of (met_cells s ws) job) ∙ sym len
+ready_at s ws job n false e len = absurd (cc e)
+
+pub job_room : (plan : Planned) (jobs : List (List ℕ)) (cell : List ℕ) (job n : ℕ) → jobs ≡ met_cells plan.scale plan.writes → cell ≡ cell_of jobs job → job < length (met_cells plan.scale plan.writes)
+    → n ≡ raw_len (cell_box plan.scale cell) plan.scale.channels plan.scale.width → IsSomeAnd (ready_of plan job) (λ bytes. length bytes ≡ n)
+job_room plan jobs cell job n all own low len =
+    ready_at plan.scale plan.writes job n (nat_lt job (length (met_cells plan.scale plan.writes))) (below_true _ _ low)
+    (len ∙ ap (λ (c : List ℕ). raw_len (cell_box plan.scale c) plan.scale.channels plan.scale.width) (own ∙ ap (λ (cs : List (List ℕ)). cell_of cs job) all))
+
+-- the counted bytes of a cell
+pub record IsCounted (s : Scale) (cell : List ℕ) (n : ℕ) : Type 0 where
+  pub len : n ≡ raw_len (cell_box s cell) s.channels s.width
+  pub small : n ≤ 2 ^ 27
+
+pub counted_bytes : (s : Scale) (cell : List ℕ) (b : Box3) (n : ℕ) → b ≡ cell_box s cell → n ≡ min (raw_len b s.channels s.width) (2 ^ 128 - 1) → IsCounted s cell n
+counted_bytes s cell b n is e =
+    let short = cell_box-short s cell in
+    let first = s.first_ok in
+    let f : n ≡ min (raw_len (cell_box s cell) s.channels s.width) (2 ^ 128 - 1) = e ∙ ap (λ (x : Box3). min (raw_len x s.channels s.width) (2 ^ 128 - 1)) is in
+    record { len = omega arith; small = omega arith }

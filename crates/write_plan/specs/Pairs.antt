@@ -1,0 +1,42 @@
+-- Pairs of a cell's number in the grid and the number of a write that meets it.
+use Rattle.std.specs.Prelude.{◌≡◌, ℕ, ◌+◌, ◌*◌, ◌<◌, ◌==◌, List, [], ◌∷◌, ◌++◌, length, map, filter, slice_index_or}
+use Rattle.std.specs.List.{All}
+use Rattle.std.specs.List.Sorted.{IsNonDecreasingBy}
+use Rattle.vol_spec.specs.Grid.{IsCell, cells_in, cells_on, meets}
+use Rattle.vol_spec.specs.StoredCells.{cell_number, met_cells}
+use Rattle.vol_spec.specs.declared.scale.Scale.{Scale}
+use Rattle.write_plan.specs.WriteLists.{BoxWrite, IsWriteOf}
+use Rattle.write_plan.specs.declared.pairs.Pair.{Pair}
+
+-- how many cells the grid has
+abbrev pub cell_count : Scale → ℕ
+cell_count s = cells_on s 0 * cells_on s 1 * cells_on s 2
+
+abbrev pub pair_of : Scale → ℕ → List ℕ → Pair
+pair_of s write cell = record { number = cell_number s cell; write = write }
+
+-- of writes that are numbered from a first number on: each cell that each write meets
+abbrev pub pairs_from : Scale → ℕ → List BoxWrite → List Pair
+pairs_from s first [] = []
+pairs_from s first (w ∷ ws) = map (pair_of s first) (cells_in s w.0) ++ pairs_from s (first + 1) ws
+
+-- the pairs of a cell, by its number
+abbrev pub run_of : List Pair → ℕ → List Pair
+run_of ps number = filter (λ pair. pair.number == number) ps
+
+-- the writes of pairs, whose numbers are places in a list of writes
+abbrev pub writes_of_run : List BoxWrite → BoxWrite → List Pair → List BoxWrite
+writes_of_run writes d ps = map (λ pair. slice_index_or writes pair.write d) ps
+
+-- pairs in the order of the grid, of which those of each cell are the writes that meet it, in order
+pub record ArePairs (s : Scale) (writes : List BoxWrite) (ps : List Pair) : Type 0 where
+  pub within : All (λ pair. pair.write < length writes) ps
+  pub below : All (λ pair. pair.number < cell_count s) ps
+  pub ordered : IsNonDecreasingBy (λ pair. pair.number) ps
+  pub runs : (cell : List ℕ) (d : BoxWrite) → IsCell s cell → writes_of_run writes d (run_of ps (cell_number s cell)) ≡ filter (λ w. meets s w.0 cell) writes
+
+-- what a plan keeps: its writes are those of its scale, and its jobs are the cells that they meet
+pub record IsPlan (s : Scale) (writes : List BoxWrite) (jobs : List (List ℕ)) (ps : List Pair) : Type 0 where
+  pub fits : All (IsWriteOf s) writes
+  pub ready : ArePairs s writes ps
+  pub cells : jobs ≡ met_cells s writes

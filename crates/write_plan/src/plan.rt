@@ -1,0 +1,157 @@
+//! Plans of overlapping writes.
+ghost use Rattle.std.specs.Prelude.{◌≡◌, ◌<◌, ◌^◌, ◌↔◌, ℕ, None, Err, All, IfOk};
+ghost use Rattle.vol_spec.specs.declared.scale.Scale.{Scale};
+ghost use Rattle.write_plan.specs.Plans.{pairs as count_of};
+ghost use Rattle.write_plan.specs.WriteLists.{IsWriteOf};
+
+use crate::chunks::{Chunks, PrepareFault};
+use crate::fills::fill_cell;
+use crate::jobs::JobList;
+use crate::pairs::{Pair, count_pairs, find_cells, find_pairs};
+use crate::writes::Writes;
+use std::alloc::{AllocError, Global};
+use std::marker::Model;
+use vol_base::{OutOfMemory, Store};
+use vol_spec::Scale;
+
+// The most pairs of a write and a cell that it meets.
+const MOST_PAIRS: u64 = 1 << 22;
+
+/// Why writes weren't planned: there are more than 2^22 pairs of a write and a cell that it meets,
+/// or memory ran out.
+#[derive(Clone, Copy, Debug, PartialEq, Eq)]
+pub enum PlanRefusal {
+    TooManyCells { cells: u64 },
+    OutOfMemory,
+}
+
+/// The writes into a scale, with a job for each cell that some write meets. It is seen as the scale
+/// and the writes.
+#[derive(Drop)]
+pub struct Plan {
+    scale: Scale,
+    writes: Writes,
+    jobs: JobList,
+    pairs: Vec<Pair>,
+}
+
+impl Model for Plan {
+    ghost use Rattle.write_plan.specs.Pairs.{IsPlan};
+    ghost use Rattle.write_plan.specs.Plans.{Planned};
+
+    ghost Value = { Planned };
+
+    ghost view = { λ plan. record { scale = plan.scale; writes = plan.writes } };
+
+    ghost invariant = { λ plan. IsPlan plan.scale plan.writes plan.jobs plan.pairs.items };
+}
+
+impl Plan {
+    /// A plan of writes of an unsharded scale.
+    ///
+    /// # Errors
+    /// `TooManyCells` exactly where there are more than 2^22 pairs of a write and a cell that it
+    /// meets, with their number; and `OutOfMemory`.
+    pub fn of(alloc: Global, scale: &Scale, writes: Writes) -> Result<Plan, PlanRefusal>
+        requires unsharded { scale.now.sharding ≡ None }
+        requires fits { All (IsWriteOf scale.now) writes }
+        ensures plan { IfOk result (λ plan. plan ≡ record { scale = scale.now; writes = writes }) }
+        ensures too_many { (cells : ℕ) → (result ≡ Err (PlanRefusal.TooManyCells cells)) ↔ ((2 ^ 22 < count_of scale.now writes) × (cells ≡ count_of scale.now writes)) }
+    {
+        let cells = count_pairs(scale, writes.list());
+        if cells > MOST_PAIRS {
+            return Err(PlanRefusal::TooManyCells { cells });
+        }
+        let pairs = find_pairs(alloc, scale, writes.list(), cells)?;
+        let met = find_cells(alloc, scale, &pairs)?;
+        let jobs = JobList::of(alloc, scale, met)?;
+        let scale = scale.duplicate();
+        Ok(Plan {
+            scale,
+            writes,
+            jobs,
+            pairs,
+        })
+    }
+}
+
+impl From<AllocError> for PlanRefusal {
+    ghost use Rattle.write_plan.specs.declared.plan.PlanRefusal.TheVariants as refusals;
+
+    ghost from_gives = { λ _ e. e ≡ refusals.OutOfMemory };
+
+    fn from(_e: AllocError) -> PlanRefusal {
+        PlanRefusal::OutOfMemory
+    }
+}
+
+impl From<OutOfMemory> for PlanRefusal {
+    ghost use Rattle.write_plan.specs.declared.plan.PlanRefusal.TheVariants as refusals;
+
+    ghost from_gives = { λ _ e. e ≡ refusals.OutOfMemory };
+
+    fn from(_e: OutOfMemory) -> PlanRefusal {
+        PlanRefusal::OutOfMemory
+    }
+}
+
+impl Chunks for Plan {
+    ghost use Rattle.std.specs.Prelude.{◌≡◌, ◌-◌, ◌≤◌, ℕ, Some, None, IsOk, IsSome, OnOk, IfSome, refl, length, map};
+    ghost use Rattle.std.specs.List.{range_with_len};
+    ghost use Rattle.vol_spec.specs.Cut.{first_some};
+    ghost use Rattle.vol_spec.specs.StoredCells.{met_cells};
+    ghost use Rattle.write_plan.specs.Jobs.{HasPrepareCause, Prepares};
+    ghost use Rattle.write_plan.specs.Plans.{no_fault, raw_of, ready_of};
+    ghost use Rattle.write_plan.specs.PlanLaws.{met_in_order, ready_fits};
+
+    ghost scale = { λ plan. plan.scale };
+
+    ghost cells = { λ plan. met_cells plan.scale plan.writes };
+
+    ghost raw_of = { raw_of };
+
+    ghost fault_of = { no_fault };
+
+    ghost apart = { λ plan dataset s. Unit {0} };
+
+    ghost ready = { ready_of };
+
+    ghost ordered = { λ plan. met_in_order plan.scale plan.writes };
+
+    ghost fits = { ready_fits };
+
+    ghost kept = { λ plan dataset s m bytes i j apart before behind other. (refl, refl) };
+
+    fn jobs(&self) -> &JobList {
+        &self.jobs
+    }
+
+    /// Does nothing: each job is prepared from the start.
+    fn prepare<S: Store>(
+        &mut self,
+        _store: &mut S,
+        _from: u64,
+        _to: u64,
+    ) -> Result<(), PrepareFault>
+        requires within { _to ≤ length (met_cells self.old.scale self.old.writes) }
+        ensures done { IsOk result }
+        ensures prepared { OnOk result ((job : ℕ) → _from ≤ job → job < _to → IsSome (ready_of self.new job)) }
+        ensures ready { OnOk result (IfSome (S.objects _store.old) (λ m. (job : ℕ) → _from ≤ job → job < _to → ready_of self.new job ≡ Some (raw_of self.old m job))) }
+        ensures answer { IfSome (S.objects _store.old) (λ m. Prepares result (first_some (map (no_fault self.old m) (range_with_len _from (_to - _from))))) }
+        ensures scale { self.new.scale ≡ self.old.scale }
+        ensures cells { met_cells self.new.scale self.new.writes ≡ met_cells self.old.scale self.old.writes }
+        ensures raw { raw_of self.new ≡ raw_of self.old }
+        ensures fault { no_fault self.new ≡ no_fault self.old }
+        ensures objects { S.objects _store.new ≡ S.objects _store.old }
+        ensures draft { S.draft _store.new ≡ S.draft _store.old }
+        ensures cause { HasPrepareCause (S.faults _store.old) (S.faults _store.new) result }
+    {
+        Ok(())
+    }
+
+    /// Puts the raw bytes of a job's cell. It takes no memory.
+    fn fill(&self, job: u64, raw: &mut [u8]) {
+        let cell = self.jobs.get(job).cell;
+        fill_cell(&self.scale, self.writes.list(), &self.pairs, cell, raw);
+    }
+}
