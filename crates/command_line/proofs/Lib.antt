@@ -1,0 +1,5 @@
+mod LineSteps
+mod NumberSteps
+mod ParserSteps
+mod ShortSteps
+mod SortSteps

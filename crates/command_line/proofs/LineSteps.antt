@@ -1,0 +1,40 @@
+-- Lists of words that spell no command.
+use Rattle.std.proofs.Common.{◌≡◌, ◌<◌, ℕ, List, [], ◌∷◌, true, Option, Some, None, is_some, length, map, option_and_then, arith, refl}
+use Rattle.std.specs.Borrow.{Bor}
+use Rattle.std.specs.Option.{option_map_or}
+use Rattle.command_line.specs.Words.{cutout_line, worker_count, workers, write_line, write_of}
+
+-- the texts behind references
+abbrev texts : List (Bor (List ℕ)) → List (List ℕ)
+texts words = map (λ word. word.now) words
+
+pub no_cutout : (plain others : List (Bor (List ℕ))) → (length plain ≡ 3 → 0 < length others) → None ≡ cutout_line (texts plain) (texts others)
+no_cutout [] others h = refl
+no_cutout (a ∷ []) others h = refl
+no_cutout (a ∷ b ∷ []) others h = refl
+no_cutout (a ∷ b ∷ c ∷ []) [] h = let none : 0 < 0 = h refl in absurd (omega arith)
+no_cutout (a ∷ b ∷ c ∷ []) (o ∷ others) h = refl
+no_cutout (a ∷ b ∷ c ∷ d ∷ rest) others h = refl
+
+pub no_write : (plain others : List (Bor (List ℕ))) → (length plain ≡ 2 → ⊥) → None ≡ write_line (texts plain) (texts others)
+no_write [] others h = refl
+no_write (a ∷ []) others h = refl
+no_write (a ∷ b ∷ []) others h = absurd (h refl)
+no_write (a ∷ b ∷ c ∷ rest) others h = refl
+
+-- no command of `write` without a number of workers
+without_workers : (dataset key : Option (List ℕ)) (count : Option ℕ) → count ≡ None → None ≡ write_of dataset key count
+without_workers (Some d) (Some k) count e = rw e refl
+without_workers (Some d) None count e = refl
+without_workers None key count e = refl
+
+pub too_many_options : (dataset key : Option (List ℕ)) (others : List (Bor (List ℕ))) → 1 < length others → None ≡ write_of dataset key (workers (texts others))
+too_many_options dataset key [] h = absurd (omega arith)
+too_many_options dataset key (a ∷ []) h = absurd (omega arith)
+too_many_options dataset key (a ∷ b ∷ rest) h = without_workers dataset key None refl
+
+-- where a number is given, it counts
+pub with_value : (dataset key : Option (List ℕ)) (value : Option (List ℕ)) → is_some value ≡ true
+    → write_of dataset key (option_map_or worker_count value (Some 1)) ≡ write_of dataset key (option_and_then worker_count value)
+with_value dataset key None given = cc
+with_value dataset key (Some v) given = refl

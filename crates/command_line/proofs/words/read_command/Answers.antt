@@ -1,0 +1,11 @@
+use Rattle.std.proofs.Common.{◌∙◌, ap, map, string_bytes, Global}
+use Rattle.std.specs.List.{list_all}
+use Rattle.command_line.specs.Words.{is_plain}
+use Rattle.command_line.proofs.SortSteps.{filter_all}
+use Rattle.command_line.proofs.words.read_command.Goals as goal
+
+pub read_cutout-requires : goal.read_cutout-requires
+read_cutout-requires c = ap (list_all is_plain) (ap (map (λ word. word.now)) c.deref.ensures.value ∙ c.in_ok-sorted.ensures.plain) ∙ filter_all is_plain (map (string_bytes {Z = Global}) c.args.words.now)
+
+pub read_write-requires : goal.read_write-requires
+read_write-requires c = ap (list_all is_plain) (ap (map (λ word. word.now)) c.deref-in-write.ensures.value ∙ c.in_ok-sorted.ensures.plain) ∙ filter_all is_plain (map (string_bytes {Z = Global}) c.args.words.now)

@@ -1,0 +1,86 @@
+-- The command line.
+use Rattle.std.specs.Prelude.{ℕ, ◌≤◌, ◌&&◌, ◌||◌, ◌==◌, not, Bool, List, [], ◌∷◌, length, drop, filter, slice_index, nat_eq, nat_le, Option, Some, None, option_and_then, if◌then◌else◌, codes}
+use Rattle.std.specs.Char.{is_ascii_digit}
+use Rattle.std.specs.List.{list_all, starts_with}
+use Rattle.std.specs.Result.{result_ok}
+use Rattle.std.specs.Str.{bytes_eq}
+use Rattle.std.specs.Str.Parse.{digits_value}
+use Rattle.vol_base.specs.BoxText.{box_numbers, parsed}
+use Rattle.vol_base.specs.Names.{is_name}
+use Rattle.vol_base.specs.declared.boxes.Box3.{Box3}
+use Rattle.command_line.specs.declared.commands.Command.{Command}
+use Rattle.command_line.specs.declared.commands.Command.TheVariants.{Cutout, Write}
+
+-- a plain word isn't empty and doesn't begin with `-`
+abbrev pub is_plain : List ℕ → Bool
+is_plain word = nat_le 1 (length word) && not (slice_index word 0 == 45)
+
+-- the plain words, and all others, each in the order of the line
+abbrev pub plain_words : List (List ℕ) → List (List ℕ)
+plain_words words = filter is_plain words
+
+abbrev pub other_words : List (List ℕ) → List (List ℕ)
+other_words words = filter (λ word. not (is_plain word)) words
+
+-- DATASET and KEY: a name of at most 200 bytes
+abbrev pub short_name : List ℕ → Option (List ℕ)
+short_name word = if is_name word && nat_le (length word) 200 then Some word else None
+
+-- BOX: the box that the word spells, if it spells one
+abbrev pub box_of : List ℕ → Option Box3
+box_of word = result_ok (parsed (box_numbers word))
+
+-- a number: `0`, or a digit 1 to 9 that at most nine digits follow
+abbrev pub is_number : List ℕ → Bool
+is_number word = list_all is_ascii_digit word && (nat_le 1 (length word) && nat_le (length word) 10) && (length word == 1 || not (slice_index word 0 == 48))
+
+abbrev pub number : List ℕ → Option ℕ
+number word = if is_number word then Some (digits_value 10 word) else None
+
+-- what follows `--name=` in a word that begins so
+abbrev pub value_after : List ℕ → List ℕ → Option (List ℕ)
+value_after option word = if starts_with nat_eq word option then Some (drop (length option) word) else None
+
+-- N of `--workers=N`: 1 to 16
+abbrev pub worker_count : List ℕ → Option ℕ
+worker_count value = option_and_then (λ n. if nat_le 1 n && nat_le n 16 then Some n else None) (number value)
+
+-- `[--workers=N]`, where no other word that isn't plain may stand: 1 worker without it
+abbrev pub workers : List (List ℕ) → Option ℕ
+workers [] = Some 1
+workers (word ∷ []) = option_and_then worker_count (value_after (codes "--workers=") word)
+workers (word ∷ other ∷ words) = None
+
+-- `cutout DATASET KEY BOX`, by its plain words and the others
+abbrev pub cutout_of : Option (List ℕ) → Option (List ℕ) → Option Box3 → Option Command
+cutout_of (Some dataset) (Some key) (Some part) = Some (Cutout dataset key part)
+cutout_of (Some dataset) (Some key) None = None
+cutout_of (Some dataset) None part = None
+cutout_of None key part = None
+
+abbrev pub cutout_line : List (List ℕ) → List (List ℕ) → Option Command
+cutout_line (dataset ∷ key ∷ part ∷ []) [] = cutout_of (short_name dataset) (short_name key) (box_of part)
+cutout_line plain others = None
+
+-- `write DATASET KEY [--workers=N]`, by its plain words and the others
+abbrev pub write_of : Option (List ℕ) → Option (List ℕ) → Option ℕ → Option Command
+write_of (Some dataset) (Some key) (Some count) = Some (Write dataset key count)
+write_of (Some dataset) (Some key) None = None
+write_of (Some dataset) None count = None
+write_of None key count = None
+
+abbrev pub write_line : List (List ℕ) → List (List ℕ) → Option Command
+write_line (dataset ∷ key ∷ []) others = write_of (short_name dataset) (short_name key) (workers others)
+write_line plain others = None
+
+-- the command that the words spell, the command's name first
+abbrev pub line : List (List ℕ) → Option Command
+line [] = None
+line (command ∷ words) = if bytes_eq command (codes "cutout") then cutout_line (plain_words words) (other_words words)
+    else if bytes_eq command (codes "write") then write_line (plain_words words) (other_words words) else None
+
+-- a command's names have at most 200 bytes
+abbrev pub HasShortNames : Option Command → Type 0
+HasShortNames None = Unit {0}
+HasShortNames (Some (Cutout dataset key part)) = (length dataset ≤ 200) × (length key ≤ 200)
+HasShortNames (Some (Write dataset key count)) = (length dataset ≤ 200) × (length key ≤ 200)

@@ -1,0 +1,9 @@
+//! The words of the command line: which command they spell, and its arguments.
+#![tactic(auto)]
+
+mod commands;
+mod parsers;
+mod words;
+
+pub use commands::Command;
+pub use words::read_words;

@@ -1,0 +1,4 @@
+pub mod CellLens
+pub mod PutSteps
+pub mod Told
+pub mod WindowSteps

@@ -1,0 +1,122 @@
+//! Jobs, one after the other.
+ghost use Rattle.std.specs.Prelude.{◌≡◌, ◌+◌, ◌-◌, ◌*◌, ◌≤◌, ◌<◌, ◌^◌, ℕ, None, Some, IsSome, IfOk, IfSome, OnOk, OnErr, length};
+ghost use Rattle.std.specs.FinMap as fin;
+ghost use Rattle.std.specs.Option.{option_map};
+ghost use Rattle.vol_base.specs.Causes.{HasStoreCause};
+ghost use Rattle.vol_spec.specs.CellNames.{cell_name};
+ghost use Rattle.vol_spec.specs.Grid.{cell_box as box_of, IsCell};
+ghost use Rattle.vol_spec.specs.Limits.{first_bytes};
+ghost use Rattle.vol_spec.specs.Raw.{raw_len};
+ghost use Rattle.vol_spec.specs.StoredCells.{cell_of, put_in};
+ghost use Rattle.shard_writer.specs.Writing.{bytes_in, bytes_from, Drops, objects_from, PutsFront};
+
+use chunk_grid::{byte_len, cell_box, object_name};
+use vol_base::{Name, Store, StoreRefusal};
+use vol_spec::Scale;
+use write_plan::Chunks;
+
+// Puts an object.
+fn put_object<S: Store>(store: &mut S, name: &Name, bytes: &[u8]) -> Result<(), StoreRefusal>
+    ensures put { OnOk result (S.objects store.new ≡ option_map (λ m. fin.insert m name.now bytes.now) (S.objects store.old)) }
+    ensures kept { OnErr result (S.objects store.new ≡ S.objects store.old) }
+    ensures draft { S.draft store.new ≡ None }
+    ensures cause { HasStoreCause (S.faults store.old) (S.faults store.new) result }
+{
+    store.begin(name)?;
+    store.append(bytes)?;
+    store.finish()
+}
+
+// The cell of a job.
+fn find_cell<C: Chunks>(chunks: &C, job: u64) -> [u64; 3]
+    requires { job < length (C.cells chunks.now) }
+    ensures cell { result ≡ cell_of (C.cells chunks.now) job }
+    ensures in_grid { IsCell (C.scale chunks.now) result }
+{
+    chunks.jobs().get(job).cell
+}
+
+// How many bytes the values of a cell have.
+fn find_len(scale: &Scale, cell: [u64; 3]) -> usize
+    requires { IsCell scale.now cell }
+    ensures len { result ≡ raw_len (box_of scale.now cell) scale.now.channels scale.now.width }
+    ensures first { result ≤ first_bytes scale.now.width scale.now.channels scale.now.size scale.now.chunk }
+    ensures small { result ≤ 2 ^ 27 }
+{
+    byte_len(&cell_box(scale, cell), scale.channels, scale.width) as usize
+}
+
+// Puts the raw bytes of a job that is prepared.
+fn fill_job<C: Chunks>(chunks: &C, job: u64, raw: &mut [u8])
+    requires ready { IsSome (C.ready chunks.now job) }
+    requires len { length raw.old ≡ raw_len (box_of (C.scale chunks.now) (cell_of (C.cells chunks.now) job)) (C.scale chunks.now).channels (C.scale chunks.now).width }
+    ensures { raw.new ≡ bytes_in (C.ready chunks.now job) }
+{
+    chunks.fill(job, raw);
+}
+
+// Writes the object of a job that is prepared, by way of a buffer with room for every cell's values;
+// answers how many bytes it has.
+fn write_job<S: Store, C: Chunks>(
+    store: &mut S,
+    dataset: &Name,
+    scale: &Scale,
+    chunks: &C,
+    job: u64,
+    buffer: &mut [u8],
+) -> Result<u64, StoreRefusal>
+    requires dataset { length dataset.now ≤ 200 }
+    requires scale { C.scale chunks.now ≡ scale.now }
+    requires job { job < length (C.cells chunks.now) }
+    requires ready { IsSome (C.ready chunks.now job) }
+    requires room { length buffer.old ≡ first_bytes scale.now.width scale.now.channels scale.now.size scale.now.chunk }
+    ensures put { OnOk result (S.objects store.new ≡ option_map (λ m. fin.insert m (cell_name dataset.now scale.now (cell_of (C.cells chunks.now) job)) (bytes_in (C.ready chunks.now job))) (S.objects store.old)) }
+    ensures bytes { IfOk result (λ len. len ≡ raw_len (box_of scale.now (cell_of (C.cells chunks.now) job)) scale.now.channels scale.now.width) }
+    ensures small { IfOk result (λ len. len ≤ 2 ^ 27) }
+    ensures kept { OnErr result (S.objects store.new ≡ S.objects store.old) }
+    ensures draft { S.draft store.new ≡ None }
+    ensures cause { HasStoreCause (S.faults store.old) (S.faults store.new) result }
+{
+    let cell = find_cell(chunks, job);
+    let name = object_name(dataset, scale, cell);
+    let len = find_len(scale, cell);
+    let raw = &mut buffer[..len];
+    fill_job(chunks, job, raw);
+    put_object(store, &name, raw)?;
+    Ok(len as u64)
+}
+
+/// Writes the objects of the jobs from one number up to, not with, another, which are prepared, by way of a
+/// buffer with room for every cell's values; answers how many bytes they have together.
+pub(crate) fn write_jobs<S: Store, C: Chunks>(
+    store: &mut S,
+    dataset: &Name,
+    scale: &Scale,
+    chunks: &C,
+    from: u64,
+    to: u64,
+    buffer: &mut [u8],
+) -> Result<u64, StoreRefusal>
+    requires dataset { length dataset.now ≤ 200 }
+    requires scale { C.scale chunks.now ≡ scale.now }
+    requires order { from ≤ to }
+    requires within { to ≤ length (C.cells chunks.now) }
+    requires few { to ≤ 2 ^ 22 }
+    requires ready { (job : ℕ) → from ≤ job → job < to → IsSome (C.ready chunks.now job) }
+    requires room { length buffer.old ≡ first_bytes scale.now.width scale.now.channels scale.now.size scale.now.chunk }
+    ensures put { OnOk result (S.objects store.new ≡ option_map (λ m. put_in m (objects_from dataset.now scale.now (C.cells chunks.now) (λ job. bytes_in (C.ready chunks.now job)) from (to - from))) (S.objects store.old)) }
+    ensures bytes { IfOk result (λ len. len ≡ bytes_from scale.now (C.cells chunks.now) from (to - from)) }
+    ensures small { IfOk result (λ len. len ≤ (to - from) * 2 ^ 27) }
+    ensures front { OnErr result (IfSome (S.objects store.old) (λ m. PutsFront (objects_from dataset.now scale.now (C.cells chunks.now) (λ job. bytes_in (C.ready chunks.now job)) from (to - from)) m (S.objects store.new))) }
+    ensures draft { Drops (S.draft store.old) (S.draft store.new) }
+    ensures cause { HasStoreCause (S.faults store.old) (S.faults store.new) result }
+{
+    let mut bytes = 0;
+    for job in from..to {
+        match write_job(store, dataset, scale, chunks, job, buffer) {
+            Ok(len) => bytes += len,
+            Err(refusal) => return Err(refusal),
+        }
+    }
+    Ok(bytes)
+}
