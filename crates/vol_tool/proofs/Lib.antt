@@ -1,10 +1,12 @@
 pub mod AnswerSteps
 pub mod CellSteps
-pub mod CommonSteps
 pub mod Gained
 pub mod InfoSteps
 mod KnownSteps
+pub mod PlanSteps
 pub mod ReadSteps
+pub mod RunSteps
 pub mod ShowSteps
+pub mod StoreSteps
 pub mod TakeSteps
-mod WordCounts
+pub mod WriteShows

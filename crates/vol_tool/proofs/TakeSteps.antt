@@ -3,7 +3,7 @@ use Rattle.std.proofs.Common.{◌≡◌, ℕ, zero, suc, ◌+◌, ◌*◌, List,
 use Rattle.vol_base.specs.declared.boxes.Box3.{Box3}
 use Rattle.vol_spec.specs.Raw.{number}
 use Rattle.voxel_raw.specs.Copies.{HasValues, HasZeros, KeepsRest}
-use Rattle.vol_tool.specs.Common.{IsCommon}
+use Rattle.voxel_raw.specs.Common.{IsCommon}
 use Rattle.vol_tool.specs.Reading.{Took}
 
 -- zero bytes make zero

@@ -30,6 +30,11 @@ is_raw (Seg block) = false
 abbrev pub is_served : Scale → Bool
 is_served s = is_raw s.encoding && is_none s.sharding
 
+-- the same as a fact
+pub record IsServed (s : Scale) : Type 0 where
+  pub unsharded : s.sharding ≡ None
+  pub raw : s.encoding ≡ Raw
+
 abbrev pub served_only : Scale → Result Scale NoScale
 served_only s = if is_served s then Ok s else Err NotBuilt
 
@@ -61,13 +66,13 @@ IsTooLarge s part bytes = Inside s part × (2 ^ 30 < raw_len part s.channels s.w
 -- what a cutout of a scale answers, and what the outlet gains
 abbrev pub CutsScale : Result ⊤ Refusal → Objects → List ℕ → Scale → Box3 → Option (List ℕ) → Option (List ℕ) → Type 0
 CutsScale (Ok done) m dataset s part old new = IsSound m dataset s part × Gains old new (cut m dataset s part)
-CutsScale (Err (Outside box)) m dataset s part old new = (box ≡ whole s) × ¬ Inside s part
+CutsScale (Err (Outside told all)) m dataset s part old new = (told ≡ part) × (all ≡ whole s) × ¬ Inside s part
 CutsScale (Err (TooLarge bytes)) m dataset s part old new = IsTooLarge s part bytes
 CutsScale (Err (Damaged cell fault)) m dataset s part old new = IsRequest s part × (first_fault m dataset s part ≡ Some (cell, fault))
 CutsScale (Err OutFault) m dataset s part old new = IsSound m dataset s part × GainsFront old new (cut m dataset s part)
 CutsScale (Err StoreFault) m dataset s part old new = Unit {0}
 CutsScale (Err NoMemory) m dataset s part old new = Unit {0}
-CutsScale (Err (WithoutScale why)) m dataset s part old new = ⊥
+CutsScale (Err other) m dataset s part old new = ⊥
 
 -- what reading a scale answers
 abbrev pub ReadsScale : Result Scale Refusal → Result Scale NoScale → Type 0
@@ -87,7 +92,7 @@ Cuts result told m dataset part old new = IsOkAnd told (λ s. CutsScale result m
 -- what judging a box answers
 abbrev pub JudgesPart : Result ℕ Refusal → Scale → Box3 → Type 0
 JudgesPart (Ok len) s part = IsRequest s part × (len ≡ raw_len part s.channels s.width)
-JudgesPart (Err (Outside box)) s part = (box ≡ whole s) × ¬ Inside s part
+JudgesPart (Err (Outside told all)) s part = (told ≡ part) × (all ≡ whole s) × ¬ Inside s part
 JudgesPart (Err (TooLarge bytes)) s part = IsTooLarge s part bytes
 JudgesPart (Err other) s part = ⊥
 

@@ -11,6 +11,8 @@ use Rattle.vol_base.specs.declared.faults.IndexFault.{IndexFault}
 use Rattle.vol_base.specs.declared.faults.IndexFault.TheVariants.{BadId, BadStart}
 use Rattle.vol_base.specs.declared.faults.ShardFault.{ShardFault}
 use Rattle.vol_base.specs.declared.faults.ShardFault.TheVariants.{ShortIndex, BadRange, BadLength, TooManyRows, ShortMinishard, ChunkTooLong, ShortChunk}
+use Rattle.write_plan.specs.declared.fault.PlanFault.{PlanFault}
+use Rattle.write_plan.specs.declared.fault.PlanFault.TheVariants.{FeedFault, BadMagic, TooManyWrites, EmptyBox, OutsideBox, WritesTooLarge, Truncated, TrailingBytes, OutOfMemory}
 
 -- some texts, one behind the other
 abbrev pub texts : List (List ℕ) → List ℕ
@@ -76,6 +78,35 @@ large_line bytes = texts (codes "box too large " ∷ decimal bytes ∷ line_feed
 abbrev pub damaged_line : List ℕ → Fault → List ℕ
 damaged_line cell fault = texts (codes "damaged " ∷ cell_text cell ∷ codes ": " ∷ fault_text fault ∷ line_feed ∷ [])
 
+abbrev pub memory_line : List ℕ
+memory_line = texts (codes "out of memory" ∷ line_feed ∷ [])
+
+abbrev pub feed_line : List ℕ
+feed_line = texts (codes "feed fault" ∷ line_feed ∷ [])
+
+-- a stream of writes with a fault: of the stream as a whole, or of a write by its number
+abbrev pub stream_line : PlanFault → List ℕ
+stream_line FeedFault = feed_line
+stream_line BadMagic = texts (codes "stream: bad magic" ∷ line_feed ∷ [])
+stream_line (TooManyWrites count) = texts (codes "stream: too many writes " ∷ decimal count ∷ line_feed ∷ [])
+stream_line (EmptyBox write) = texts (codes "write " ∷ decimal write ∷ codes ": empty box" ∷ line_feed ∷ [])
+stream_line (OutsideBox write) = texts (codes "write " ∷ decimal write ∷ codes ": outside scale" ∷ line_feed ∷ [])
+stream_line (WritesTooLarge write) = texts (codes "write " ∷ decimal write ∷ codes ": too large" ∷ line_feed ∷ [])
+stream_line (Truncated write) = texts (codes "write " ∷ decimal write ∷ codes ": truncated" ∷ line_feed ∷ [])
+stream_line TrailingBytes = texts (codes "stream: trailing bytes" ∷ line_feed ∷ [])
+stream_line OutOfMemory = memory_line
+
+-- writes that meet too many cells
+abbrev pub cells_line : ℕ → List ℕ
+cells_line cells = texts (codes "too many cells " ∷ decimal cells ∷ line_feed ∷ [])
+
+-- what a writing command prints
+abbrev pub written_line : ℕ → ℕ → List ℕ
+written_line objects cells = texts (codes "objects " ∷ decimal objects ∷ codes " cells " ∷ decimal cells ∷ line_feed ∷ [])
+
+abbrev pub folder_line : List ℕ
+folder_line = texts (codes "folder not empty" ∷ line_feed ∷ [])
+
 abbrev pub usage_line : List ℕ
 usage_line = texts (codes "usage" ∷ line_feed ∷ [])
 
@@ -84,6 +115,3 @@ store_line = texts (codes "store fault" ∷ line_feed ∷ [])
 
 abbrev pub output_line : List ℕ
 output_line = texts (codes "output fault" ∷ line_feed ∷ [])
-
-abbrev pub memory_line : List ℕ
-memory_line = texts (codes "out of memory" ∷ line_feed ∷ [])

@@ -11,7 +11,7 @@ use Rattle.vol_spec.specs.Raw.{raw_len}
 use Rattle.vol_spec.specs.declared.scale.Scale.{Scale}
 use Rattle.vol_tool.specs.Answers.{IsRequest, IsSound, stored_scale}
 use Rattle.vol_tool.specs.Effects.{Gains, GainsFront, Says}
-use Rattle.vol_tool.specs.Lines.{damaged_line, info_line, large_line, memory_line, outside_line, output_line, store_line, usage_line}
+use Rattle.vol_tool.specs.Lines.{damaged_line, feed_line, info_line, large_line, memory_line, outside_line, output_line, store_line, usage_line}
 use Rattle.vol_tool.specs.declared.status.Status.{Status}
 use Rattle.vol_tool.specs.declared.status.Status.TheVariants.{Ok, Usage, InfoRefused, RequestRefused, Damaged, StoreFault, FeedFault, OutFault, NoMemory, DoorFault}
 
@@ -81,7 +81,7 @@ Leaves Damaged o = o.out_new ≡ o.out_old
 Leaves StoreFault o = (o.out_new ≡ o.out_old) × Tells o store_line
 Leaves OutFault o = Tells o output_line
 Leaves NoMemory o = (o.out_new ≡ o.out_old) × Tells o memory_line
-Leaves FeedFault o = ⊥
+Leaves FeedFault o = (o.out_new ≡ o.out_old) × Tells o feed_line
 Leaves DoorFault o = ⊥
 
 -- the scale is there, and the box can be cut out of it

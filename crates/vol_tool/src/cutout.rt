@@ -24,7 +24,10 @@ fn judge_part(scale: &Scale, part: &Box3) -> Result<usize, Refusal>
     ensures { JudgesPart result scale.now part.now }
 {
     if !inside(scale, part) {
-        return Err(Refusal::Outside(whole(scale)));
+        return Err(Refusal::Outside {
+            part: *part,
+            whole: whole(scale),
+        });
     }
     let bytes = byte_len(part, scale.channels, scale.width);
     if bytes > MOST_BYTES {
@@ -59,6 +62,7 @@ fn read_values<S: Source>(
     ensures later { S.faults store.old ≤ S.faults store.new }
     ensures fault { result ≡ Err Refusal.StoreFault → Rose (S.faults store.old) (S.faults store.new) }
     ensures output { result ≡ Err Refusal.OutFault → ⊥ }
+    ensures feed { result ≡ Err Refusal.FeedFault → ⊥ }
 {
     match read_cells(store, dataset, scale, chunk, part, out) {
         Err(ReadFault::StoreFault) => Err(Refusal::StoreFault),
@@ -92,6 +96,7 @@ fn cut_into<S: Source, O: Outlet>(
     ensures store_fault { result ≡ Err Refusal.StoreFault → Rose (S.faults store.old) (S.faults store.new) }
     ensures out_fault { result ≡ Err Refusal.OutFault → Rose (O.faults out.old) (O.faults out.new) }
     ensures unwritten { Writes result (O.written out.old) (O.written out.new) }
+    ensures feed { result ≡ Err Refusal.FeedFault → ⊥ }
 {
     match read_values(store, dataset, scale, part, chunk, values) {
         Err(refusal) => Err(refusal),
@@ -120,6 +125,7 @@ fn cut_scale<S: Source, O: Outlet>(
     ensures store_fault { result ≡ Err Refusal.StoreFault → Rose (S.faults store.old) (S.faults store.new) }
     ensures out_fault { result ≡ Err Refusal.OutFault → Rose (O.faults out.old) (O.faults out.new) }
     ensures unwritten { Writes result (O.written out.old) (O.written out.new) }
+    ensures feed { result ≡ Err Refusal.FeedFault → ⊥ }
 {
     let len = match judge_part(scale, part) {
         Ok(len) => len,
@@ -154,6 +160,7 @@ pub(crate) fn cut_out<S: Source, O: Outlet>(
     ensures store_fault { result ≡ Err Refusal.StoreFault → Rose (S.faults store.old) (S.faults store.new) }
     ensures out_fault { result ≡ Err Refusal.OutFault → Rose (O.faults out.old) (O.faults out.new) }
     ensures unwritten { Writes result (O.written out.old) (O.written out.new) }
+    ensures feed { result ≡ Err Refusal.FeedFault → ⊥ }
 {
     match read_scale(alloc, store, dataset, key) {
         Err(refusal) => Err(refusal),

@@ -1,8 +1,8 @@
 //! The scale of a data set and a key.
-ghost use Rattle.std.specs.Prelude.{◌≡◌, ◌≤◌, ◌+◌, ◌<◌, ◌^◌, length, IfSome};
+ghost use Rattle.std.specs.Prelude.{◌≡◌, ◌≤◌, ◌+◌, ◌<◌, ◌^◌, length, IfOk, IfSome};
 ghost use Rattle.vol_base.specs.Causes.{Rose};
 ghost use Rattle.info_doc.specs.Info.{scale_in};
-ghost use Rattle.vol_tool.specs.Answers.{info_name, is_served, judged_info, ReadsScale, served_only, stored_scale};
+ghost use Rattle.vol_tool.specs.Answers.{info_name, is_served, IsServed, judged_info, ReadsScale, served_only, stored_scale};
 
 use crate::buffers::make_buffer;
 use crate::refusal::{NoScale, Refusal};
@@ -31,8 +31,10 @@ fn is_served_scale(scale: &Scale) -> bool
 
 fn serve_scale(scale: Scale) -> Result<Scale, Refusal>
     ensures served { ReadsScale result (served_only scale) }
+    ensures form { IfOk result IsServed }
     ensures store { result ≡ Err Refusal.StoreFault → ⊥ }
     ensures output { result ≡ Err Refusal.OutFault → ⊥ }
+    ensures feed { result ≡ Err Refusal.FeedFault → ⊥ }
 {
     if is_served_scale(&scale) {
         Ok(scale)
@@ -44,8 +46,10 @@ fn serve_scale(scale: Scale) -> Result<Scale, Refusal>
 fn judge_info(alloc: Global, info: &[u8], key: &Name) -> Result<Scale, Refusal>
     requires { length key.now ≤ 200 }
     ensures judged { ReadsScale result (judged_info (scale_in info.now key.now)) }
+    ensures form { IfOk result IsServed }
     ensures store { result ≡ Err Refusal.StoreFault → ⊥ }
     ensures output { result ≡ Err Refusal.OutFault → ⊥ }
+    ensures feed { result ≡ Err Refusal.FeedFault → ⊥ }
 {
     match scale_of(alloc, info, key) {
         Ok(scale) => serve_scale(scale),
@@ -66,6 +70,8 @@ fn read_scale_into<S: Source>(
     requires key { length key.now ≤ 200 }
     requires room { length buffer.old ≡ 2 ^ 20 + 1 }
     ensures read { IfSome (S.objects store.old) (λ m. ReadsScale result (stored_scale m dataset.now key.now)) }
+    ensures form { IfOk result IsServed }
+    ensures feed { result ≡ Err Refusal.FeedFault → ⊥ }
     ensures objects { S.objects store.new ≡ S.objects store.old }
     ensures draft { S.draft store.new ≡ S.draft store.old }
     ensures later { S.faults store.old ≤ S.faults store.new }
@@ -90,6 +96,8 @@ pub(crate) fn read_scale<S: Source>(
     requires dataset { length dataset.now ≤ 200 }
     requires key { length key.now ≤ 200 }
     ensures read { IfSome (S.objects store.old) (λ m. ReadsScale result (stored_scale m dataset.now key.now)) }
+    ensures form { IfOk result IsServed }
+    ensures feed { result ≡ Err Refusal.FeedFault → ⊥ }
     ensures objects { S.objects store.new ≡ S.objects store.old }
     ensures draft { S.draft store.new ≡ S.draft store.old }
     ensures later { S.faults store.old ≤ S.faults store.new }

@@ -1,10 +1,11 @@
 //! The texts of refusals.
 ghost use Rattle.std.specs.Prelude.{◌≡◌, ◌<◌, IfOk, string_bytes};
-ghost use Rattle.vol_tool.specs.Lines.{chunk_text, index_text, shard_text, fault_text, ends_text, box_text, cell_text, info_line, outside_line, large_line, damaged_line};
+ghost use Rattle.vol_tool.specs.Lines.{chunk_text, index_text, shard_text, fault_text, ends_text, box_text, cell_text, info_line, outside_line, large_line, damaged_line, stream_line, cells_line, written_line};
 ghost use Rattle.vol_base.specs.Boxes as Boxes;
 
 use std::alloc::{AllocError, Global};
 use vol_base::{Box3, ChunkFault, Fault, IndexFault, Name, ShardFault};
+use write_plan::PlanFault;
 
 fn write_chunk_fault(alloc: Global, fault: ChunkFault) -> Result<String, AllocError>
     ensures { IfOk result (λ text. string_bytes text ≡ chunk_text fault) }
@@ -143,4 +144,41 @@ pub(crate) fn write_damaged_line(
     let cell = write_cell(alloc, cell)?;
     let text = write_fault(alloc, fault)?;
     format!(in alloc; "damaged {cell}: {text}\n")
+}
+
+/// A stream of writes with a fault.
+pub(crate) fn write_stream_line(alloc: Global, fault: PlanFault) -> Result<String, AllocError>
+    ensures { IfOk result (λ line. string_bytes line ≡ stream_line fault) }
+{
+    match fault {
+        PlanFault::FeedFault => String::from_str(alloc, "feed fault\n"),
+        PlanFault::BadMagic => String::from_str(alloc, "stream: bad magic\n"),
+        PlanFault::TooManyWrites { count } => {
+            format!(in alloc; "stream: too many writes {count}\n")
+        }
+        PlanFault::EmptyBox { write } => format!(in alloc; "write {write}: empty box\n"),
+        PlanFault::OutsideBox { write } => format!(in alloc; "write {write}: outside scale\n"),
+        PlanFault::WritesTooLarge { write } => format!(in alloc; "write {write}: too large\n"),
+        PlanFault::Truncated { write } => format!(in alloc; "write {write}: truncated\n"),
+        PlanFault::TrailingBytes => String::from_str(alloc, "stream: trailing bytes\n"),
+        PlanFault::OutOfMemory => String::from_str(alloc, "out of memory\n"),
+    }
+}
+
+/// Writes that meet too many cells.
+pub(crate) fn write_cells_line(alloc: Global, cells: u64) -> Result<String, AllocError>
+    ensures { IfOk result (λ line. string_bytes line ≡ cells_line cells) }
+{
+    format!(in alloc; "too many cells {cells}\n")
+}
+
+/// What a writing command prints: how many objects were put, and how many cells they hold.
+pub(crate) fn write_written_line(
+    alloc: Global,
+    objects: u64,
+    cells: u64,
+) -> Result<String, AllocError>
+    ensures { IfOk result (λ line. string_bytes line ≡ written_line objects cells) }
+{
+    format!(in alloc; "objects {objects} cells {cells}\n")
 }

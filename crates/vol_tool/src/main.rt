@@ -3,7 +3,6 @@
 #![tactic(auto)]
 
 mod buffers;
-mod common;
 mod counts;
 mod cutout;
 mod directory;
@@ -18,13 +17,13 @@ mod streams;
 #[cfg(test)]
 mod tests;
 mod top;
-mod words;
+mod write;
 
 use directory::DirStore;
 use std::env::Env;
 use std::process::ExitCode;
 use std::{env, io};
-use streams::{NoDoor, NoFeed, StdOutlet};
+use streams::{NoDoor, StdFeed, StdOutlet};
 use top::run;
 use vol_base::FreeGate;
 
@@ -47,7 +46,7 @@ fn main(rt: HostRuntime) -> ExitCode {
         rt.alloc(),
         &words,
         &mut DirStore::new(rt),
-        &mut NoFeed::new(),
+        &mut StdFeed::new(rt.stdin()),
         &mut StdOutlet::new(rt.stdout()),
         &mut StdOutlet::new(rt.stderr()),
         &mut NoDoor::new(),

@@ -10,11 +10,10 @@ ghost use Rattle.vol_base.specs.Boxes.{Covers};
 ghost use Rattle.vol_tool.specs.Reading.{placed, Reads, ReadsAll, Shows, Took};
 ghost use Rattle.std.specs.Option.{option_map};
 
-use crate::common::common_part;
 use chunk_grid::{byte_len, cell_box, cells, object_name, tell_cells};
 use vol_base::{Box3, Fault, Got, Name, Source};
 use vol_spec::Scale;
-use voxel_raw::{check_len, copy_box, fill_box};
+use voxel_raw::{check_len, common_part, copy_box, fill_box};
 
 /// Why a cell has no values: the store failed, or what it has of the cell has a fault.
 #[derive(Clone, Copy, Debug, PartialEq, Eq)]

@@ -1,10 +1,10 @@
-//! The real outlets, and what stands for the streams that no command uses yet.
+//! The real feeds and outlets, and what stands for the streams that no command uses yet.
 ghost use Rattle.std.specs.Prelude.{◌<◌, ◌≤◌, length, IfOk, IsErr};
-ghost use Rattle.std.specs.Io.KnownBytes.{WriteAppends};
+ghost use Rattle.std.specs.Io.KnownBytes.{ReadConsumes, WriteAppends};
 ghost use Rattle.vol_base.specs.Causes.{HasCause};
 
 use crate::counts::count_fault;
-use std::io::{ErrorKind, Write};
+use std::io::{ErrorKind, Read, Write};
 use std::marker::Model;
 use vol_base::{Door, Failed, Feed, Link, Outlet};
 
@@ -67,44 +67,58 @@ impl<W: Write> Outlet for StdOutlet<W> {
     }
 }
 
-/// No feed: each call is a fault. It is seen as the count of its faults.
+/// A reader of std as a feed, which tells nothing of what is left. What the reader has left, where it tells
+/// that, loses exactly the bytes that a call gives.
 #[derive(Drop)]
-pub struct NoFeed {
-    faults: u64,
+pub struct StdFeed<R> {
+    pub inner: R,
+    pub faults: u64,
 }
 
-impl Model for NoFeed {
-    ghost use Rattle.std.specs.Prelude.{ℕ};
-
-    ghost Value = { ℕ };
-
-    ghost view = { λ s. s.faults };
-}
-
-impl NoFeed {
+impl<R> StdFeed<R> {
     ghost use Rattle.std.specs.Prelude.{◌≡◌};
 
     /// Nothing failed.
-    pub fn new() -> NoFeed
-        ensures { result ≡ 0 }
+    pub fn new(inner: R) -> StdFeed<R>
+        ensures { result ≡ record { inner = inner; faults = 0 } }
     {
-        NoFeed { faults: 0 }
+        StdFeed { inner, faults: 0 }
     }
 }
 
-impl Feed for NoFeed {
+// Reads some bytes, and none only at the end. What a signal broke off is tried again.
+#[tactic(auto, using(crate::proofs::KnownSteps::kept, crate::proofs::KnownSteps::kept_twice))]
+fn read_some<R: Read>(inner: &mut R, out: &mut [u8]) -> Result<usize, Failed>
+    ensures within { IfOk result (λ n. n ≤ length out.old) }
+    ensures bytes { ReadConsumes (R.remaining inner.old) (R.remaining inner.new) result out.new }
+{
+    for _ in 0..u64::MAX {
+        match inner.read(out) {
+            Ok(given) => return Ok(given),
+            Err(error) if error.kind() == ErrorKind::Interrupted => {}
+            Err(_) => return Err(Failed),
+        }
+    }
+    Err(Failed)
+}
+
+impl<R: Read> Feed for StdFeed<R> {
     ghost use Rattle.std.specs.Prelude.{None};
 
     ghost left = { λ _. None };
 
-    ghost faults = { λ faults. faults };
+    ghost faults = { λ s. s.faults };
 
-    fn read(&mut self, _out: &mut [u8]) -> Result<usize, Failed>
-        ensures fails { IsErr result }
-        ensures cause { HasCause self.old self.new result }
+    fn read(&mut self, out: &mut [u8]) -> Result<usize, Failed>
+        ensures within { IfOk result (λ n. n ≤ length out.old) }
+        ensures bytes { ReadConsumes (R.remaining self.old.inner) (R.remaining self.new.inner) result out.new }
+        ensures cause { HasCause self.old.faults self.new.faults result }
     {
-        count_fault(&mut self.faults);
-        Err(Failed)
+        let given = read_some(&mut self.inner, out);
+        if given.is_err() {
+            count_fault(&mut self.faults);
+        }
+        given
     }
 }
 
@@ -213,7 +227,7 @@ mod tests {
     use super::*;
     use std::io;
 
-    // A writer that a signal breaks off first, that then takes two bytes, then none, and then fails.
+    // A stream that a signal breaks off first, that then takes or gives two bytes, then none, and then fails.
     #[derive(Drop)]
     struct Halting {
         calls: u8,
@@ -235,11 +249,28 @@ mod tests {
         }
     }
 
+    impl Read for Halting {
+        fn read(&mut self, out: &mut [u8]) -> io::Result<usize> {
+            self.calls = self.calls.saturating_add(1);
+            match self.calls {
+                1 => Err(io::Error::from(ErrorKind::Interrupted)),
+                2 => Ok(out.len().min(2)),
+                3 => Ok(0),
+                _ => Err(io::Error::from(ErrorKind::TimedOut)),
+            }
+        }
+    }
+
     #[test]
     fn goes_on_after_a_signal_alone(rt: HostRuntime) {
         let mut out = StdOutlet::new(Halting { calls: 0 });
         assert_eq!(rt; out.write(b"abc"), Ok(2));
         assert_eq!(rt; out.write(b"c"), Err(Failed));
         assert_eq!(rt; out.write(b"c"), Err(Failed));
+        let mut feed = StdFeed::new(Halting { calls: 0 });
+        let mut given = [0; 3];
+        assert_eq!(rt; feed.read(&mut given), Ok(2));
+        assert_eq!(rt; feed.read(&mut given), Ok(0));
+        assert_eq!(rt; feed.read(&mut given), Err(Failed));
     }
 }

@@ -1,15 +1,16 @@
 //! Calls of the tool over stand-ins in memory. What each answers was worked out by hand.
 
 mod plain;
+mod writes;
 
-use crate::streams::{NoDoor, NoFeed};
+use crate::streams::NoDoor;
 use crate::top::run;
 use std::alloc::{AllocError, Global};
 use std::process::Abort;
 use std::sync::Wait;
 use std::test::Fail;
 use std::thread::Threads;
-use vol_base::{FreeGate, MemoryOutlet, MemoryStore, Name};
+use vol_base::{FreeGate, MemoryFeed, MemoryOutlet, MemoryStore, Name};
 
 // A call of the tool over some objects, and what it answers. `sizes` are the size and the chunk size of the scale;
 // where they are empty, there is no info document but among the objects.
@@ -278,12 +279,18 @@ fn outlet_of(alloc: Global, piece: usize, failing: &[u64]) -> Result<MemoryOutle
     Ok(outlet)
 }
 
+// A feed of no bytes.
+fn no_feed(alloc: Global) -> MemoryFeed {
+    MemoryFeed::new(Vec::new(alloc), 1, Vec::new(alloc))
+}
+
 // The status of a call.
 fn call<R: Threads + Wait + Sync>(
     rt: &R,
     alloc: Global,
     text: &str,
     store: &mut MemoryStore,
+    feed: &mut MemoryFeed,
     out: &mut MemoryOutlet,
     err: &mut MemoryOutlet,
 ) -> Result<u8, Fail> {
@@ -293,7 +300,7 @@ fn call<R: Threads + Wait + Sync>(
         alloc,
         &words,
         store,
-        &mut NoFeed::new(),
+        feed,
         out,
         err,
         &mut NoDoor::new(),
@@ -312,7 +319,8 @@ fn check<R: Threads + Wait + Abort + Sync>(
     let mut out = outlet_of(alloc, faults.piece, faults.out)?;
     let mut err = outlet_of(alloc, faults.piece, faults.err)?;
     let words = row.words;
-    let status = call(rt, alloc, words, &mut store, &mut out, &mut err)?;
+    let mut feed = no_feed(alloc);
+    let status = call(rt, alloc, words, &mut store, &mut feed, &mut out, &mut err)?;
     assert_eq!(rt; status, row.status, "at {words}");
     assert!(rt; out.written() == row.out, "out at {words}");
     assert!(rt; err.written() == row.err.as_bytes(), "err at {words}");

@@ -9,4 +9,4 @@ returns-in-Err-clause-shows g c =
     shows c.in-Err.refusal c.report.result m c.args.dataset.now c.args.key.now c.args.part.now _ (from_told _ _ m _ refl told c.in-Err.ensures.cuts) c.report.ensures.told)
 
 pub returns-in-Err-clause-leaves : goal.returns-in-Err-clause-leaves
-returns-in-Err-clause-leaves g c = leaves c.in-Err.refusal c.report.result c.args.dataset.now c.args.part.now _ c.in-Err.ensures.unwritten c.report.ensures.told
+returns-in-Err-clause-leaves g c = leaves c.in-Err.refusal c.report.result c.args.dataset.now _ c.in-Err.ensures.unwritten c.report.ensures.told
