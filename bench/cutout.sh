@@ -1,7 +1,8 @@
 #!/bin/sh
-# The cutout of a whole scale, of 512 x 512 x 512 bytes in chunks of 64 x 64 x 64, by vol_tool and by the plain program
-# beside this script, with the files in the page cache and the output to a file: three tries, the best of each. Wanted:
-# a ratio of at most 1.5, and a peak of at most the box (128 MiB), one chunk and 32 MiB.
+# The cutout of whole scales by vol_tool and by the plain program beside this script, with the files in the page cache
+# and the output to a file: three tries in turn, the best of each. The scales are 512 x 512 x 512 bytes in chunks of
+# 64 x 64 x 64, and 128 x 128 x 128 voxels of four channels of 64-bit numbers in chunks of 32 x 32 x 32. Wanted: a ratio
+# of at most 1.5, and a peak of at most the box (128 MiB and 64 MiB), one chunk and 32 MiB.
 #
 #     bench/cutout.sh [PROGRAM]
 #
@@ -21,10 +22,17 @@ fi
 work=$(mktemp -d) || exit
 trap 'rm -rf "$work"' EXIT
 
-rustc -O -o "$work/plain_cutout" "$root/bench/plain_cutout.rs" || exit
+rustc --edition 2021 -O -o "$work/plain_cutout" "$root/bench/plain_cutout.rs" || exit
 cd "$work" || exit
-./plain_cutout make d || exit
-cat d/info d/s/* >/dev/null || exit
-python3 "$root/bench/compare.py" 3 \
-    "'$program' cutout d s [0:512,0:512,0:512]" \
-    "./plain_cutout cutout d s [0:512,0:512,0:512]"
+
+# LAYOUT BOX
+compare() {
+    ./plain_cutout "$1" make "$1" && cat "$1/info" "$1"/s/* >/dev/null || exit
+    echo "$1 $2"
+    python3 "$root/bench/compare.py" 3 \
+        "'$program' cutout $1 s $2" \
+        "./plain_cutout $1 cutout $1 s $2" || exit
+}
+
+compare bytes '[0:512,0:512,0:512]'
+compare wide '[0:128,0:128,0:128]'

@@ -7,7 +7,6 @@ PROGRAM is crates/vol_tool/out/vol_tool if it is left out. Each case has a tempo
 program runs. Its status, its output and its one line on standard error are compared with what is due, and so is the
 folder afterwards with what it held before. The last line is 'N passed, N failed', and the status is 1 where a case failed.
 """
-import json
 import os
 import pathlib
 import shutil
@@ -15,42 +14,36 @@ import subprocess
 import sys
 import tempfile
 
-ROOT = pathlib.Path(__file__).resolve().parent.parent
-PROGRAM = ROOT / "crates" / "vol_tool" / "out" / "vol_tool"
-
-# Statuses
-OK, USAGE, INFO, REQUEST, DAMAGED, STORE, OUTPUT = 0, 1, 2, 3, 4, 5, 7
+from program import (
+    DAMAGED,
+    FEED,
+    INFO,
+    INFO_PATH,
+    OK,
+    OUTPUT,
+    REQUEST,
+    SEGMENTED,
+    SHARDING,
+    STORE,
+    USAGE,
+    box_of,
+    compare,
+    head_of,
+    info_of,
+    open_closed_pipe,
+    open_full,
+    run,
+    snapshot,
+    stream_of,
+    tell_all,
+)
 
 # The dataset d of each case has the scale s of 4 x 2 x 1 voxels in two chunks.
-INFO_PATH = "d/info"
 FIRST = "d/s/0-2_0-2_0-1"
 SECOND = "d/s/2-4_0-2_0-1"
 WHOLE = "[0:4,0:2,0:1]"
 VALUES = bytes([1, 2, 5, 6, 3, 4, 7, 8])
 
-
-SHARDING = {
-    "@type": "neuroglancer_uint64_sharded_v1",
-    "preshift_bits": 0,
-    "hash": "identity",
-    "minishard_bits": 0,
-    "shard_bits": 0,
-}
-SEGMENTED = {"encoding": "compressed_segmentation", "compressed_segmentation_block_size": [8, 8, 8]}
-
-
-def info_of(size, chunk, volume=None, scale=None):
-    """The info document of a dataset with one plain scale s, and other members of the volume and of the scale."""
-    one = {
-        "key": "s",
-        "size": size,
-        "chunk_sizes": [chunk],
-        "resolution": [8, 8, 40],
-        "encoding": "raw",
-        **(scale or {}),
-    }
-    info = {"type": "image", "data_type": "uint8", "num_channels": 1, "scales": [one], **(volume or {})}
-    return json.dumps(info).encode()
 
 
 def lay_out(folder):
@@ -131,8 +124,40 @@ def both(one, other):
     return arrange
 
 
+def without_chunks(folder):
+    (folder / FIRST).unlink()
+    (folder / SECOND).unlink()
+
+
+def empty_with(arrange):
+    """No chunk is stored, and then something more is done."""
+    return both(without_chunks, arrange)
+
+
+def empty_info(volume=None, **scale):
+    return empty_with(with_info(volume, **scale))
+
+
+def with_new_pipe(name):
+    return lambda folder: os.mkfifo(folder / name)
+
+
+def with_new_file(name, content=b""):
+    """A file, and the folders above it."""
+
+    def arrange(folder):
+        (folder / name).parent.mkdir(parents=True, exist_ok=True)
+        (folder / name).write_bytes(content)
+
+    return arrange
+
+
 def cut(box=WHOLE, dataset="d", key="s"):
     return ["cutout", dataset, key, box]
+
+
+def write(*options, dataset="d", key="s"):
+    return ["write", dataset, key, *options]
 
 
 # Command lines that are none.
@@ -146,7 +171,7 @@ NO_COMMANDS = {
     "a command in capitals": ["CUTOUT", "d", "s", WHOLE],
     "a command that isn't built": ["serve", "d", "--port=0", "--connections=1"],
     "--help": ["--help"],
-    "an option": [*cut(), "--workers=1"],
+    "an option of another command": [*cut(), "--workers=1"],
     "an option in front": ["--workers=1", *cut()],
     "an empty DATASET": cut(dataset=""),
     "an empty KEY": cut(key=""),
@@ -181,7 +206,45 @@ NO_COMMANDS = {
     "a box with 2^41 + 1": cut("[0:2199023255553,0:2,0:1]"),
     "a box with -2^41 - 1": cut("[-2199023255553:4,0:2,0:1]"),
     "a box with 2^64": cut("[0:18446744073709551616,0:2,0:1]"),
+    "write without KEY": ["write", "d"],
+    "write with a word too many": write("x"),
+    "write with ..": write(key="../s"),
+    "no workers": write("--workers=0"),
+    "17 workers": write("--workers=17"),
+    "workers with 0 in front": write("--workers=01"),
+    "workers with a sign": write("--workers=+1"),
+    "workers without a number": write("--workers="),
+    "workers without =": write("--workers"),
+    "workers in two words": write("--workers", "1"),
+    "workers twice": write("--workers=1", "--workers=1"),
+    "workers in front of write": ["--workers=1", *write()],
+    "an option that is none": write("--port=1"),
+    "a short option": write("-w"),
+    "-- alone": write("--"),
+    "--help of write": write("--help"),
 }
+
+
+# Info documents at the limits.
+
+
+def deep_info(length):
+    """1,024 channels in one chunk."""
+    return info_of([length, 1, 1], [length, 1, 1], {"num_channels": 1024})
+
+
+def padded_info(length):
+    """Two segmented channels in one chunk, in blocks of one voxel."""
+    segmented = {**SEGMENTED, "compressed_segmentation_block_size": [1, 1, 1]}
+    return info_of([length, 1, 1], [length, 1, 1], {"data_type": "uint32", "num_channels": 2}, segmented)
+
+
+def wide_info():
+    """A sharded segmentation as large as a scale can be, whose chunks have one voxel more than 2^24."""
+    segmented = {**SEGMENTED, "compressed_segmentation_block_size": [1, 1, 1], "sharding": SHARDING}
+    volume = {"type": "segmentation", "data_type": "uint32"}
+    return info_of([2**40, 2**40, 2**40], [2**24 + 1, 1, 1], volume, segmented)
+
 
 FAR = "[0:2199023255552,0:2,0:1]"
 LOW = "[-2199023255552:4,0:2,0:1]"
@@ -228,6 +291,30 @@ REFUSED = [
         cut(),
         INFO,
         "info of d: limit chunk_bytes",
+    ),
+    (
+        "a resolution beyond floating point",
+        with_bytes(INFO_PATH, info_of([4, 2, 1], [2, 2, 1]).replace(b"[8, 8, 40]", b"[8, 8, 1e400]")),
+        cut(),
+        INFO,
+        "info of d: not json",
+    ),
+    ("1,024 channels of 131,073 bytes", with_bytes(INFO_PATH, deep_info(131073)), cut(), INFO, "info of d: limit chunk_bytes"),
+    ("2^24 padded voxels", with_bytes(INFO_PATH, padded_info(8388608)), cut(), INFO, "info of d: not built"),
+    ("2^24 + 2 padded voxels", with_bytes(INFO_PATH, padded_info(8388609)), cut(), INFO, "info of d: limit padded"),
+    (
+        "a sharded segmentation of 96 bits, with 2^24 + 1 padded voxels",
+        with_bytes(INFO_PATH, wide_info()),
+        cut(),
+        INFO,
+        "info of d: limit morton_bits",
+    ),
+    (
+        "two chunks in two minishards",
+        with_bytes(INFO_PATH, info_of([2, 1, 1], [1, 1, 1], scale={"sharding": {**SHARDING, "minishard_bits": 1}})),
+        cut(),
+        INFO,
+        "info of d: not built",
     ),
     ("an info that is a link to itself", with_loop(INFO_PATH), cut(), STORE, "store fault"),
     ("an info that is a pipe", with_pipe(INFO_PATH), cut(), STORE, "store fault"),
@@ -296,9 +383,103 @@ REFUSED = [
     ("a chunk that is a device", with_device(SECOND), cut(), STORE, "store fault"),
 ]
 
+# A stream that writes the whole scale.
+STREAM = stream_of(([0, 0, 0], [4, 2, 1], VALUES))
+LONG = [2097153, 1, 1]
+
+# title, what is done before, words, the stream, status, line
+WRITES_REFUSED = [
+    ("a write without an info", without(INFO_PATH), write(), b"", INFO, "info of d: absent"),
+    ("a write by a broken info, with a bad stream", with_bytes(INFO_PATH, b"{"), write(), b"", INFO, "info of d: not json"),
+    ("a write into segments", empty_info({"data_type": "uint64"}, **SEGMENTED), write(), STREAM, INFO, "info of d: not built"),
+    ("a write into shards", empty_info(sharding=SHARDING), write(), STREAM, INFO, "info of d: not built"),
+    ("a write over chunks", as_it_is, write(), STREAM, REQUEST, "folder not empty"),
+    ("a bad stream over chunks", as_it_is, write(), b"", REQUEST, "folder not empty"),
+    ("a write over one chunk", without(FIRST), write(), STREAM, REQUEST, "folder not empty"),
+    (
+        "a write above a deep object",
+        empty_with(with_new_file("d/s/x/y")),
+        write(),
+        STREAM,
+        REQUEST,
+        "folder not empty",
+    ),
+    (
+        "a write above an object in a folder that ends in .part",
+        empty_with(with_new_file("d/s/x.part/y")),
+        write(),
+        STREAM,
+        REQUEST,
+        "folder not empty",
+    ),
+    ("an empty stream", without_chunks, write(), b"", REQUEST, "stream: bad magic"),
+    ("three bytes of a stream", without_chunks, write(), b"PVW", REQUEST, "stream: bad magic"),
+    ("another magic", without_chunks, write(), b"PVW2" + STREAM[4:], REQUEST, "stream: bad magic"),
+    ("a stream without a count", without_chunks, write(), b"PVW1", REQUEST, "write 0: truncated"),
+    ("65,537 writes", without_chunks, write(), head_of(65537), REQUEST, "stream: too many writes 65537"),
+    ("65,536 writes that are missing", without_chunks, write(), head_of(65536), REQUEST, "write 0: truncated"),
+    ("a stream of a byte less", without_chunks, write(), STREAM[:-1], REQUEST, "write 0: truncated"),
+    ("a stream of a byte more", without_chunks, write(), STREAM + b"\0", REQUEST, "stream: trailing bytes"),
+    ("a byte behind no writes", without_chunks, write(), head_of(0) + b"\0", REQUEST, "stream: trailing bytes"),
+    (
+        "a second write without its values",
+        without_chunks,
+        write(),
+        head_of(2) + STREAM[8:] + box_of([0, 0, 0], [1, 1, 1]),
+        REQUEST,
+        "write 1: truncated",
+    ),
+    ("a write of no voxels", without_chunks, write(), stream_of(([0, 0, 0], [4, 2, 0], b"")), REQUEST, "write 0: empty box"),
+    ("a write past the end", without_chunks, write(), stream_of(([0, 0, 0], [5, 2, 1], bytes(10))), REQUEST, "write 0: outside scale"),
+    (
+        "a second write before the begin",
+        without_chunks,
+        write(),
+        head_of(2) + STREAM[8:] + box_of([-1, 0, 0], [1, 1, 1]) + b"9",
+        REQUEST,
+        "write 1: outside scale",
+    ),
+    (
+        "a size that passes 64 bits with its begin",
+        without_chunks,
+        write(),
+        head_of(1) + box_of([2, 0, 0], [2**64 - 1, 1, 1]),
+        REQUEST,
+        "write 0: outside scale",
+    ),
+    (
+        "writes of more than 2^30 bytes",
+        empty_info({"data_type": "uint64"}, size=[2**27 + 1, 1, 1]),
+        write(),
+        head_of(1) + box_of([0, 0, 0], [2**27 + 1, 1, 1]),
+        REQUEST,
+        "write 0: too large",
+    ),
+    (
+        "writes that meet more than 2^22 chunks",
+        empty_info(size=LONG, chunk_sizes=[[1, 1, 1]]),
+        write(),
+        stream_of(([0, 0, 0], LONG, bytes(LONG[0])), ([0, 0, 0], LONG, bytes(LONG[0]))),
+        REQUEST,
+        "too many cells 4194306",
+    ),
+    ("a pipe in the folder of a write", empty_with(with_new_pipe("d/s/x")), write(), STREAM, STORE, "store fault"),
+    (
+        "a pipe deep in the folder of a write",
+        empty_with(both(with_new_file("d/s/x/y.part"), with_new_pipe("d/s/x/z"))),
+        write(),
+        STREAM,
+        STORE,
+        "store fault",
+    ),
+    ("a write to a folder that is a file", with_file("d/s"), write(), STREAM, STORE, "store fault"),
+]
+
 # title, what is done before, words, output
 SERVED = [
     ("a sound dataset", as_it_is, cut(), VALUES),
+    ("UINT8 and Raw", with_info({"data_type": "UINT8"}, encoding="Raw"), cut(), VALUES),
+    ("1,024 channels of 131,072 bytes", with_bytes(INFO_PATH, deep_info(131072)), cut("[7:9,0:1,0:1]"), bytes(2048)),
     ("a box across the chunks", as_it_is, cut("[1:3,1:2,0:1]"), bytes([4, 7])),
     ("a fault outside the box", with_bytes(SECOND, b""), cut("[0:2,0:2,0:1]"), bytes([1, 2, 3, 4])),
     (
@@ -331,30 +512,7 @@ SERVED = [
 ]
 
 
-def snapshot(folder):
-    """Each path of a folder, with what it is and what it holds."""
-    found = {}
-    for path in sorted(folder.rglob("*")):
-        if path.is_symlink():
-            content = os.readlink(path)
-        elif path.is_file():
-            content = path.read_bytes()
-        else:
-            content = None
-        found[str(path.relative_to(folder))] = (path.lstat().st_mode, path.lstat().st_mtime_ns, content)
-    return found
-
-
-def run(program, folder, words, output):
-    """What a run ends with: its status, its output where that is a pipe, and its standard error."""
-    command = [os.fsencode(program), *(os.fsencode(word) for word in words)]
-    done = subprocess.run(
-        command, cwd=folder, stdin=subprocess.DEVNULL, stdout=output, stderr=subprocess.PIPE, timeout=60
-    )
-    return done.returncode, done.stdout or b"", done.stderr
-
-
-def judge(program, arrange, words, wanted, output=subprocess.PIPE):
+def judge(program, arrange, words, wanted, feed=b"", output=subprocess.PIPE):
     """The first thing that is wrong with a run, or None."""
     with tempfile.TemporaryDirectory() as name:
         folder = pathlib.Path(name)
@@ -362,34 +520,29 @@ def judge(program, arrange, words, wanted, output=subprocess.PIPE):
         arrange(folder)
         before = snapshot(folder)
         try:
-            found = run(program, folder, words, output)
+            found = run(program, folder, words, feed, output)
         except subprocess.TimeoutExpired:
-            return "it didn't end within 60 seconds"
+            return "it didn't end in time"
         if snapshot(folder) != before:
             return "the folder isn't as before"
-    for what, one, other in zip(("status", "output", "standard error"), found, wanted):
-        if one != other:
-            return f"{what} {one!r} wanted {other!r}"
-    return None
-
-
-def open_full():
-    return os.open("/dev/full", os.O_WRONLY)
-
-
-def open_closed_pipe():
-    """The end to write to of a pipe that nobody reads."""
-    read_end, write_end = os.pipe()
-    os.close(read_end)
-    return write_end
+    return compare(found, wanted)
 
 
 def judge_output(program, open_output):
     output = open_output()
     try:
-        return judge(program, as_it_is, cut(), (OUTPUT, b"", b"output fault\n"), output)
+        return judge(program, as_it_is, cut(), (OUTPUT, b"", b"output fault\n"), output=output)
     finally:
         os.close(output)
+
+
+def judge_folder_feed(program):
+    """A write whose standard input is a folder."""
+    feed = os.open("/", os.O_RDONLY)
+    try:
+        return judge(program, without_chunks, write(), (FEED, b"", b"feed fault\n"), feed=feed)
+    finally:
+        os.close(feed)
 
 
 def judge_all(program):
@@ -398,28 +551,14 @@ def judge_all(program):
         yield title, judge(program, as_it_is, words, (USAGE, b"", b"usage\n"))
     for title, arrange, words, status, line in REFUSED:
         yield title, judge(program, arrange, words, (status, b"", line.encode() + b"\n"))
+    for title, arrange, words, feed, status, line in WRITES_REFUSED:
+        yield title, judge(program, arrange, words, (status, b"", line.encode() + b"\n"), feed)
     for title, arrange, words, output in SERVED:
         yield title, judge(program, arrange, words, (OK, output, b""))
     yield "output to a full device", judge_output(program, open_full)
     yield "output into a closed pipe", judge_output(program, open_closed_pipe)
-
-
-def main():
-    program = pathlib.Path(sys.argv[1]).resolve() if len(sys.argv) > 1 else PROGRAM
-    passed = failed = 0
-    if os.access(program, os.X_OK):
-        for title, wrong in judge_all(program):
-            if wrong is None:
-                passed += 1
-            else:
-                failed += 1
-                print(f"{title}: {wrong}")
-    else:
-        failed += 1
-        print(f"there is no program {program}")
-    print(f"{passed} passed, {failed} failed")
-    return 1 if failed or not passed else 0
+    yield "a folder as the stream", judge_folder_feed(program)
 
 
 if __name__ == "__main__":
-    sys.exit(main())
+    sys.exit(tell_all(judge_all))

@@ -1,0 +1,129 @@
+//! Overlapping writes into a plain scale as an ordinary Rust program does them, for comparison. LAYOUT is a volume of
+//! layout.rs.
+//!
+//!     plain_write LAYOUT make DATASET          writes the dataset's info
+//!     plain_write LAYOUT stream                writes a stream of writes to standard output
+//!     plain_write LAYOUT write DATASET KEY     reads a stream from standard input and writes its objects
+//!
+//! The whole stream is read first. Each chunk is made in memory from the writes that meet it, written to a file that
+//! ends in .part, and renamed.
+
+mod layout;
+
+use layout::{Layout, Noise, Spans};
+use std::collections::BTreeMap;
+use std::fs;
+use std::io::{self, Read, Write};
+use std::path::Path;
+use std::process::ExitCode;
+
+/// A box, and the bytes of its values.
+type BoxWrite = (Spans, Vec<u8>);
+
+fn number(bytes: &[u8]) -> usize {
+    u64::from_le_bytes(bytes.try_into().unwrap()) as usize
+}
+
+fn read_write(layout: &Layout, feed: &mut impl Read) -> io::Result<BoxWrite> {
+    let mut head = [0; 48];
+    feed.read_exact(&mut head)?;
+    let part = [0, 1, 2].map(|axis| {
+        let begin = number(&head[8 * axis..8 * axis + 8]);
+        let size = number(&head[24 + 8 * axis..32 + 8 * axis]);
+        (begin, begin.saturating_add(size))
+    });
+    if part.iter().any(|(begin, end)| begin >= end || *end > layout.size) {
+        return Err(io::ErrorKind::InvalidData.into());
+    }
+    let mut values = vec![0; layout.bytes_of(&part)];
+    feed.read_exact(&mut values)?;
+    Ok((part, values))
+}
+
+fn read_stream(layout: &Layout, feed: &mut impl Read) -> io::Result<Vec<BoxWrite>> {
+    let mut head = [0; 8];
+    feed.read_exact(&mut head)?;
+    let count = u32::from_le_bytes([head[4], head[5], head[6], head[7]]);
+    if &head[..4] != b"PVW1" || count > 65536 {
+        return Err(io::ErrorKind::InvalidData.into());
+    }
+    let writes = (0..count).map(|_| read_write(layout, feed)).collect::<io::Result<Vec<_>>>()?;
+    match feed.read(&mut [0])? {
+        0 => Ok(writes),
+        _ => Err(io::ErrorKind::InvalidData.into()),
+    }
+}
+
+/// For each cell that some write meets, z slowest, the numbers of these writes.
+fn plan(layout: &Layout, writes: &[BoxWrite]) -> BTreeMap<[usize; 3], Vec<usize>> {
+    let mut plan: BTreeMap<_, Vec<usize>> = BTreeMap::new();
+    for (number, (part, _)) in writes.iter().enumerate() {
+        for [x, y, z] in layout.cells(part) {
+            plan.entry([z, y, x]).or_default().push(number);
+        }
+    }
+    plan
+}
+
+fn put(path: &Path, chunk: &[u8]) -> io::Result<()> {
+    let part = path.with_extension("part");
+    fs::write(&part, chunk)?;
+    fs::rename(part, path)
+}
+
+fn write(layout: &Layout, folder: &Path) -> io::Result<()> {
+    let writes = read_stream(layout, &mut io::stdin())?;
+    fs::create_dir_all(folder)?;
+    let plan = plan(layout, &writes);
+    let mut chunk = vec![0; layout.bytes_of(&layout.cell_box([0, 0, 0]))];
+    for ([z, y, x], numbers) in &plan {
+        let cell = [*x, *y, *z];
+        chunk.fill(0);
+        for (part, values) in numbers.iter().map(|number| &writes[*number]) {
+            layout.copy_rows(part, values, &layout.cell_box(cell), &mut chunk);
+        }
+        put(&folder.join(layout.chunk_name(cell)), &chunk)?;
+    }
+    println!("objects {} cells {}", plan.len(), plan.len());
+    Ok(())
+}
+
+/// Two writes: the whole volume, and a cube of half its side that is in no line with the chunks.
+fn write_stream(layout: &Layout) -> io::Result<()> {
+    let quarter = layout.size / 4 + 1;
+    let parts: [Spans; 2] = [[(0, layout.size); 3], [(quarter, quarter + layout.size / 2); 3]];
+    let mut noise = Noise::new();
+    let mut out = io::stdout().lock();
+    out.write_all(b"PVW1\x02\0\0\0")?;
+    for part in &parts {
+        for (begin, _) in part {
+            out.write_all(&(*begin as i64).to_le_bytes())?;
+        }
+        for (begin, end) in part {
+            out.write_all(&((end - begin) as u64).to_le_bytes())?;
+        }
+        out.write_all(&noise.take(layout.bytes_of(part)))?;
+    }
+    out.flush()
+}
+
+fn main() -> ExitCode {
+    let words: Vec<String> = std::env::args().skip(1).collect();
+    let words: Vec<&str> = words.iter().map(String::as_str).collect();
+    let Some(layout) = words.first().and_then(|name| Layout::named(name)) else {
+        return ExitCode::from(1);
+    };
+    let done = match words[1..] {
+        ["make", dataset] => layout.make_info(Path::new(dataset)),
+        ["stream"] => write_stream(&layout),
+        ["write", dataset, key] => write(&layout, &Path::new(dataset).join(key)),
+        _ => return ExitCode::from(1),
+    };
+    match done {
+        Ok(()) => ExitCode::SUCCESS,
+        Err(error) => {
+            eprintln!("{error}");
+            ExitCode::from(5)
+        }
+    }
+}

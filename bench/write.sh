@@ -1,0 +1,43 @@
+#!/bin/sh
+# Overlapping writes into empty scales by vol_tool and by the plain program beside this script: five tries in turn, the
+# best of each. The stream is in the page cache; it has one write of the whole scale and one of an eighth of it across
+# the chunks. The scales are 512 x 512 x 512 bytes in chunks of 64 x 64 x 64, and 128 x 128 x 128 voxels of four channels
+# of 64-bit numbers in chunks of 32 x 32 x 32. Both programs write each chunk to a file that ends in .part, which they
+# rename; neither waits until the disk has it. Their objects are compared at the end.
+#
+#     bench/write.sh [PROGRAM]
+#
+# PROGRAM is the built vol_tool if it is left out. It wants rustc, Python, and 1 GiB free where TMPDIR says.
+
+root=$(cd "$(dirname "$0")/.." && pwd) || exit
+program=${1:-$root/crates/vol_tool/out/vol_tool}
+case $program in
+/*) ;;
+*) program=$PWD/$program ;;
+esac
+if [ ! -x "$program" ]; then
+    echo "bench/write.sh: there is no program $program" >&2
+    exit 1
+fi
+
+work=$(mktemp -d) || exit
+trap 'rm -rf "$work"' EXIT
+
+rustc --edition 2021 -O -o "$work/plain_write" "$root/bench/plain_write.rs" || exit
+cd "$work" || exit
+
+# LAYOUT
+compare() {
+    ./plain_write "$1" make ours && ./plain_write "$1" make plain && ./plain_write "$1" stream >stream || exit
+    echo "$1"
+    python3 "$root/bench/compare.py" 5 \
+        "'$program' write ours s" \
+        "./plain_write $1 write plain s" \
+        stream 'rm -rf ours/s plain/s' || exit
+    "$program" write ours s <stream >/dev/null && ./plain_write "$1" write plain s <stream >/dev/null || exit
+    diff -r ours plain || exit
+    rm -rf ours plain
+}
+
+compare bytes
+compare wide
