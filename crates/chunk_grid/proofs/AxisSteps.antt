@@ -1,15 +1,8 @@
 -- Cells on one axis: places from 0 to the size, in blocks of the chunk size, the last of which may be cut short.
-use Rattle.std.proofs.Common.{◌≡◌, ℕ, zero, suc, ◌+◌, ◌-◌, ◌*◌, ◌/◌, ◌%◌, ◌<◌, ◌≤◌, min, ap, ◌∙◌, sym, arith, inl, inr}
+use Rattle.std.proofs.Common.{◌≡◌, ℕ, ◌+◌, ◌-◌, ◌*◌, ◌/◌, ◌%◌, ◌<◌, ◌≤◌, min, ap, ◌∙◌, sym, arith, inl, inr}
 use Rattle.std.proofs.lemmas.Bool.{cases_lt}
 use Rattle.std.proofs.lemmas.Nat.{div_below, mod_below, div-mul-add, le-div}
 use Rattle.std.proofs.Math.Nat.{mod-add-div, div-mul-le_self, le-mul_of_pos_right, mul-le-mul_right}
-
--- a fact on each axis from the three
-pub by_axis : (P : ℕ → Type 0) → P 0 → P 1 → P 2 → (axis : ℕ) → axis < 3 → P axis
-by_axis P x y z zero h = x
-by_axis P x y z (suc zero) h = y
-by_axis P x y z (suc (suc zero)) h = z
-by_axis P x y z (suc (suc (suc a))) h = absurd (omega arith)
 
 -- the number of blocks is 1 to the size
 pub counted : (size chunk : ℕ) → 1 ≤ size → 1 ≤ chunk → (1 ≤ (size + chunk - 1) / chunk) × ((size + chunk - 1) / chunk ≤ size)

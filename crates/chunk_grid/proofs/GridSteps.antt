@@ -6,6 +6,7 @@ use Rattle.std.specs.List.{range_with_len}
 use Rattle.std.proofs.lemmas.Int.{ints}
 use Rattle.std.proofs.lemmas.Nat.{le-div, mul-le}
 use Rattle.std.proofs.Math.Nat.{div-mul-le_self, mul-le-mul_right}
+use Rattle.vol_base.proofs.Axes.{by_axis}
 use Rattle.vol_base.specs.declared.boxes.Box3.{Box3}
 use Rattle.vol_base.specs.Boxes.{at, end, size, from_begin, Covers, Within, IsSome}
 use Rattle.vol_base.specs.Grids.{AreSizes}
@@ -13,9 +14,10 @@ use Rattle.vol_spec.specs.Limits.{cell_counts, first_bytes}
 use Rattle.vol_spec.specs.Raw.{raw_len}
 use Rattle.vol_spec.specs.Grid.{whole, Inside, cells_on, IsCell, cell_begin, cell_box, cell_at, meets, cells_in}
 use Rattle.vol_spec.specs.declared.scale.Scale.{Scale}
+use Rattle.vol_spec.proofs.RawSteps.{place_of}
 use Rattle.chunk_grid.specs.Axes.{LiesOn, IsSmallOn}
 use Rattle.chunk_grid.specs.Walks.{cell_by_number, total, cells_from, last_position, counts_between, AreEnds}
-use Rattle.chunk_grid.proofs.AxisSteps.{by_axis, counted, block_begins, in_block, one_block}
+use Rattle.chunk_grid.proofs.AxisSteps.{counted, block_begins, in_block, one_block}
 use Rattle.chunk_grid.proofs.ListSteps.{filter-between}
 use Rattle.chunk_grid.proofs.MeetSteps.{meets_by_number, before_none, between_all, behind_none}
 use Rattle.chunk_grid.proofs.BlockSteps.{filter_product, product_numbers}
@@ -62,9 +64,6 @@ Inside-from s b h = record {
 }
 
 -- the place of a position of the scale on an axis
-place_of : (o p : ℤ) (m : ℕ) → o ≤ℤ p → p <ℤ (o +ℤ pos m) → nat_abs (p -ℤ o) < m
-place_of o p m low high = omega (arith, ints)
-
 place_covered : (o p : ℤ) (m chunk : ℕ) → 1 ≤ chunk → o ≤ℤ p → p <ℤ (o +ℤ pos m)
     → ((o +ℤ pos (nat_abs (p -ℤ o) / chunk * chunk)) ≤ℤ p) × (p <ℤ ((o +ℤ pos (nat_abs (p -ℤ o) / chunk * chunk)) +ℤ pos (min chunk (m - nat_abs (p -ℤ o) / chunk * chunk))))
 place_covered o p m chunk c low high =
@@ -107,10 +106,6 @@ cell_at-only s p cell long h =
     (one_cell (at s.offset 0) (at p 0) (slice_index s.size 0) (slice_index s.chunk 0) (slice_index cell 0) (s.chunk_ok 0 (lit< tt)).0 (h 0 (lit< tt)).0 (h 0 (lit< tt)).1)
     (one_cell (at s.offset 1) (at p 1) (slice_index s.size 1) (slice_index s.chunk 1) (slice_index cell 1) (s.chunk_ok 1 (lit< tt)).0 (h 1 (lit< tt)).0 (h 1 (lit< tt)).1)
     (one_cell (at s.offset 2) (at p 2) (slice_index s.size 2) (slice_index s.chunk 2) (slice_index cell 2) (s.chunk_ok 2 (lit< tt)).0 (h 2 (lit< tt)).0 (h 2 (lit< tt)).1)
-
--- two cells with a position in common are one
-pub cells_apart : (s : Scale) (a b : List ℕ) (p : List ℤ) → length a ≡ 3 → length b ≡ 3 → Covers (cell_box s a) p → Covers (cell_box s b) p → a ≡ b
-cells_apart s a b p la lb ca cb = cell_at-only s p a la ca ∙ sym (cell_at-only s p b lb cb)
 
 -- a cell's box lies in the scale, and no axis of it is empty
 cell_within : (o p : ℤ) (m chunk g : ℕ) → (o +ℤ pos (g * chunk)) ≤ℤ p → p <ℤ ((o +ℤ pos (g * chunk)) +ℤ pos (min chunk (m - g * chunk))) → (o ≤ℤ p) × (p <ℤ (o +ℤ pos m))

@@ -11,3 +11,4 @@ pub mod OrderSteps
 pub mod StoredSteps
 pub mod TextSteps
 pub mod WalkSteps
+pub mod Walked

@@ -70,10 +70,6 @@ filter-flat_map p F [] = refl
 filter-flat_map p F (x ∷ xs) = filter-append p (F x) (flat_map F xs) ∙ ap (λ ys. filter p (F x) ++ ys) (filter-flat_map p F xs)
 
 -- and pieces that a test empties fall away
-cond_same : {A : Type 0} (b : Bool) (xs ys zs : List A) → cond b (xs ++ ys) ys ≡ cond b xs [] ++ ys
-cond_same true xs ys zs = refl
-cond_same false xs ys zs = refl
-
 on_cond : {X A : Type 0} (b : Bool) (F : X → List A) (x : X) (xs : List X) → flat_map F (cond b (x ∷ xs) xs) ≡ cond b (F x) [] ++ flat_map F xs
 on_cond true F x xs = refl
 on_cond false F x xs = refl

@@ -3,19 +3,21 @@ use Rattle.std.proofs.Common.{◌≡◌, ◌≢◌, ℕ, zero, suc, ◌+◌, ◌
 use Rattle.std.specs.Prelude.{filter, ◌↔◌, IsTrue, All, AllPairs, Contains, ℤ, ◌≤ℤ◌, ◌<ℤ◌, int_lt, slice_index}
 use Rattle.std.specs.Int.{int_max, int_min}
 use Rattle.std.specs.List.{range_with_len}
+use Rattle.std.proofs.lemmas.Bool.{and_from, and_parts}
 use Rattle.std.proofs.lemmas.Int.{ints, clamps}
 use Rattle.std.proofs.lemmas.Nat.{mod_below, div_below, div-mul-add, mod-mul-add, mul-add-lt}
 use Rattle.std.proofs.Math.Nat.{mod-add-div}
 use Rattle.std.proofs.lemmas.List.Elements.{All-filter, All-weaker, filter_passes}
 use Rattle.std.proofs.lemmas.List.Kept.{AllPairs-filter}
 use Rattle.std.proofs.lemmas.List.FromFn.{length-map-range_with_len, get_or-map-range_with_len}
+use Rattle.vol_base.proofs.Axes.{by_axis}
 use Rattle.vol_base.specs.declared.boxes.Box3.{Box3}
 use Rattle.vol_base.specs.Boxes.{at, end, on_axes, Covers}
 use Rattle.vol_spec.specs.Grid.{whole, Inside, cells_on, IsCell, cell_box, cell_at, Meets, meets, meets_on, numbers_on, cells_in}
 use Rattle.vol_spec.specs.declared.scale.Scale.{Scale}
 use Rattle.chunk_grid.specs.Walks.{cell_by_number}
-use Rattle.chunk_grid.proofs.AxisSteps.{by_axis, counted}
-use Rattle.chunk_grid.proofs.MeetSteps.{overlaps, overlap_from, both_true, both_from, is_true, true_from}
+use Rattle.chunk_grid.proofs.AxisSteps.{counted}
+use Rattle.chunk_grid.proofs.MeetSteps.{overlaps, overlap_from, is_true, true_from}
 use Rattle.chunk_grid.proofs.BlockSteps.{product_numbers}
 use Rattle.chunk_grid.proofs.GridSteps.{three, cell_at-IsCell, cell_at-Covers, cell_at-only}
 
@@ -37,13 +39,13 @@ pub meets-true : (s : Scale) (b : Box3) (cell : List ℕ) → Meets s cell b →
 meets-true s b cell (p, own, part) =
     let on : (axis : ℕ) → axis < 3 → meets_on (cell_box s cell) b axis ≡ true =
     λ axis l. axis_true (at (cell_box s cell).begin axis) (at b.begin axis) (end (cell_box s cell) axis) (end b axis) (at p axis) (own axis l).0 (own axis l).1 (part axis l).0 (part axis l).1 in
-    both_true _ _ (on 0 (lit< tt)) (both_true _ _ (on 1 (lit< tt)) (both_true _ _ (on 2 (lit< tt)) refl))
+    and_from _ _ (on 0 (lit< tt)) (and_from _ _ (on 1 (lit< tt)) (and_from _ _ (on 2 (lit< tt)) refl))
 
 pub Meets-from : (s : Scale) (b : Box3) (cell : List ℕ) → meets s b cell ≡ true → Meets s cell b
 Meets-from s b cell e =
-    let first = both_from _ _ e in
-    let second = both_from _ _ first.1 in
-    let third = both_from _ _ second.1 in
+    let first = and_parts _ _ e in
+    let second = and_parts _ _ first.1 in
+    let third = and_parts _ _ second.1 in
     let x = axis_from (at (cell_box s cell).begin 0) (at b.begin 0) (end (cell_box s cell) 0) (end b 0) first.0 in
     let y = axis_from (at (cell_box s cell).begin 1) (at b.begin 1) (end (cell_box s cell) 1) (end b 1) second.0 in
     let z = axis_from (at (cell_box s cell).begin 2) (at b.begin 2) (end (cell_box s cell) 2) (end b 2) third.0 in
@@ -66,7 +68,7 @@ all_count s = cells_on s 0 * cells_on s 1 * cells_on s 2
 pub numbered : (s : Scale) → numbers_on (cells_on s) ≡ map (all_cells s) (range_with_len 0 (all_count s))
 numbered s = product_numbers 0 0 0 (cells_on s 0) (cells_on s 1) (cells_on s 2)
 
-some_cells : (s : Scale) (axis : ℕ) → axis < 3 → 1 ≤ (slice_index s.size axis + slice_index s.chunk axis - 1) / slice_index s.chunk axis
+pub some_cells : (s : Scale) (axis : ℕ) → axis < 3 → 1 ≤ (slice_index s.size axis + slice_index s.chunk axis - 1) / slice_index s.chunk axis
 some_cells s axis l = (counted (slice_index s.size axis) (slice_index s.chunk axis) (s.size_ok axis l).0 (s.chunk_ok axis l).0).0
 
 -- a list over numbers
@@ -89,7 +91,7 @@ Contains-numbers f n i x l e =
     let at_i : 0 + i ≡ i = omega arith in
     (i, omega (arith, l, length-map-range_with_len f 0 n), get_or-map-range_with_len f 0 n i i x l at_i ∙ e)
 
-Contains-cons : {X : Type 0} (y : X) (xs : List X) (x : X) → Contains xs x → Contains (y ∷ xs) x
+pub Contains-cons : {X : Type 0} (y : X) (xs : List X) (x : X) → Contains xs x → Contains (y ∷ xs) x
 Contains-cons y xs x (k, l, e) = (suc k, omega arith, e)
 
 kept : {X : Type 0} (b : Bool) (y : X) (xs : List X) (x : X) → Contains xs x → Contains (cond b (y ∷ xs) xs) x
@@ -102,8 +104,8 @@ Contains-filter p (y ∷ ys) x (zero, l, e) h = rw (e, h) (zero, omega arith, re
 Contains-filter p (y ∷ ys) x (suc k, l, e) h = kept (p y) y (filter p ys) x (Contains-filter p ys x (k, omega arith, e) h)
 
 -- the number of a cell
-by_number : (m n o i : ℕ) → 0 < m → 0 < n → i < m * n * o → (i % m < m) × (i / m % n < n) × (i / m / n < o)
-by_number m n o i hm hn h =
+pub parts_below : (m n o i : ℕ) → 0 < m → 0 < n → i < m * n * o → (i % m < m) × (i / m % n < n) × (i / m / n < o)
+parts_below m n o i hm hn h =
     let row : i / m < o * n = div_below i m (o * n) hm (omega arith) in
     (mod_below i m hm, mod_below (i / m) n hn, div_below (i / m) n o hn row)
 
@@ -126,7 +128,7 @@ from_parts m n i j ex ey ez =
 pub All-numbers_on : (s : Scale) → All (IsCell s) (numbers_on (cells_on s))
 All-numbers_on s =
     subst (All (IsCell s)) (sym (numbered s)) (All-numbers (IsCell s) (all_cells s) (all_count s) (λ i h.
-    let parts = by_number (cells_on s 0) (cells_on s 1) (cells_on s 2) i (some_cells s 0 (lit< tt)) (some_cells s 1 (lit< tt)) h in
+    let parts = parts_below (cells_on s 0) (cells_on s 1) (cells_on s 2) i (some_cells s 0 (lit< tt)) (some_cells s 1 (lit< tt)) h in
     let x : 0 + i % cells_on s 0 < cells_on s 0 = let l = parts.0 in omega arith in
     let y : 0 + i / cells_on s 0 % cells_on s 1 < cells_on s 1 = let l = parts.1 in omega arith in
     let z : 0 + i / cells_on s 0 / cells_on s 1 < cells_on s 2 = let l = parts.2 in omega arith in

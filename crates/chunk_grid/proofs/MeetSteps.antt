@@ -1,25 +1,33 @@
 -- When the cells of an axis meet a part.
 use Rattle.std.proofs.Common.{◌≡◌, ℕ, ◌+◌, ◌-◌, ◌*◌, ◌/◌, ◌<◌, ◌≤◌, min, refl, sym, arith, rules}
-use Rattle.std.specs.Prelude.{◌&&◌, Bool, true, false, nat_le, ℤ, pos, ◌+ℤ◌, ◌<ℤ◌, int_lt, IsTrue}
+use Rattle.std.specs.Prelude.{◌&&◌, Bool, true, false, nat_le, ℤ, pos, ◌+ℤ◌, ◌≤ℤ◌, ◌<ℤ◌, int_le, int_lt, IsTrue}
 use Rattle.std.specs.Int.{int_max, int_min}
 use Rattle.std.proofs.lemmas.Int.{ints, clamps}
+use Rattle.std.proofs.lemmas.Bool.{and_from, and_parts}
 use Rattle.std.proofs.lemmas.Bool.Decides.{nat_tests}
 use Rattle.std.proofs.lemmas.Nat.{div_below, mod_below, le-div}
 use Rattle.std.proofs.Math.Nat.{mod-add-div, div-mul-le_self, mul-le-mul_right}
 
-lt_true : (a b : ℤ) → a <ℤ b → int_lt a b ≡ true
-lt_true a b h = grind (arith, ints)
+-- comparisons of integers, as tests and as facts
+pub int_le-true : (a b : ℤ) → a ≤ℤ b → int_le a b ≡ true
+int_le-true a b h = grind (arith, ints)
 
-lt_from : (a b : ℤ) → int_lt a b ≡ true → a <ℤ b
-lt_from a b h = grind (arith, ints)
+pub int_le-from : (a b : ℤ) → int_le a b ≡ true → a ≤ℤ b
+int_le-from a b h = grind (arith, ints)
+
+pub int_lt-true : (a b : ℤ) → a <ℤ b → int_lt a b ≡ true
+int_lt-true a b h = grind (arith, ints)
+
+pub int_lt-from : (a b : ℤ) → int_lt a b ≡ true → a <ℤ b
+int_lt-from a b h = grind (arith, ints)
 
 -- both begins are before both ends
 pub overlaps : (a b c d : ℤ) → a <ℤ c → a <ℤ d → b <ℤ c → b <ℤ d → int_lt (int_max a b) (int_min c d) ≡ true
-overlaps a b c d ac ad bc bd = lt_true (int_max a b) (int_min c d) (omega (arith, ints, clamps))
+overlaps a b c d ac ad bc bd = int_lt-true (int_max a b) (int_min c d) (omega (arith, ints, clamps))
 
 pub overlap_from : (a b c d : ℤ) → int_lt (int_max a b) (int_min c d) ≡ true → (a <ℤ c) × (a <ℤ d) × (b <ℤ c) × (b <ℤ d)
 overlap_from a b c d e =
-    let h : int_max a b <ℤ int_min c d = lt_from (int_max a b) (int_min c d) e in
+    let h : int_max a b <ℤ int_min c d = int_lt-from (int_max a b) (int_min c d) e in
     (omega (arith, ints, clamps), omega (arith, ints, clamps), omega (arith, ints, clamps), omega (arith, ints, clamps))
 
 -- a block and a part of one axis, from the same begin
@@ -38,13 +46,6 @@ pub same_bools : (a b : Bool) → (a ≡ true → b ≡ true) → (b ≡ true �
 same_bools true b f g = sym (f refl)
 same_bools false true f g = g refl
 same_bools false false f g = refl
-
-pub both_true : (a b : Bool) → a ≡ true → b ≡ true → (a && b) ≡ true
-both_true a b f g = rw (f, g) refl
-
-pub both_from : (a b : Bool) → (a && b) ≡ true → (a ≡ true) × (b ≡ true)
-both_from true b e = (refl, e)
-both_from false b e = absurd (cc e)
 
 le_from : (m n : ℕ) → nat_le m n ≡ true → m ≤ n
 le_from m n e = grind (arith, nat_tests)
@@ -79,9 +80,9 @@ meets_by_number o size chunk n f k c n0 within =
     (λ e.
     let h = overlap_numbers o (k * chunk) (min chunk (size - k * chunk)) f n e in
     let g = numbers_from size chunk n f k c h.2 h.1 in
-    both_true _ _ (le_true _ _ g.0) (le_true _ _ g.1))
+    and_from _ _ (le_true _ _ g.0) (le_true _ _ g.1))
     (λ e.
-    let h = both_from _ _ e in
+    let h = and_parts _ _ e in
     let g = numbers_to size chunk n f k c n0 within (le_from _ _ h.0) (le_from _ _ h.1) in
     numbers_overlap o (k * chunk) (min chunk (size - k * chunk)) f n g.0 g.1 g.2 n0)
 
@@ -90,7 +91,7 @@ pub before_none : (first last k : ℕ) → k < first → (nat_le first k && nat_
 before_none first last k h = grind (arith, nat_tests)
 
 pub between_all : (first last k : ℕ) → first ≤ k → k ≤ last → (nat_le first k && nat_le k last) ≡ true
-between_all first last k low high = both_true _ _ (le_true first k low) (le_true k last high)
+between_all first last k low high = and_from _ _ (le_true first k low) (le_true k last high)
 
 pub behind_none : (first last k : ℕ) → last < k → (nat_le first k && nat_le k last) ≡ false
 behind_none first last k h = grind (arith, nat_tests)

@@ -5,7 +5,7 @@ use Rattle.std.specs.FinMap as fin
 use Rattle.std.specs.Int.Signed.{mag}
 use Rattle.std.specs.Fmt.{decimal, signed_decimal}
 use Rattle.std.specs.Str.{bytes_eq}
-use Rattle.std.proofs.lemmas.Bool.{cases_lt}
+use Rattle.std.proofs.lemmas.Bool.{and_from, cases_lt}
 use Rattle.std.proofs.lemmas.Fmt.{decimal_by_steps, decimal_nonempty, signed_decimal_injective}
 use Rattle.std.proofs.lemmas.Int.{ints}
 use Rattle.std.proofs.lemmas.List.{append_cancel_left, get_or_at, take_at}
@@ -22,7 +22,6 @@ use Rattle.vol_spec.specs.declared.scale.Scale.{Scale}
 use Rattle.vol_spec.proofs.PutSteps.{get-none_under}
 use Rattle.chunk_grid.specs.Axes.{IsSmallOn}
 use Rattle.chunk_grid.proofs.GridSteps.{three, cell_box-Inside, Inside-small}
-use Rattle.chunk_grid.proofs.MeetSteps.{both_true}
 
 -- digits up to a byte that is none are read in one way
 abbrev IsDigit : ℕ → Type 0
@@ -150,7 +149,7 @@ pub is_under-joined : (folder back : List ℕ) → is_under folder (joined folde
 is_under-joined folder back =
     let front : take (length folder) (joined folder back) ≡ folder = take_at folder (47 ∷ back) (length folder) refl in
     let stop : slice_index (joined folder back) (length folder) ≡ 47 = get_or_at folder 47 back 0 (length folder) refl in
-    both_true _ _ (ap (bytes_eq folder) front ∙ (bytes_eq-Decides folder folder).1 refl) (ap (λ b. b == 47) stop)
+    and_from _ _ (ap (bytes_eq folder) front ∙ (bytes_eq-Decides folder folder).1 refl) (ap (λ b. b == 47) stop)
 
 pub is_under-cell_name : (dataset : List ℕ) (s : Scale) (cell : List ℕ) → is_under (folder_of dataset s) (cell_name dataset s cell) ≡ true
 is_under-cell_name dataset s cell = is_under-joined (folder_of dataset s) (box_name (cell_box s cell))

@@ -8,7 +8,7 @@ use Rattle.vol_base.specs.declared.boxes.Box3.{Box3}
 use Rattle.vol_spec.specs.Grid.{cells_on, IsCell, numbers_on}
 use Rattle.vol_spec.specs.StoredCells.{cell_number, AreInOrder, met, met_cells}
 use Rattle.vol_spec.specs.declared.scale.Scale.{Scale}
-use Rattle.chunk_grid.proofs.ListingSteps.{all_cells, all_count, numbered, AllPairs-numbers, Contains-filter, All-numbers_on, Contains-numbers_on}
+use Rattle.chunk_grid.proofs.ListingSteps.{Contains-cons, all_cells, all_count, numbered, AllPairs-numbers, Contains-filter, All-numbers_on, Contains-numbers_on}
 
 -- the number of a block's n-th cell is n
 numbered_cell : (m n i : ℕ) → (0 + i % m) + m * ((0 + i / m % n) + n * (0 + i / m / n)) ≡ i
@@ -73,12 +73,9 @@ rising_same {X} f (x ∷ xs) (y ∷ ys) rx ry to from =
     let same : x ≡ y = heads_same f x y xs ys rx ry (to x (0, omega arith, refl)) (from y (0, omega arith, refl)) in
     let heads : f x ≡ f y = ap f same in
     let rest : xs ≡ ys = rising_same f xs ys (tail_rises f x xs rx) (tail_rises f y ys ry)
-    (λ z c. let h : f x < f z = head_first f x z xs rx c in in_tail f y z ys (omega arith) (to z (later x z xs c)))
-    (λ z c. let h : f y < f z = head_first f y z ys ry c in in_tail f x z xs (omega arith) (from z (later y z ys c))) in
+    (λ z c. let h : f x < f z = head_first f x z xs rx c in in_tail f y z ys (omega arith) (to z (Contains-cons x xs z c)))
+    (λ z c. let h : f y < f z = head_first f y z ys ry c in in_tail f x z xs (omega arith) (from z (Contains-cons y ys z c))) in
     cc
-  where
-    later : {X : Type 0} (x z : X) (xs : List X) → Contains xs z → Contains (x ∷ xs) z
-    later x z xs (k, l, e) = (suc k, omega arith, e)
 
 -- cells in order are the list of all that pass a test, where they pass it and each cell that passes it is one of them
 pub cells_in_order : (s : Scale) (p : List ℕ → Bool) (cells : List (List ℕ)) → AreInOrder s cells → All (λ cell. p cell ≡ true) cells

@@ -2,8 +2,8 @@
 use Rattle.std.proofs.Common.{◌≡◌, ◌≢◌, ℕ, zero, suc, ◌+◌, ◌<◌, List, [], ◌∷◌, ◌++◌, Bool, true, false, cond, ◌==◌, ◌&&◌, length, get_or, map, Option, Some, None, Ok, refl, ap, ◌∙◌, sym, arith, lit<}
 use Rattle.std.specs.Prelude.{ℤ, ◌≤ℤ◌, ◌<ℤ◌, int_le, int_lt, All, Contains, filter, reverse, if◌then◌else◌}
 use Rattle.std.specs.FinMap as fin
+use Rattle.std.proofs.lemmas.Bool.{and_from, and_parts}
 use Rattle.std.proofs.lemmas.Bool.Decides.{nat_tests}
-use Rattle.std.proofs.lemmas.Int.{ints}
 use Rattle.std.proofs.lemmas.Grind.{reverse_onto}
 use Rattle.std.proofs.lemmas.List.{append-nil, get_or-map, length-map, take_all}
 use Rattle.std.proofs.lemmas.List.Elements.{All-contains, All-map, filter-append, filter_passes, All-head, All-tail}
@@ -22,10 +22,10 @@ use Rattle.vol_spec.specs.StoredCells.{AreInOrder, met, met_cells, written_raw, 
 use Rattle.vol_spec.specs.declared.scale.Scale.{Scale}
 use Rattle.vol_spec.proofs.PutSteps.{put_in-other, put_in-Contains, AreApart, not_true_is}
 use Rattle.vol_spec.proofs.RawSteps.{All-reverse, length-written_raw, raw_at-written_raw}
-use Rattle.chunk_grid.proofs.AxisSteps.{by_axis}
+use Rattle.vol_base.proofs.Axes.{by_axis}
 use Rattle.chunk_grid.proofs.GridSteps.{cell_at-IsCell, cell_at-Covers}
 use Rattle.chunk_grid.proofs.ListingSteps.{meets-true, Contains-filter, Contains-numbers_on}
-use Rattle.chunk_grid.proofs.MeetSteps.{both_true, both_from}
+use Rattle.chunk_grid.proofs.MeetSteps.{int_le-from, int_le-true, int_lt-from, int_lt-true}
 use Rattle.chunk_grid.proofs.NameSteps.{cell_name-injective, names_apart, is_under-cell_name, get-absent_cell}
 use Rattle.chunk_grid.proofs.OrderSteps.{AreInOrder-met_cells}
 
@@ -139,33 +139,21 @@ stored_sound m dataset s writes cell none is = ap fault_of (stored_chunk m datas
 
 -- a position in no write has the value 0
 covers_on-true : (b p e : ℤ) → b ≤ℤ p → p <ℤ e → (int_le b p && int_lt p e) ≡ true
-covers_on-true b p e low high = both_true _ _ (le_true b p low) (lt_true p e high)
-  where
-    le_true : (a b : ℤ) → a ≤ℤ b → int_le a b ≡ true
-    le_true a b h = grind (arith, ints)
-
-    lt_true : (a b : ℤ) → a <ℤ b → int_lt a b ≡ true
-    lt_true a b h = grind (arith, ints)
+covers_on-true b p e low high = and_from _ _ (int_le-true b p low) (int_lt-true p e high)
 
 covers_on-from : (b p e : ℤ) → (int_le b p && int_lt p e) ≡ true → (b ≤ℤ p) × (p <ℤ e)
-covers_on-from b p e is = let parts = both_from _ _ is in (le_from b p parts.0, lt_from p e parts.1)
-  where
-    le_from : (a b : ℤ) → int_le a b ≡ true → a ≤ℤ b
-    le_from a b h = grind (arith, ints)
-
-    lt_from : (a b : ℤ) → int_lt a b ≡ true → a <ℤ b
-    lt_from a b h = grind (arith, ints)
+covers_on-from b p e is = let parts = and_parts _ _ is in (int_le-from b p parts.0, int_lt-from p e parts.1)
 
 pub covers-true : (b : Box3) (p : List ℤ) → Covers b p → covers b p ≡ true
 covers-true b p h =
     let on : (axis : ℕ) → axis < 3 → covers_on b p axis ≡ true = λ axis l. covers_on-true (at b.begin axis) (at p axis) (end b axis) (h axis l).0 (h axis l).1 in
-    both_true _ _ (on 0 (lit< tt)) (both_true _ _ (on 1 (lit< tt)) (both_true _ _ (on 2 (lit< tt)) refl))
+    and_from _ _ (on 0 (lit< tt)) (and_from _ _ (on 1 (lit< tt)) (and_from _ _ (on 2 (lit< tt)) refl))
 
 pub Covers-from : (b : Box3) (p : List ℤ) → covers b p ≡ true → Covers b p
 Covers-from b p e =
-    let first = both_from _ _ e in
-    let second = both_from _ _ first.1 in
-    let third = both_from _ _ second.1 in
+    let first = and_parts _ _ e in
+    let second = and_parts _ _ first.1 in
+    let third = and_parts _ _ second.1 in
     by_axis (λ axis. (at b.begin axis ≤ℤ at p axis) × (at p axis <ℤ end b axis))
     (covers_on-from (at b.begin 0) (at p 0) (end b 0) first.0)
     (covers_on-from (at b.begin 1) (at p 1) (end b 1) second.0)

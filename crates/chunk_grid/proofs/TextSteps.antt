@@ -1,20 +1,19 @@
 -- The text of a cell's name.
-use Rattle.std.proofs.Common.{◌≡◌, ℕ, suc, ◌+◌, ◌/◌, ◌%◌, ◌^◌, ◌<◌, ◌≤◌, List, [], ◌∷◌, ◌++◌, Bool, true, false, ◌==◌, ◌&&◌, IsTrue, length, refl, ap, ◌∙◌, sym, subst, arith, rules, lit<, append_assoc, length-append, Some, None}
-use Rattle.std.specs.Prelude.{ℤ, pos, negsuc, neg_ℤ, ◌≤ℤ◌, ◌+ℤ◌, nat_abs, nat_le, if◌then◌else◌}
+use Rattle.std.proofs.Common.{◌≡◌, ℕ, suc, ◌+◌, ◌/◌, ◌%◌, ◌^◌, ◌<◌, ◌≤◌, List, [], ◌∷◌, ◌++◌, true, IsTrue, length, refl, ap, ◌∙◌, sym, subst, arith, lit<, append_assoc, length-append, Some, None}
+use Rattle.std.specs.Prelude.{ℤ, pos, negsuc, neg_ℤ, ◌≤ℤ◌, ◌+ℤ◌, nat_abs, if◌then◌else◌}
 use Rattle.std.specs.Int.Signed.{mag}
 use Rattle.std.specs.Fmt.{decimal, signed_decimal}
-use Rattle.std.specs.List.{list_all, slice_split, onto_first}
 use Rattle.std.proofs.lemmas.Fmt.{decimal_digit, decimal_step, decimal_by_steps, length_signed_le, length-decimal-le}
 use Rattle.std.proofs.lemmas.Int.{ints}
+use Rattle.std.proofs.lemmas.Bool.{and_from}
 use Rattle.std.proofs.lemmas.Bool.Decides.{nat_tests}
-use Rattle.std.proofs.lemmas.List.Folds.{list_all-append}
 use Rattle.vol_base.specs.declared.boxes.Box3.{Box3}
 use Rattle.vol_base.specs.Boxes.{at, end, size}
 use Rattle.vol_base.specs.Names.{is_name, is_name_byte}
 use Rattle.vol_base.proofs.Joined.{is_name-joined}
+use Rattle.vol_base.proofs.NameBytes.{HasNameBytes, bytes-append, chosen, is_name-bytes}
 use Rattle.vol_spec.specs.CellNames.{joined, span_text, box_name}
 use Rattle.chunk_grid.specs.Axes.{IsSmallOn}
-use Rattle.chunk_grid.proofs.MeetSteps.{both_true, is_true}
 
 -- the digits of a number
 pub one_digit : (n : ℕ) → n < 10 → length (decimal n) ≡ 1
@@ -47,14 +46,8 @@ more_text front t u n e f h l =
     f ∙ ap (λ ds. ds ++ (48 + n % 10) ∷ []) e ∙ append_assoc front (decimal (n / 10)) ((48 + n % 10) ∷ []) ∙ ap (λ ds. front ++ ds) (sym (decimal_step n h l))
 
 -- each byte is one of a name
-abbrev HasNameBytes : List ℕ → Type 0
-HasNameBytes xs = list_all is_name_byte xs ≡ true
-
-bytes-append : (xs ys : List ℕ) → HasNameBytes xs → HasNameBytes ys → HasNameBytes (xs ++ ys)
-bytes-append xs ys h k = list_all-append is_name_byte xs ys ∙ both_true _ _ h k
-
 bytes-cons : (x : ℕ) (xs : List ℕ) → is_name_byte x ≡ true → HasNameBytes xs → HasNameBytes (x ∷ xs)
-bytes-cons x xs h k = both_true _ _ h k
+bytes-cons x xs h k = and_from _ _ h k
 
 digit_byte : (d : ℕ) → d < 10 → is_name_byte (48 + d) ≡ true
 digit_byte d h = grind (arith, nat_tests)
@@ -69,26 +62,6 @@ decimal_bytes n h =
 signed_bytes : (z : ℤ) → mag z + 1 < 10 ^ 13 → HasNameBytes (signed_decimal z)
 signed_bytes (pos n) h = decimal_bytes n (omega arith)
 signed_bytes (negsuc n) h = bytes-cons 45 (decimal (suc n)) refl (decimal_bytes (suc n) (omega arith))
-
--- such bytes are one part between slashes
-no_slash : (x : ℕ) → is_name_byte x ≡ true → (x == 47) ≡ false
-no_slash x h = grind (arith, nat_tests)
-
-one_part : (xs : List ℕ) → HasNameBytes xs → slice_split (λ b. b == 47) xs ≡ xs ∷ []
-one_part [] h = refl
-one_part (x ∷ xs) h =
-    let parts = both_parts _ _ h in
-    rw (no_slash x parts.0) (ap (onto_first x) (one_part xs parts.1))
-  where
-    both_parts : (a b : Bool) → (a && b) ≡ true → (a ≡ true) × (b ≡ true)
-    both_parts true b e = (refl, e)
-    both_parts false b e = absurd (cc e)
-
-pub is_name-bytes : (xs : List ℕ) → HasNameBytes xs → 3 ≤ length xs → length xs ≤ 512 → IsTrue (is_name xs)
-is_name-bytes xs h some short =
-    let long : nat_le (length xs) 2 ≡ false = grind (arith, nat_tests) in
-    let fits : nat_le (length xs) 512 ≡ true = grind (arith, nat_tests) in
-    is_true _ (rw (fits, one_part xs h, long, h) refl)
 
 -- the name of a small box
 record IsShortSpan (text : List ℕ) : Type 0 where
@@ -145,10 +118,6 @@ pub put_together : (d k b t u : List ℕ) → t ≡ joined d k ++ 47 ∷ [] → 
 put_together d k b t u e f = f ∙ ap (λ x. x ++ b) e ∙ append_assoc (joined d k) (47 ∷ []) b
 
 -- what `Name::new` answers at a name
-chosen : (text : List ℕ) (b : Bool) → IsTrue b → (if b then Some text else None) ≡ Some text
-chosen text true t = refl
-chosen text false t = absurd (search rules)
-
 pub record IsToldName (d k b u : List ℕ) : Type 0 where
   pub text : u ≡ joined (joined d k) b
   pub answer : (if is_name u then Some u else None) ≡ Some u

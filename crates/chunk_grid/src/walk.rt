@@ -49,7 +49,7 @@ impl Iterator for CellWalk {
 }
 
 impl CellWalk {
-    // All cells of the block from a first cell to a last one.
+    /// All cells of the block from a first cell to a last one.
     pub(crate) fn between(first: [u64; 3], last: [u64; 3]) -> CellWalk
         requires { AreEnds first last }
         ensures { result ≡ cells_from first (counts_between first last) 0 }
@@ -65,7 +65,7 @@ impl CellWalk {
         }
     }
 
-    // How many cells are left.
+    /// How many cells are left.
     pub(crate) fn count_left(&self) -> u128
         ensures { result ≡ length self.now }
     {

@@ -61,6 +61,7 @@ pub enum InfoFault {
 impl InfoFault {
     ghost use Rattle.std.specs.Prelude.{◌≡◌};
 
+    /// The member is absent.
     pub(crate) fn missing(item: Item) -> InfoFault
         ensures { result ≡ InfoFault.Member item What.Missing }
     {
@@ -70,6 +71,7 @@ impl InfoFault {
         }
     }
 
+    /// The member is of another kind of JSON value than it has to be.
     pub(crate) fn wrong_kind(item: Item) -> InfoFault
         ensures { result ≡ InfoFault.Member item What.WrongKind }
     {
@@ -79,6 +81,7 @@ impl InfoFault {
         }
     }
 
+    /// The member has a value that the format or a limit forbids.
     pub(crate) fn bad_value(item: Item) -> InfoFault
         ensures { result ≡ InfoFault.Member item What.BadValue }
     {

@@ -2,7 +2,7 @@
 use Rattle.std.proofs.Common.{◌^◌, ⊎_elim, subst, ◌≡◌, ℕ, zero, suc, ◌+◌, ◌-◌, ◌*◌, ◌<◌, ◌≤◌, List, [], ◌∷◌, ◌++◌, length, take, drop, slice_index, slice_index_or, add-one, arith, refl, ap, ◌∙◌, sym, length-drop, length-append, append_assoc}
 use Rattle.std.proofs.lemmas.Bool.{cases_lt}
 use Rattle.std.proofs.lemmas.Grind.{common_steps, flat_map-append}
-use Rattle.std.proofs.lemmas.List.{take_more, get_or-map, length-map}
+use Rattle.std.proofs.lemmas.List.{take_all, take_more, get_or-map, length-map}
 use Rattle.std.proofs.Math.Seq.{drop-drop}
 use borrow.Rule.Slice.PartMut.{put_mid}
 use Rattle.byteorder.specs.Numbers.{length-bytes_low_first}
@@ -31,9 +31,6 @@ number_more out ns r n h fits e was =
     ∙ ap (λ xs. xs ++ eight n) was
     ∙ (let one : eight n ≡ numbers (slice_index ns r ∷ []) = sym (single n) ∙ ap (λ m. numbers (m ∷ [])) e in
     ap (λ xs. numbers (take r ns) ++ xs) one ∙ sym (flat_map-append eight (take r ns) (slice_index ns r ∷ [])) ∙ ap numbers (sym (take_more ns r 0 h)))
-
-take_all : (n : ℕ) (xs : List ℕ) → length xs ≤ n → take n xs ≡ xs
-take_all n xs h = grind (arith, common_steps)
 
 put_to_end : (a : ℕ) (xs ys : List ℕ) → a ≤ length xs → length ys ≡ length xs - a → put_mid a (length xs - a) xs ys ≡ take a xs ++ ys
 put_to_end a xs ys h e = grind (arith, common_steps)

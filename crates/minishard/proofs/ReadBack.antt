@@ -1,11 +1,10 @@
 -- What was written of rows is read as these rows.
 use Rattle.std.specs.List.{range_with_len}
 use Rattle.std.specs.Option.{option_map_or}
-use Rattle.std.proofs.Common.{cond, ◌≢◌, Bool, true, false, Option, None, ◌≡◌, ℕ, zero, suc, ◌+◌, ◌-◌, ◌*◌, ◌/◌, ◌<◌, ◌^◌, List, [], ◌∷◌, ◌++◌, length, take, drop, slice_index, slice_get, get_or, Some, Ok, arith, refl, ap, ◌∙◌, sym, subst, length-append, append_assoc, add-one}
+use Rattle.std.proofs.Common.{cond, ◌≢◌, Bool, true, false, Option, None, ◌≡◌, ℕ, zero, suc, ◌+◌, ◌-◌, ◌*◌, ◌/◌, ◌<◌, ◌^◌, List, [], ◌∷◌, ◌++◌, length, take, slice_index, slice_get, get_or, Some, Ok, arith, refl, ap, ◌∙◌, sym, subst, length-append, append_assoc, add-one}
 use Rattle.std.specs.Prelude.{sum, find}
-use Rattle.std.proofs.lemmas.Grind.{common_steps}
 use Rattle.std.proofs.lemmas.Bool.Decides.{nat_tests}
-use Rattle.std.proofs.lemmas.List.{get_or-map, length-map}
+use Rattle.std.proofs.lemmas.List.{append-nil, drop_at, get_or-map, length-map}
 use Rattle.std.proofs.lemmas.List.Sums.{sum_by_more}
 use Rattle.std.proofs.lemmas.Option.{get_or_from_slice_get, slice_get_within}
 use Rattle.byteorder.specs.Numbers.{little_number-reads_back}
@@ -16,12 +15,9 @@ use Rattle.vol_spec.specs.declared.row.Row.{Row}
 use Rattle.minishard.proofs.ColumnSteps.{length-eight, length-ids, length-starts, stored_id, stored_start, next_before}
 use Rattle.minishard.proofs.Steps.{stops_ok, goes_on, chosen_row, other_row}
 
-drop_front : (xs ys : List ℕ) (n : ℕ) → length xs ≡ n → drop n (xs ++ ys) ≡ ys
-drop_front xs ys n h = grind (arith, common_steps)
-
 pub word_in : (pre post : List ℕ) (k n : ℕ) → length pre ≡ 8 * k → n < 2 ^ 64 → word (pre ++ (eight n ++ post)) k ≡ n
 unfolding word eight
-word_in pre post k n e h = rw (drop_front pre (eight n ++ post) (8 * k) e) (little_number-reads_back 8 n post h)
+word_in pre post k n e h = rw (drop_at pre (eight n ++ post) (8 * k) e) (little_number-reads_back 8 n post h)
 
 pub words_in : (ns pre post : List ℕ) (k : ℕ) → length pre ≡ 8 * k → ((i : ℕ) → i < length ns → slice_index ns i < 2 ^ 64) → words (pre ++ numbers ns ++ post) k (length ns) ≡ ns
 words_in [] pre post k e fit = refl
@@ -36,9 +32,6 @@ words_in (n ∷ ns) pre post k e fit =
 pub length-numbers : (ns : List ℕ) → length (numbers ns) ≡ 8 * length ns
 length-numbers [] = refl
 length-numbers (n ∷ ns) = let rest = length-numbers ns in omega (arith, length-append (eight n) (numbers ns), length-eight n)
-
-append_nil : (xs : List ℕ) → xs ++ [] ≡ xs
-append_nil xs = grind (arith, common_steps)
 
 -- the columns of an index of n rows
 pub columns_in : (c : Columns) (n : ℕ) → length c.ids ≡ n → length c.starts ≡ n → length c.sizes ≡ n
@@ -57,7 +50,7 @@ columns_in c n a b d fa fb fd =
     let two : words (index_bytes c) n n ≡ c.starts =
     ap (words (index_bytes c) n) (sym b) ∙ words_in c.starts (numbers c.ids) (numbers c.sizes) n (omega arith) (λ i h. fb i (omega arith)) in
     let three : words (index_bytes c) (2 * n) n ≡ c.sizes =
-    ap (λ xs. words xs (2 * n) n) (sym (append_nil (index_bytes c))) ∙ ap (words (index_bytes c ++ []) (2 * n)) (sym d)
+    ap (λ xs. words xs (2 * n) n) (sym (append-nil (index_bytes c))) ∙ ap (words (index_bytes c ++ []) (2 * n)) (sym d)
     ∙ words_in c.sizes (numbers c.ids ++ numbers c.starts) [] (2 * n) (omega arith) (λ i h. fd i (omega arith)) in
     ap (λ k. let r : Columns = record { ids = words (index_bytes c) 0 k; starts = words (index_bytes c) k k; sizes = words (index_bytes c) (2 * k) k } in r) rows
     ∙ ap (λ xs. let r : Columns = record { ids = xs; starts = words (index_bytes c) n n; sizes = words (index_bytes c) (2 * n) n } in r) one

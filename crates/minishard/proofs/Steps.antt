@@ -1,6 +1,6 @@
 -- Sums, one row on.
-use Rattle.std.proofs.Common.{◌≡◌, ℕ, zero, suc, ◌+◌, ◌*◌, ◌<◌, ◌≤◌, Bool, true, false, List, OnOk, length, take, slice_index, slice_get, Some, None, Result, Ok, Err, arith, refl, ⊎_elim, if◌then◌else◌, ◌≢◌, ◌/◌, nat_le, ap, ◌∙◌, sym}
-use Rattle.std.specs.Prelude.{sum, find, ◌==◌}
+use Rattle.std.proofs.Common.{◌≡◌, ℕ, zero, suc, ◌+◌, ◌*◌, ◌<◌, ◌≤◌, Bool, true, false, List, OnOk, length, take, slice_index, slice_get, Some, None, Result, Ok, Err, arith, refl, ⊎_elim, ◌≢◌, ◌/◌, nat_le, ap, ◌∙◌, sym}
+use Rattle.std.specs.Prelude.{sum, find, ◌==◌, if◌then◌else◌}
 use Rattle.std.specs.List.{range_with_len}
 use Rattle.std.proofs.lemmas.List.Sums.{sum_by_more}
 use Rattle.std.proofs.lemmas.Option.{get_or_from_slice_get, slice_get_within, slice_get-get_or}
@@ -39,9 +39,6 @@ walked_more c w d s z was row =
     let was_id = was.id in
     let was_end = was.end in
     record { id = omega arith; end = omega arith }
-
-pub walked_none : (c : Columns) → IsWalked c (record { rows = 0; id = 0; end = 0 })
-walked_none c = record { id = refl; end = refl }
 
 -- the first number of a range that passes
 pub first_in : (p : ℕ → Bool) (a n r : ℕ) → a ≤ r → r < a + n → ((k : ℕ) → a ≤ k → k < r → p k ≡ false) → p r ≡ true → find p (range_with_len a n) ≡ Some r
@@ -111,8 +108,3 @@ stops_ok c wanted r row h before is le = found_at c wanted r h before (ap (stops
 pub stops_err : (c : Columns) (wanted r : ℕ) (fault : IndexFault) → r < length c.ids → ((k : ℕ) → k < r → stops c wanted k ≡ false) → judged_row c r ≡ Err fault
     → find_in c wanted ≡ Err fault
 stops_err c wanted r fault h before is = found_at c wanted r h before (ap (stops_at wanted) is) ∙ ap (wanted_row wanted) is
-
-pub goes_past : (c : Columns) (wanted r : ℕ) (row : Row) → ((k : ℕ) → k < r → stops c wanted k ≡ false) → judged_row c r ≡ Ok row → row.id < wanted
-    → (k : ℕ) → k < r + 1 → stops c wanted k ≡ false
-goes_past c wanted r row before is lt k h =
-    ⊎_elim (λ (l : k < r). before k l) (λ (ge : r ≤ k). let e : k ≡ r = omega arith in ap (stops c wanted) e ∙ ap (stops_at wanted) is ∙ goes_on wanted row.id lt) (cases_lt k r)

@@ -6,7 +6,8 @@ use Rattle.std.proofs.lemmas.Nat.{mod_below}
 use borrow.Author.Tests.{ltb-false}
 use Rattle.vol_base.specs.Grids.{is_pair, AreSizes}
 use Rattle.vol_spec.specs.Codes.{bit_of, code_of, IsCell}
-use Rattle.morton_code.proofs.Steps.{code_from, code_from-more, code_from-0, below, by_axis, same_cells}
+use Rattle.morton_code.proofs.Steps.{code_from, code_from-more, code_from-0, below, same_cells}
+use Rattle.vol_base.proofs.Axes.{by_axis}
 
 -- a number tells the lowest bit, where it counts, and what is above it
 split : (t : Bool) (bit other n m : ℕ) → bit < 2 → other < 2 → below t bit n ≡ below t other m → (t ≡ true → bit ≡ other) × (n ≡ m)

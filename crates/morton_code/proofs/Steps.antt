@@ -100,12 +100,6 @@ taken_one s c i rest got n in_size e r = by (nat_lt (2 ^ i) s) refl r
         let b : c % 2 ^ (i + 1) ≡ c = mod-eq_of_lt (omega arith) in
         (r, e ∙ a ∙ sym b)
 
-pub by_axis : (P : ℕ → Type 0) → P 0 → P 1 → P 2 → (a : ℕ) → a < 3 → P a
-by_axis P x y z zero h = x
-by_axis P x y z (suc zero) h = y
-by_axis P x y z (suc (suc zero)) h = z
-by_axis P x y z (suc (suc (suc a))) h = absurd (omega arith)
-
 triple : (cell : List ℕ) → length cell ≡ 3 → cell ≡ slice_index cell 0 ∷ slice_index cell 1 ∷ slice_index cell 2 ∷ []
 triple [] h = absurd (omega arith)
 triple (a ∷ []) h = absurd (omega arith)

@@ -3,8 +3,7 @@ use Rattle.std.proofs.Common.{◌≡◌, ℕ, zero, suc, ◌*◌, ◌/◌, ◌%�
 use Rattle.std.specs.Int.{byte_at, bytes_low_first}
 use Rattle.std.proofs.Math.Pow.{pow_mono}
 use Rattle.std.proofs.Math.Nat.{div-div-eq-div-mul, div-one, pow-suc}
-use Rattle.std.proofs.lemmas.Grind.{common_steps}
-use Rattle.std.proofs.lemmas.List.{take-append-drop}
+use Rattle.std.proofs.lemmas.List.{append-nil, drop_at, take-append-drop, take_all}
 use Rattle.byteorder.specs.Endian.{little_bytes, little_number, little_from}
 use Rattle.vol_spec.proofs.CutSteps.{bytes_part}
 use Rattle.byteorder.specs.Numbers.{little_from-cons, little_number-reads_back, length-bytes_low_first}
@@ -15,19 +14,13 @@ use Rattle.vol_spec.specs.declared.entry.Entry.{Entry}
 pub base_small : (bits : ℕ) → bits ≤ 24 → 16 * 2 ^ bits ≤ 2 ^ 28
 base_small bits h = let a : 2 ^ bits ≤ 2 ^ 24 = pow_mono h in omega arith
 
-drop_front : (xs ys : List ℕ) (n : ℕ) → length xs ≡ n → drop n (xs ++ ys) ≡ ys
-drop_front xs ys n h = grind (arith, common_steps)
-
-append_nil : (xs : List ℕ) → xs ++ [] ≡ xs
-append_nil xs = grind (arith, common_steps)
-
 -- what was written is read
 pub entry_again : (entry : Entry) → entry.start < 2 ^ 64 → entry.end < 2 ^ 64 → entry_of (entry_bytes entry) ≡ entry
 unfolding entry_bytes entry_of
 entry_again entry hs he =
     let first : little_number 8 (little_bytes 8 entry.start ++ little_bytes 8 entry.end) ≡ entry.start = little_number-reads_back 8 entry.start (little_bytes 8 entry.end) hs in
     let second : little_number 8 (drop 8 (little_bytes 8 entry.start ++ little_bytes 8 entry.end)) ≡ entry.end =
-    ap (little_number 8) (drop_front (little_bytes 8 entry.start) (little_bytes 8 entry.end) 8 (length-bytes_low_first 0 8 entry.start) ∙ sym (append_nil (little_bytes 8 entry.end))) ∙ little_number-reads_back 8 entry.end [] he in
+    ap (little_number 8) (drop_at (little_bytes 8 entry.start) (little_bytes 8 entry.end) 8 (length-bytes_low_first 0 8 entry.start) ∙ sym (append-nil (little_bytes 8 entry.end))) ∙ little_number-reads_back 8 entry.end [] he in
     ap (λ n. let e : Entry = record { start = n; end = little_number 8 (drop 8 (little_bytes 8 entry.start ++ little_bytes 8 entry.end)) } in e) first
     ∙ ap (λ n. let e : Entry = record { start = entry.start; end = n } in e) second
 
@@ -64,6 +57,3 @@ bytes_back xs start end long are es ee =
     let one : little_bytes 8 start ≡ take 8 xs = digits_back (take 8 xs) 8 0 start (omega (arith, length-take 8 xs)) (short_part 8 0 xs are) (div-one start ∙ es) in
     let two : little_bytes 8 end ≡ take 8 (drop 8 xs) = digits_back (take 8 (drop 8 xs)) 8 0 end (omega (arith, length-take 8 (drop 8 xs), length-drop 8 xs)) (short_part 8 8 xs are) (div-one end ∙ ee) in
     ap (λ ys. ys ++ little_bytes 8 end) one ∙ ap (λ ys. take 8 xs ++ ys) (two ∙ second) ∙ take-append-drop 8 xs
-  where
-    take_all : (n : ℕ) (ys : List ℕ) → length ys ≤ n → take n ys ≡ ys
-    take_all n ys h = grind (arith, common_steps)

@@ -1,16 +1,16 @@
 -- The text of a shard's name.
-use Rattle.std.proofs.Common.{take, drop, slice_set, slice_index, ◌≡◌, ℕ, zero, suc, ◌+◌, ◌-◌, ◌*◌, ◌/◌, ◌%◌, ◌^◌, ◌<◌, ◌≤◌, List, [], ◌∷◌, ◌++◌, Bool, true, false, ◌==◌, ◌&&◌, IsTrue, length, map, refl, ap, ◌∙◌, sym, arith, rules, append_assoc, length-append, Some, None}
-use Rattle.std.specs.Prelude.{nat_le, if◌then◌else◌}
+use Rattle.std.proofs.Common.{take, drop, slice_set, slice_index, ◌≡◌, ℕ, zero, suc, ◌+◌, ◌-◌, ◌*◌, ◌/◌, ◌%◌, ◌^◌, ◌<◌, ◌≤◌, List, [], ◌∷◌, ◌++◌, true, false, length, map, refl, ap, ◌∙◌, sym, arith, append_assoc, length-append, Some, None}
+use Rattle.std.specs.Prelude.{if◌then◌else◌}
 use Rattle.std.specs.Fmt.{digit_glyph}
-use Rattle.std.specs.List.{list_all, slice_split, onto_first, range_with_len}
+use Rattle.std.specs.List.{range_with_len}
 use Rattle.std.proofs.Math.Nat.{pow-suc, pow-succ', div-one, div-div-eq-div-mul}
 use Rattle.std.proofs.Math.Pow.{pow_mono}
-use Rattle.std.proofs.lemmas.Grind.{common_steps}
+use Rattle.std.proofs.lemmas.Bool.{and_from}
 use Rattle.std.proofs.lemmas.Bool.Decides.{nat_tests}
-use Rattle.std.proofs.lemmas.List.Folds.{list_all-append}
-use Rattle.std.proofs.lemmas.List.{take_more_set}
+use Rattle.std.proofs.lemmas.List.{drop_at, take_at, take_more_set}
 use Rattle.std.proofs.lemmas.List.FromFn.{length-map-range_with_len, get_or-map-range_with_len, map-range_with_len_more}
 use Rattle.std.proofs.lemmas.Nat.{mod_below}
+use Rattle.vol_base.proofs.NameBytes.{HasNameBytes, bytes-append, chosen, is_name-bytes}
 use Rattle.vol_base.specs.Names.{is_name, is_name_byte}
 use Rattle.vol_spec.specs.CellNames.{folder_of}
 use Rattle.vol_spec.specs.declared.scale.Scale.{Scale}
@@ -46,21 +46,9 @@ pub hex_high : (n place : ℕ) → 10 ≤ n / 2 ^ (4 * place) % 16 → 97 + (n /
 hex_high n place h = sym (high_digit (n / 2 ^ (4 * place) % 16) h) ∙ ap (digit_glyph false) (four_bits n place)
 
 -- each byte is one of a name
-abbrev HasNameBytes : List ℕ → Type 0
-HasNameBytes xs = list_all is_name_byte xs ≡ true
-
-both_true : (a b : Bool) → a ≡ true → b ≡ true → (a && b) ≡ true
-both_true a b f g = rw (f, g) refl
-
-is_true : (b : Bool) → b ≡ true → IsTrue b
-is_true b e = rw e (search rules)
-
-bytes-append : (xs ys : List ℕ) → HasNameBytes xs → HasNameBytes ys → HasNameBytes (xs ++ ys)
-bytes-append xs ys h k = list_all-append is_name_byte xs ys ∙ both_true _ _ h k
-
 bytes-map : (f : ℕ → ℕ) (xs : List ℕ) → ((i : ℕ) → is_name_byte (f i) ≡ true) → HasNameBytes (map f xs)
 bytes-map f [] h = refl
-bytes-map f (x ∷ xs) h = both_true _ _ (h x) (bytes-map f xs h)
+bytes-map f (x ∷ xs) h = and_from _ _ (h x) (bytes-map f xs h)
 
 glyph_byte : (d : ℕ) → d < 16 → is_name_byte (digit_glyph false d) ≡ true
 glyph_byte d h = grind (arith, nat_tests)
@@ -68,34 +56,10 @@ glyph_byte d h = grind (arith, nat_tests)
 hex_bytes : (n count : ℕ) → HasNameBytes (filled_hex n count)
 hex_bytes n count = bytes-map (λ i. hex_at n (count - 1 - i)) (range_with_len 0 count) (λ i. glyph_byte (n / 16 ^ (count - 1 - i) % 16) (mod_below (n / 16 ^ (count - 1 - i)) 16 (omega arith)))
 
--- such bytes are one part between slashes
-no_slash : (x : ℕ) → is_name_byte x ≡ true → (x == 47) ≡ false
-no_slash x h = grind (arith, nat_tests)
-
-one_part : (xs : List ℕ) → HasNameBytes xs → slice_split (λ b. b == 47) xs ≡ xs ∷ []
-one_part [] h = refl
-one_part (x ∷ xs) h =
-    let parts = both_parts _ _ h in
-    rw (no_slash x parts.0) (ap (onto_first x) (one_part xs parts.1))
-  where
-    both_parts : (a b : Bool) → (a && b) ≡ true → (a ≡ true) × (b ≡ true)
-    both_parts true b e = (refl, e)
-    both_parts false b e = absurd (cc e)
-
-is_name-bytes : (xs : List ℕ) → HasNameBytes xs → 3 ≤ length xs → length xs ≤ 512 → IsTrue (is_name xs)
-is_name-bytes xs h some short =
-    let long : nat_le (length xs) 2 ≡ false = grind (arith, nat_tests) in
-    let fits : nat_le (length xs) 512 ≡ true = grind (arith, nat_tests) in
-    is_true _ (rw (fits, one_part xs h, long, h) refl)
-
 pub length-filled_hex : (n count : ℕ) → length (filled_hex n count) ≡ count
 length-filled_hex n count = length-map-range_with_len (λ i. hex_at n (count - 1 - i)) 0 count
 
 -- what `Name::new` answers at a name
-chosen : (text : List ℕ) (b : Bool) → IsTrue b → (if b then Some text else None) ≡ Some text
-chosen text true t = refl
-chosen text false t = absurd (search rules)
-
 pub told_file : (n count : ℕ) → count ≤ 16 → (if is_name (filled_hex n count ++ suffix) then Some (filled_hex n count ++ suffix) else None) ≡ Some (filled_hex n count ++ suffix)
 told_file n count h =
     let long : length (filled_hex n count ++ suffix) ≡ count + 6 = length-append (filled_hex n count) suffix ∙ ap (λ k. k + 6) (length-filled_hex n count) in
@@ -142,14 +106,8 @@ filled_hex-tells count m n h k e =
         let back : count - 1 - (count - 1 - place) ≡ place = omega arith in
         ap (hex_at x) (sym back) ∙ sym (get_or-map-range_with_len (λ i. hex_at x (count - 1 - i)) 0 count (count - 1 - place) (count - 1 - place) 0 (omega arith) (omega arith))
 
-take_front : (xs ys : List ℕ) (n : ℕ) → length xs ≡ n → take n (xs ++ ys) ≡ xs
-take_front xs ys n e = grind (arith, common_steps)
-
-drop_front : (xs ys : List ℕ) (n : ℕ) → length xs ≡ n → drop n (xs ++ ys) ≡ ys
-drop_front xs ys n e = grind (arith, common_steps)
-
 drop_joined : (xs ys : List ℕ) → drop (length xs + 1) (xs ++ 47 ∷ ys) ≡ ys
-drop_joined xs ys = ap (drop (length xs + 1)) (sym (append_assoc xs (47 ∷ []) ys)) ∙ drop_front (xs ++ 47 ∷ []) ys (length xs + 1) (length-append xs (47 ∷ []))
+drop_joined xs ys = ap (drop (length xs + 1)) (sym (append_assoc xs (47 ∷ []) ys)) ∙ drop_at (xs ++ 47 ∷ []) ys (length xs + 1) (length-append xs (47 ∷ []))
 
 -- a shard has room in its digits
 fits_digits : (bits shard : ℕ) → shard < 2 ^ bits → shard < 16 ^ hex_len bits
@@ -167,5 +125,5 @@ shard_name-tells dataset s m n h k e =
     let files : filled_hex m count ++ suffix ≡ filled_hex n count ++ suffix =
     sym (drop_joined folder (filled_hex m count ++ suffix)) ∙ ap (drop (length folder + 1)) e ∙ drop_joined folder (filled_hex n count ++ suffix) in
     let digits : filled_hex m count ≡ filled_hex n count =
-    sym (take_front (filled_hex m count) suffix count (length-filled_hex m count)) ∙ ap (take count) files ∙ take_front (filled_hex n count) suffix count (length-filled_hex n count) in
+    sym (take_at (filled_hex m count) suffix count (length-filled_hex m count)) ∙ ap (take count) files ∙ take_at (filled_hex n count) suffix count (length-filled_hex n count) in
     filled_hex-tells count m n (fits_digits (shard_bits_of s) m h) (fits_digits (shard_bits_of s) n k) digits

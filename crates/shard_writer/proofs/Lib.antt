@@ -1,4 +1,3 @@
 pub mod CellLens
 pub mod PutSteps
-pub mod Told
 pub mod WindowSteps

@@ -2,8 +2,8 @@
 use Rattle.std.proofs.Common.{◌≡◌, ℕ, ◌+◌, ◌<◌, zero, suc, List, [], ◌∷◌, ◌++◌, length, map, take, get_or, arith, append_assoc, ap, ◌∙◌, sym}
 use Rattle.std.specs.List.{range_with_len}
 use Rattle.std.specs.Prelude.{◌==◌, flat_map}
-use Rattle.std.proofs.lemmas.Grind.{common_steps, flat_map-append}
-use Rattle.std.proofs.lemmas.List.{get_or-map, length-map, map-append, take_more}
+use Rattle.std.proofs.lemmas.Grind.{flat_map-append}
+use Rattle.std.proofs.lemmas.List.{append-nil, get_or-map, length-map, map-append, take_more}
 use Rattle.std.proofs.lemmas.List.Elements.{filter-append}
 use Rattle.vol_plain.specs.ShardParts.{chunk_of, chunks_of}
 use Rattle.vol_plain.specs.declared.sums.ShardChunk.{ShardChunk}
@@ -31,9 +31,6 @@ bytes_more out cs i d m h is =
     append_assoc out (bytes_in (take i (chunks_of cs)) m) (bytes_in (chunk_of d ∷ []) m)
     ∙ ap (λ xs. out ++ xs) (sym (flat_map-append (λ (c : Chunk). c.bytes) (of (take i (chunks_of cs)) m) (of (chunk_of d ∷ []) m)) ∙ ap (flat_map (λ (c : Chunk). c.bytes)) (sym (of_more cs i d m h is)))
 
-append_nil : (xs : List ℕ) → xs ++ [] ≡ xs
-append_nil xs = grind (arith, common_steps)
-
 pub range_more : (a n : ℕ) → range_with_len a (n + 1) ≡ range_with_len a n ++ (a + n) ∷ []
 range_more a zero = let e : a ≡ a + 0 = omega arith in ap (λ k. k ∷ []) e
 range_more a (suc n) =
@@ -46,5 +43,5 @@ pub pieces_more : (out : List ℕ) (f : ℕ → List ℕ) (n : ℕ) → out ++ f
 pieces_more out f n =
     let e : n ≡ 0 + n = omega arith in
     append_assoc out (flat_map f (range_with_len 0 n)) (f n)
-    ∙ ap (λ xs. out ++ xs) (ap (λ k. flat_map f (range_with_len 0 n) ++ f k) e ∙ ap (λ xs. flat_map f (range_with_len 0 n) ++ xs) (sym (append_nil (f (0 + n))))
+    ∙ ap (λ xs. out ++ xs) (ap (λ k. flat_map f (range_with_len 0 n) ++ f k) e ∙ ap (λ xs. flat_map f (range_with_len 0 n) ++ xs) (sym (append-nil (f (0 + n))))
     ∙ sym (flat_map-append f (range_with_len 0 n) ((0 + n) ∷ [])) ∙ ap (flat_map f) (sym (range_more 0 n)))

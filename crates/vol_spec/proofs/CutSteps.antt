@@ -8,7 +8,7 @@ use Rattle.std.proofs.lemmas.Nat.{div_below, mod_below}
 use Rattle.std.proofs.Math.Nat.{mod-add-div, mul-le-mul_left}
 use Rattle.std.proofs.lemmas.Bool.{cases_lt}
 use Rattle.std.proofs.Math.Seq.{drop-drop}
-use Rattle.std.proofs.lemmas.List.{take-append-drop}
+use Rattle.std.proofs.lemmas.List.{nil_from_length, take-append-drop}
 use Rattle.vol_base.specs.declared.boxes.Box3.{Box3}
 use Rattle.vol_base.specs.declared.faults.Fault.{Fault}
 use Rattle.vol_base.specs.Boxes.{at, size, num, voxels, value, Covers, IsSome}
@@ -19,13 +19,9 @@ use Rattle.vol_spec.specs.Chunks.{value_in}
 use Rattle.vol_spec.specs.Raw.{number, digit, raw_len}
 use Rattle.vol_spec.specs.declared.scale.Scale.{Scale}
 
-nothing : (xs : List ℕ) → length xs ≡ 0 → xs ≡ []
-nothing [] h = refl
-nothing (x ∷ xs) h = absurd (omega arith)
-
 -- a list of values of w bytes is known from its values
 pub pieces : (w : ℕ) (g : ℕ → List ℕ) (n a : ℕ) (out : List ℕ) → length out ≡ w * n → ((i : ℕ) → i < n → value w out i ≡ g (a + i)) → out ≡ flat_map g (range_with_len a n)
-pieces w g zero a out len same = nothing out (omega arith)
+pieces w g zero a out len same = nil_from_length out (omega arith)
 pieces w g (suc n) a out len same =
     let none : w * 0 ≡ 0 = omega arith in
     let at_a : a + 0 ≡ a = omega arith in

@@ -1,4 +1,6 @@
 pub mod CutSteps
+pub mod Firsts
 mod KnownShards
 pub mod PutSteps
 pub mod RawSteps
+pub mod Told

@@ -1,5 +1,5 @@
 -- Objects with some put in.
-use Rattle.std.proofs.Common.{◌≡◌, ◌≢◌, ◌⊎◌, inl, inr, ℕ, zero, suc, ◌+◌, ◌<◌, List, [], ◌∷◌, ◌++◌, Bool, true, false, cond, ◌||◌, length, get_or, take, Some, None, Option, refl, ap, ◌∙◌, sym, subst, arith}
+use Rattle.std.proofs.Common.{◌≡◌, ◌≢◌, ℕ, zero, suc, ◌<◌, List, [], ◌∷◌, ◌++◌, Bool, true, false, cond, ◌||◌, length, get_or, Some, None, Option, refl, ap, ◌∙◌, sym, subst, arith}
 use Rattle.std.specs.Prelude.{All, AllPairs, Contains}
 use Rattle.std.specs.Option.{is_some}
 use Rattle.std.specs.List.{list_any}
@@ -9,9 +9,8 @@ use Rattle.std.specs.Ordering.{nat_cmp, eq_by_cmp}
 use Rattle.std.specs.Cmp.Lexicographic.{slice_cmp, nat_list_cmp_total}
 use Rattle.std.proofs.lemmas.Map.Text.{is_eq-slice_cmp}
 use Rattle.std.proofs.lemmas.Slice.Eq.{bytes_eq-Decides}
-use Rattle.std.proofs.lemmas.Bool.{cases_Bool}
-use Rattle.std.proofs.lemmas.List.{get_or_default, take_more}
-use Rattle.std.proofs.lemmas.List.Elements.{All-nil, All-cons, All-contains, All-head, All-tail}
+use Rattle.std.proofs.lemmas.Bool.{or_parts}
+use Rattle.std.proofs.lemmas.List.Elements.{All-head, All-tail}
 use Rattle.vol_base.specs.Outside.{Objects, any_under, is_under}
 use Rattle.vol_spec.specs.StoredCells.{put_in}
 
@@ -41,10 +40,6 @@ put_in-append m (o ∷ xs) ys = put_in-append (fin.insert m o.0 o.1) xs ys
 pub put_in-push : (m : Objects) (xs : List (List ℕ × List ℕ)) (o : List ℕ × List ℕ) → put_in m (xs ++ o ∷ []) ≡ fin.insert (put_in m xs) o.0 o.1
 put_in-push m xs o = put_in-append m xs (o ∷ [])
 
-pub put_in-more : (m : Objects) (list : List (List ℕ × List ℕ)) (i : ℕ) (d : List ℕ × List ℕ) → i < length list
-    → put_in m (take (i + 1) list) ≡ fin.insert (put_in m (take i list)) (get_or list i d).0 (get_or list i d).1
-put_in-more m list i d h = ap (put_in m) (take_more list i d h) ∙ put_in-push m (take i list) (get_or list i d)
-
 -- objects of other names are as before,
 pub put_in-other : (m : Objects) (list : List (List ℕ × List ℕ)) (name : List ℕ) → All (λ o. o.0 ≢ name) list → fin.get (put_in m list) name ≡ fin.get m name
 put_in-other m [] name apart = refl
@@ -68,48 +63,11 @@ put_in-at m (o ∷ rest) (suc i) d apart h =
 pub put_in-Contains : (m : Objects) (list : List (List ℕ × List ℕ)) (o : List ℕ × List ℕ) → AreApart list → Contains list o → fin.get (put_in m list) o.0 ≡ Some o.1
 put_in-Contains m list o apart (k, l, e) = subst (λ x. fin.get (put_in m list) x.0 ≡ Some x.1) e (put_in-at m list k o apart l)
 
--- so the order in which they are put in doesn't matter
-listed_or_not : (list : List (List ℕ × List ℕ)) (name : List ℕ) → ((o : List ℕ × List ℕ) × Contains list o × (o.0 ≡ name)) ⊎ All (λ o. o.0 ≢ name) list
-listed_or_not [] name = inr (All-nil (λ o. o.0 ≢ name))
-listed_or_not (o ∷ rest) name =
-    elim (cases_Bool (bytes_eq o.0 name)) [
-      | inl same ↦ inl (o, (0, omega arith, refl), (bytes_eq-Decides o.0 name).0 same)
-      | inr apart ↦
-          elim (listed_or_not rest name) [
-            | inl found ↦ inl (found.0, later o rest found.0 found.1, found.2)
-            | inr none ↦ inr (All-cons (λ o. o.0 ≢ name) o rest (λ e. let same = (bytes_eq-Decides o.0 name).1 e in cc) none)
-          ]
-    ]
-  where
-    later : (o : List ℕ × List ℕ) (rest : List (List ℕ × List ℕ)) (x : List ℕ × List ℕ) → Contains rest x → Contains (o ∷ rest) x
-    later o rest x (k, l, e) = (suc k, omega arith, e)
-
-pub put_in-same : (m : Objects) (xs ys : List (List ℕ × List ℕ)) → AreApart xs → AreApart ys → ((o : List ℕ × List ℕ) → Contains xs o → Contains ys o) → ((o : List ℕ × List ℕ) → Contains ys o → Contains xs o)
-    → put_in m xs ≡ put_in m ys
-put_in-same m xs ys ax ay to from =
-    fin.same_map nat_list_cmp_total (fin.slice_cmp-IsAntisymmetric fin.nat_cmp-IsAntisymmetric) (put_in m xs) (put_in m ys) (λ name.
-    elim (listed_or_not xs name) [
-      | inl found ↦
-          let o : List ℕ × List ℕ = found.0 in
-          subst (λ n. fin.get (put_in m xs) n ≡ fin.get (put_in m ys) n) found.2
-          (put_in-Contains m xs o ax found.1 ∙ sym (put_in-Contains m ys o ay (to o found.1)))
-      | inr none ↦
-          put_in-other m xs name none
-          ∙ sym (put_in-other m ys name (λ k d l e. All-contains (λ o. o.0 ≢ name) xs (get_or ys k d) none (from (get_or ys k d) (k, l, default ys k d l)) e))
-    ])
-  where
-    default : (ys : List (List ℕ × List ℕ)) (k : ℕ) (d : List ℕ × List ℕ) → k < length ys → get_or ys k (get_or ys k d) ≡ get_or ys k d
-    default ys k d l = get_or_default ys k (get_or ys k d) d l
-
 -- no object is under a folder
-or_false : (a b : Bool) → (a || b) ≡ false → (a ≡ false) × (b ≡ false)
-or_false true b e = absurd (cc e)
-or_false false b e = (refl, e)
-
 none_equal : (test : List ℕ → Bool) (keys : List (List ℕ)) (name : List ℕ) → list_any test keys ≡ false → test name ≡ true → list_any (eq_by_cmp (slice_cmp nat_cmp) name) keys ≡ false
 none_equal test [] name none passes = refl
 none_equal test (key ∷ keys) name none passes =
-    let parts = or_false (test key) (list_any test keys) none in
+    let parts = or_parts (test key) (list_any test keys) none in
     let fails : test key ≡ false = parts.0 in
     let apart : eq_by_cmp (slice_cmp nat_cmp) name key ≡ false = other_name name key (λ e. let same : test name ≡ test key = ap test e in cc) in
     ap (λ b. b || list_any (eq_by_cmp (slice_cmp nat_cmp) name) keys) apart ∙ none_equal test keys name parts.1 passes

@@ -6,6 +6,7 @@ use Rattle.std.proofs.lemmas.Int.{ints}
 use Rattle.std.proofs.lemmas.List.{length-append, length-take, take_at, drop_at, drop-drop, get_or-reverse, length-reverse, reverse-append}
 use Rattle.std.proofs.lemmas.List.Elements.{All-head, All-tail}
 use Rattle.std.proofs.lemmas.Nat.{div_below, div-mul-add, mod-mul-add, mul-add-lt}
+use Rattle.std.proofs.Math.Nat.{mul-le-mul_left}
 use Rattle.vol_base.specs.declared.boxes.Box3.{Box3}
 use Rattle.vol_base.specs.Boxes.{at, on_axes, size, num, voxels, value, from_begin, Covers, IsSome}
 use Rattle.vol_spec.specs.Bytes.{AreBytes}
@@ -21,11 +22,6 @@ use Rattle.vol_spec.proofs.CutSteps.{pieces, in_channels, num_of, position_cover
 pub length-bytes_of : (w n : ℕ) → length (bytes_of w n) ≡ w
 length-bytes_of zero n = refl
 length-bytes_of (suc w) n = ap suc (length-bytes_of w (n / 256))
-
-pub AreBytes-bytes_of : (w n : ℕ) → AreBytes (bytes_of w n)
-AreBytes-bytes_of zero n i = lit< tt
-AreBytes-bytes_of (suc w) n zero = omega arith
-AreBytes-bytes_of (suc w) n (suc i) = AreBytes-bytes_of w (n / 256) i
 
 more_bytes : (w : ℕ) → 256 ^ suc w ≡ 256 ^ w * 256
 more_bytes w = omega arith
@@ -57,21 +53,12 @@ digit-lt bytes w n small =
     number-lt w (value w bytes n) (omega (arith, length-take w (drop (w * n) bytes))) (bytes_part w (w * n) bytes small)
 
 -- pieces side by side
-AreBytes-append : (xs ys : List ℕ) → AreBytes xs → AreBytes ys → AreBytes (xs ++ ys)
-AreBytes-append [] ys h k i = k i
-AreBytes-append (x ∷ xs) ys h k zero = h 0
-AreBytes-append (x ∷ xs) ys h k (suc i) = AreBytes-append xs ys (λ j. h (suc j)) k i
-
 pub length-pieces : (w : ℕ) (g : ℕ → List ℕ) (a n : ℕ) → ((i : ℕ) → length (g i) ≡ w) → length (flat_map g (range_with_len a n)) ≡ w * n
 length-pieces w g a zero same = omega arith
 length-pieces w g a (suc n) same =
     let first = same a in
     let rest = length-pieces w g (a + 1) n same in
     length-append (g a) (flat_map g (range_with_len (a + 1) n)) ∙ omega arith
-
-pub AreBytes-pieces : (g : ℕ → List ℕ) (a n : ℕ) → ((i : ℕ) → AreBytes (g i)) → AreBytes (flat_map g (range_with_len a n))
-AreBytes-pieces g a zero small i = lit< tt
-AreBytes-pieces g a (suc n) small i = AreBytes-append (g a) (flat_map g (range_with_len (a + 1) n)) (small a) (AreBytes-pieces g (a + 1) n small) i
 
 pub value-pieces : (w : ℕ) (g : ℕ → List ℕ) (a n i : ℕ) → ((i : ℕ) → length (g i) ≡ w) → i < n → value w (flat_map g (range_with_len a n)) i ≡ g (a + i)
 value-pieces w g a zero i same h = absurd (omega arith)
@@ -97,7 +84,7 @@ split m x q h =
     let turn : x + m * q ≡ q * m + x = omega arith in
     (ap (λ k. k % m) turn ∙ mod-mul-add q m x h, ap (λ k. k / m) turn ∙ div-mul-add q m x h)
 
-place_of : (o p : ℤ) (m : ℕ) → o ≤ℤ p → p <ℤ (o +ℤ pos m) → nat_abs (p -ℤ o) < m
+pub place_of : (o p : ℤ) (m : ℕ) → o ≤ℤ p → p <ℤ (o +ℤ pos m) → nat_abs (p -ℤ o) < m
 place_of o p m low high = omega (arith, ints)
 
 back_at : (o p : ℤ) → o ≤ℤ p → (o +ℤ pos (nat_abs (p -ℤ o))) ≡ p
@@ -141,15 +128,18 @@ module _ (b : Box3) (p : List ℤ) (c : ℕ) (covered : Covers b p) where
       let x : (from_begin b p 1 + size b 1 * (from_begin b p 2 + size b 2 * c)) * size b 0 + from_begin b p 0 < size b 0 * (size b 1 * (size b 2 * channels)) = mul-add-lt (from_begin b p 1 + size b 1 * (from_begin b p 2 + size b 2 * c)) (size b 0) (from_begin b p 0) (size b 1 * (size b 2 * channels)) (omega arith) (place 0 (lit< tt)) in
       omega arith
 
+-- a voxel's bytes lie within the box's
+pub voxel_fits : (b : Box3) (channels w : ℕ) (p : List ℤ) (c : ℕ) → Covers b p → c < channels → w * num b p c + w ≤ raw_len b channels w
+voxel_fits b channels w p c covered h =
+    let next : num b p c + 1 ≤ voxels b * channels = omega (arith, num-lt b p c covered channels h) in
+    let within : w * (num b p c + 1) ≤ w * (voxels b * channels) = mul-le-mul_left w next in
+    omega arith
+
 -- raw bytes
 pub length-raw_bytes : (b : Box3) (channels w : ℕ) (f : List ℤ → ℕ → ℕ) → length (raw_bytes b channels w f) ≡ raw_len b channels w
 length-raw_bytes b channels w f =
     length-pieces w (λ n. bytes_of w (f (position_of b n) (channel_of b n))) 0 (voxels b * channels) (λ n. length-bytes_of w (f (position_of b n) (channel_of b n)))
     ∙ omega arith
-
-pub AreBytes-raw_bytes : (b : Box3) (channels w : ℕ) (f : List ℤ → ℕ → ℕ) → AreBytes (raw_bytes b channels w f)
-AreBytes-raw_bytes b channels w f =
-    AreBytes-pieces (λ n. bytes_of w (f (position_of b n) (channel_of b n))) 0 (voxels b * channels) (λ n. AreBytes-bytes_of w (f (position_of b n) (channel_of b n)))
 
 -- hold the value of each voxel, by its three coordinates
 pub digit-raw_bytes : (b : Box3) (channels w : ℕ) (f : List ℤ → ℕ → ℕ) (p : List ℤ) (c : ℕ) → Covers b p → c < channels → f (on_axes (at p)) c < 256 ^ w
@@ -178,9 +168,6 @@ is_raw_bytes b channels w f out some len small same =
     ∙ ap (λ k. bytes_of w (f (position_of b k) (channel_of b k))) (sym (zero_more i)))
 
 -- what writes give: one write more,
-pub last-none : (w : ℕ) (p : List ℤ) (c : ℕ) → last w [] p c ≡ 0
-last-none w p c = refl
-
 pub last-more : (w : ℕ) (writes : List (Box3 × List ℕ)) (write : Box3 × List ℕ) (p : List ℤ) (c : ℕ)
     → last w (writes ++ write ∷ []) p c ≡ (if covers write.0 p then digit write.1 w (num write.0 p c) else last w writes p c)
 last-more w writes write p c = ap (λ ws. newest w ws p c) (reverse-append writes (write ∷ []))
@@ -216,10 +203,6 @@ last-on_axes w writes p c = newest-on_axes w (reverse writes) p c
 pub length-written_raw : (s : Scale) (writes : List (Box3 × List ℕ)) (cell : List ℕ) → length (written_raw s writes cell) ≡ raw_len (cell_box s cell) s.channels s.width
 unfolding written_raw
 length-written_raw s writes cell = length-raw_bytes (cell_box s cell) s.channels s.width (last s.width writes)
-
-pub AreBytes-written_raw : (s : Scale) (writes : List (Box3 × List ℕ)) (cell : List ℕ) → AreBytes (written_raw s writes cell)
-unfolding written_raw
-AreBytes-written_raw s writes cell = AreBytes-raw_bytes (cell_box s cell) s.channels s.width (last s.width writes)
 
 pub is_written_raw : (s : Scale) (writes : List (Box3 × List ℕ)) (cell out : List ℕ) → IsSome (cell_box s cell) → length out ≡ raw_len (cell_box s cell) s.channels s.width → AreBytes out
     → ((p : List ℤ) (c : ℕ) → Covers (cell_box s cell) p → c < s.channels → digit out s.width (num (cell_box s cell) p c) ≡ last s.width writes p c) → out ≡ written_raw s writes cell

@@ -36,10 +36,6 @@ Moves-from_below run (a ∷ axes) n d s fits m =
     let row = row_fits (a.from + m.0) a.from_stride (a.from + a.count) a.from_stride (omega arith) (omega arith) in
     omega arith
 
--- nothing is copied yet
-pub Copied-none : (run : Run) (a : Axis) (axes : List Axis) (from old : List ℕ) → Copied run (first a 0 ∷ axes) from old old
-Copied-none run a axes from old = record { moved = λ d s m. absurd (omega (arith, m.3)); kept = λ d no. refl }
-
 -- one block more
 pub Copied-more : (run : Run) (a : Axis) (axes : List Axis) (from part old cur block : List ℕ) (i k : ℕ)
     → FitsFrom run (a ∷ axes) (length from) → FitsTo run (a ∷ axes) (length cur) → i < a.count

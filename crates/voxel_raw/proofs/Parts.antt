@@ -1,6 +1,7 @@
 -- Parts of a box, by their positions and by their axes.
-use Rattle.std.proofs.Common.{ℕ, zero, suc, List, ◌-◌, ◌<◌, ℤ, pos, ◌+ℤ◌, ◌≤ℤ◌, ◌<ℤ◌, arith, lit<}
+use Rattle.std.proofs.Common.{ℕ, List, ◌-◌, ◌<◌, ℤ, pos, ◌+ℤ◌, ◌≤ℤ◌, ◌<ℤ◌, arith, lit<}
 use Rattle.std.proofs.lemmas.Int.{ints}
+use Rattle.vol_base.proofs.Axes.{by_axis}
 use Rattle.vol_base.specs.Boxes.{at, end, on_axes, size, Covers, IsSome, Within}
 use Rattle.vol_base.specs.declared.boxes.Box3.{Box3}
 
@@ -11,12 +12,6 @@ OnAxis part b axis = (at b.begin axis ≤ℤ at part.begin axis) × (end part ax
 -- on each axis
 abbrev pub LiesIn : Box3 → Box3 → Type 0
 LiesIn part b = (axis : ℕ) → axis < 3 → OnAxis part b axis
-
-pub by_axis : (P : ℕ → Type 0) → P 0 → P 1 → P 2 → (a : ℕ) → a < 3 → P a
-by_axis P x y z zero h = x
-by_axis P x y z (suc zero) h = y
-by_axis P x y z (suc (suc zero)) h = z
-by_axis P x y z (suc (suc (suc a))) h = absurd (omega arith)
 
 -- a box with a position has no empty axis
 pub covers_some : (b : Box3) (p : List ℤ) → Covers b p → IsSome b

@@ -6,12 +6,12 @@ use Rattle.std.proofs.lemmas.Grind.{elements}
 use Rattle.std.proofs.lemmas.Nat.{same_from_place, mul-add-lt}
 use Rattle.std.proofs.Math.Nat.{mul-le-mul_left}
 use Rattle.vol_base.specs.Boxes.{from_begin, size, Covers, IsSome, num, value, at, end}
-use Rattle.vol_spec.specs.Raw.{raw_len}
 use Rattle.vol_base.specs.declared.boxes.Box3.{Box3}
 use Rattle.voxel_raw.specs.Blocks.{Moves, FitsFrom, FitsTo}
 use Rattle.voxel_raw.specs.Places.{IsPlace, run_of, axes_of}
 use Rattle.voxel_raw.specs.declared.boxes.Place.{Place}
-use Rattle.voxel_raw.proofs.Parts.{LiesIn, by_axis, covers_some}
+use Rattle.voxel_raw.proofs.Parts.{LiesIn, covers_some}
+use Rattle.vol_base.proofs.Axes.{by_axis}
 use Rattle.voxel_raw.proofs.Products.{Facts}
 
 -- on an axis, the distances add up
@@ -124,15 +124,6 @@ pub from_moves : (w s0 s1 s2 ox oy oz j y z c q3 q2 q1 px py pz row plane volume
 from_moves w s0 s1 s2 ox oy oz j y z c q3 q2 q1 px py pz row plane volume d ed e1 e2 e3 ex ey ez er ep ev =
     rw (ed, e1, e2, e3, ex, ey, ez, er, ep, ev) (omega arith)
 
-pub fits_below : (w s0 s1 s2 channels x y z c n : ℕ) → x < s0 → y < s1 → z < s2 → c < channels → w * s0 * s1 * s2 * channels ≡ n → w * (x + s0 * (y + s1 * (z + s2 * c))) + w ≤ n
-fits_below w s0 s1 s2 channels x y z c n lx ly lz lc e =
-    let a : y + 1 ≤ s1 = omega arith in
-    let r0 : z + s2 * c + 1 ≤ s2 * channels = omega (arith, mul-add-lt c s2 z channels lc lz) in
-    let r1 : y + s1 * (z + s2 * c) + 1 ≤ s1 * (s2 * channels) = omega (arith, mul-add-lt (z + s2 * c) s1 y (s2 * channels) (omega arith) ly) in
-    let r2 : x + s0 * (y + s1 * (z + s2 * c)) + 1 ≤ s0 * (s1 * (s2 * channels)) = omega (arith, mul-add-lt (y + s1 * (z + s2 * c)) s0 x (s1 * (s2 * channels)) (omega arith) lx) in
-    let r3 : w * (x + s0 * (y + s1 * (z + s2 * c)) + 1) ≤ w * (s0 * (s1 * (s2 * channels))) = mul-le-mul_left w r2 in
-    omega arith
-
 -- no byte moves to a voxel outside the part
 pub stays : (tb part : Box3) (channels w : ℕ) (at to_at : Place) → IsPlace tb part w to_at → LiesIn part tb → (n : ℕ) → Facts tb part channels w n
     → (p : List ℤ) (c k s : ℕ) → Covers tb p → (Covers part p → ⊥) → k < w
@@ -152,12 +143,6 @@ stays tb part channels w at' to_at t in_t n facts p c k s cov out lk m =
     (back_in (at tb.begin 0) (at part.begin 0) (at p 0) (size part 0) run.0 (in_t 0 (lit< tt)).0 (cov 0 (lit< tt)).0 run.1 run.2)
     (back_in (at tb.begin 1) (at part.begin 1) (at p 1) (size part 1) m.4.4.0 (in_t 1 (lit< tt)).0 (cov 1 (lit< tt)).0 one.1 m.4.4.3)
     (back_in (at tb.begin 2) (at part.begin 2) (at p 2) (size part 2) m.4.0 (in_t 2 (lit< tt)).0 (cov 2 (lit< tt)).0 one.0 m.4.3))
-
--- a voxel's bytes lie within the box's
-pub voxel_fits : (b : Box3) (channels w : ℕ) (p : List ℤ) (c : ℕ) → Covers b p → c < channels → w * num b p c + w ≤ raw_len b channels w
-voxel_fits b channels w p c cov lc =
-    fits_below w (size b 0) (size b 1) (size b 2) channels (from_begin b p 0) (from_begin b p 1) (from_begin b p 2) c (raw_len b channels w)
-    (less _ _ _ (cov 0 (lit< tt)).0 (cov 0 (lit< tt)).1) (less _ _ _ (cov 1 (lit< tt)).0 (cov 1 (lit< tt)).1) (less _ _ _ (cov 2 (lit< tt)).0 (cov 2 (lit< tt)).1) lc (omega arith)
 
 -- a part that has a position but no bytes has values of no bytes
 pub no_width : (part : Box3) (channels w : ℕ) (b : Bool) → IsTrue b ↔ (IsSome part × (0 < channels) × (0 < w)) → b ≡ false → (p : List ℤ) (c : ℕ) → Covers part p → c < channels → w ≡ 0

@@ -27,13 +27,6 @@ took_more a b m x y z p q l = record {
   left = q.left ∙ ap (option_map (drop q.count)) p.left ∙ drop_twice x p.count q.count;
 }
 
-pub took_at_most : (a m : ℕ) (x y : Option (List ℕ)) → Took a x y → a ≤ m → Took m x y
-took_at_most a m x y p l = record { count = p.count; small = omega (arith, p.small); left = p.left }
-
-pub took_none : (m : ℕ) (x : Option (List ℕ)) → Took m x x
-took_none m None = record { count = 0; small = omega arith; left = refl }
-took_none m (Some w) = record { count = 0; small = omega arith; left = ap Some (grind (arith, common_steps)) }
-
 pub map_same : {A : Type 0} (o : Option (List ℕ)) (f g : List ℕ → A) → ((x : List ℕ) → f x ≡ g x) → option_map f o ≡ option_map g o
 map_same None f g h = refl
 map_same (Some x) f g h = ap Some (h x)

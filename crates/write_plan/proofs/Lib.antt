@@ -8,5 +8,4 @@ pub mod OrderSteps
 pub mod PlanSteps
 pub mod RunSteps
 pub mod SizeSteps
-pub mod WalkedSteps
 pub mod WholeSteps

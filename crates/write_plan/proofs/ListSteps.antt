@@ -1,5 +1,5 @@
 -- A list of writes that grows, and the rest of a stream.
-use Rattle.std.proofs.Common.{◌≡◌, ℕ, suc, ◌+◌, ◌-◌, ◌<◌, List, [], ◌∷◌, ◌++◌, length, map, sum, Option, ap, ◌∙◌, subst, arith}
+use Rattle.std.proofs.Common.{◌≡◌, ℕ, suc, ◌+◌, ◌-◌, ◌<◌, List, [], ◌∷◌, ◌++◌, length, map, sum, Option, ap, ◌∙◌, sym, subst, arith, append_assoc}
 use Rattle.std.specs.Option.{option_map}
 use Rattle.std.proofs.lemmas.List.{map-append}
 use Rattle.std.proofs.lemmas.Grind.{common_steps}
@@ -19,6 +19,10 @@ total_last ws w = ap sum (map-append (λ (v : BoxWrite). length v.1) ws (w ∷ [
 
 pub writes_last : (ws : List Write) (w : Write) → writes_in (ws ++ w ∷ []) ≡ writes_in ws ++ write_in w ∷ []
 writes_last ws w = map-append write_in ws (w ∷ [])
+
+-- what is pushed for each element
+pub pushed_more : {X Y : Type 0} (f : X → Y) (old now : List Y) (done : List X) (x : X) → now ≡ old ++ map f done → now ++ f x ∷ [] ≡ old ++ map f (done ++ x ∷ [])
+pushed_more f old now done x e = ap (λ ys. ys ++ f x ∷ []) e ∙ append_assoc old (map f done) (f x ∷ []) ∙ ap (λ ys. old ++ ys) (sym (map-append f done (x ∷ [])))
 
 -- one write more
 writes_next : (s : Scale) (n : ℕ) (ws : List BoxWrite) (o p : Option (List ℕ)) (w : BoxWrite) → Gave (write_at s (length ws) (total ws)) o p w → option_map (writes_at s (suc n) ws) o ≡ option_map (writes_at s n (ws ++ w ∷ [])) p

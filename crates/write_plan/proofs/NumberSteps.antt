@@ -1,28 +1,24 @@
 -- The numbers of the cells of a grid.
 use Rattle.std.proofs.Common.{◌≡◌, ℕ, ◌+◌, ◌*◌, ◌/◌, ◌%◌, ◌^◌, ◌<◌, ◌≤◌, List, [], ◌∷◌, refl, sym, ap, ◌∙◌, subst, arith, lit<}
 use Rattle.std.specs.Prelude.{slice_index}
-use Rattle.std.proofs.lemmas.Nat.{mod_below, div_below, mul-add-lt, mul-le}
+use Rattle.std.proofs.lemmas.Nat.{mul-add-lt, mul-le}
+use Rattle.std.proofs.Math.Nat.{mod-add-div}
 use Rattle.vol_spec.specs.Limits.{cell_counts}
 use Rattle.vol_spec.specs.Grid.{cells_on, IsCell}
 use Rattle.vol_spec.specs.StoredCells.{cell_number}
 use Rattle.vol_spec.specs.declared.scale.Scale.{Scale}
-use Rattle.chunk_grid.proofs.AxisSteps.{by_axis}
+use Rattle.vol_base.proofs.Axes.{by_axis}
 use Rattle.chunk_grid.proofs.GridSteps.{AreSizes-counts}
+use Rattle.chunk_grid.proofs.ListingSteps.{parts_below, some_cells}
 use Rattle.write_plan.specs.Pairs.{cell_count}
-use Rattle.write_plan.specs.PlanLaws.{number_again}
-
-pub some_cells : (s : Scale) (axis : ℕ) → axis < 3 → 0 < cells_on s axis
-some_cells s = by_axis (λ axis. 0 < cells_on s axis) (AreSizes-counts s.size s.chunk s.size_ok s.chunk_ok 0 (lit< tt)).0 (AreSizes-counts s.size s.chunk s.size_ok s.chunk_ok 1 (lit< tt)).0 (AreSizes-counts s.size s.chunk s.size_ok s.chunk_ok 2 (lit< tt)).0
 
 pub few_cells : (s : Scale) (axis : ℕ) → axis < 3 → cells_on s axis ≤ 2 ^ 40
 few_cells s = by_axis (λ axis. cells_on s axis ≤ 2 ^ 40) (AreSizes-counts s.size s.chunk s.size_ok s.chunk_ok 0 (lit< tt)).1 (AreSizes-counts s.size s.chunk s.size_ok s.chunk_ok 1 (lit< tt)).1 (AreSizes-counts s.size s.chunk s.size_ok s.chunk_ok 2 (lit< tt)).1
 
-pub parts_below : (m n o k : ℕ) → 0 < m → 0 < n → k < m * n * o → (k % m < m) × (k / m % n < n) × (k / m / n < o)
-parts_below m n o k hm hn h =
-    let row : k / m < o * n = div_below k m (o * n) hm (omega arith) in
-    (mod_below k m hm, mod_below (k / m) n hn, div_below (k / m) n o hn row)
-
 -- a number by its parts
+number_again : (m n k : ℕ) → k % m + m * (k / m % n + n * (k / m / n)) ≡ k
+number_again m n k = ap (λ q. k % m + m * q) (mod-add-div (k / m) n) ∙ mod-add-div k m
+
 pub number_below : (m n o x y z : ℕ) → x < m → y < n → z < o → x + m * (y + n * z) < m * n * o
 number_below m n o x y z hx hy hz =
     let plane : z * n + y < n * o = mul-add-lt z n y o hz hy in

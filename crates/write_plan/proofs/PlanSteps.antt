@@ -4,23 +4,23 @@ use Rattle.std.specs.Prelude.{◌==◌, ◌||◌, All, Contains, filter, if◌th
 use Rattle.std.specs.List.{list_any}
 use Rattle.std.proofs.lemmas.Bool.Decides.{nat_tests}
 use Rattle.std.proofs.lemmas.List.{get_or-map, length-map}
-use Rattle.std.proofs.lemmas.List.Elements.{All-contains, All-contains_itself, All-filter, Contains-get_or, filter_passes}
+use Rattle.std.proofs.lemmas.List.Elements.{All-contains_itself, All-filter, Contains-get_or, filter_passes}
 use Rattle.vol_base.specs.declared.boxes.Box3.{Box3}
 use Rattle.vol_base.specs.Outside.{Objects}
 use Rattle.vol_spec.specs.Cut.{first_some}
-use Rattle.vol_spec.specs.Grid.{cell_box, cells_on, IsCell, meets, numbers_on}
+use Rattle.vol_spec.specs.Grid.{cell_box, IsCell, meets}
 use Rattle.vol_spec.specs.Raw.{raw_len}
 use Rattle.vol_spec.specs.StoredCells.{AreInOrder, cell_number, cell_of, met, met_cells, written_raw}
 use Rattle.vol_spec.specs.declared.scale.Scale.{Scale}
 use Rattle.chunk_grid.proofs.GridSteps.{cell_box-short}
-use Rattle.chunk_grid.proofs.ListingSteps.{Contains-numbers_on}
+use Rattle.chunk_grid.proofs.ListingSteps.{Contains-filter}
 use Rattle.write_plan.specs.Pairs.{ArePairs, IsPlan, run_of}
 use Rattle.write_plan.specs.Plans.{no_fault, Planned, ready_of}
 use Rattle.write_plan.specs.WriteLists.{BoxWrite, IsWriteOf}
 use Rattle.write_plan.specs.declared.pairs.Pair.{Pair}
-use Rattle.write_plan.specs.PlanLaws.{length-written, met_in_grid, met_rise}
-use Rattle.write_plan.proofs.OrderSteps.{same_rising}
-use Rattle.write_plan.proofs.RunSteps.{Contains-filter, number_from, same_number}
+use Rattle.vol_spec.proofs.RawSteps.{length-written_raw}
+use Rattle.chunk_grid.proofs.OrderSteps.{AreInOrder-met_cells, cells_in_order}
+use Rattle.write_plan.proofs.RunSteps.{number_from, same_number}
 
 -- a test holds of some element exactly where the filter keeps one
 one_kept : {X : Type 0} (b any : Bool) (x : X) (rest : List X) → (any ≡ true → 0 < length rest) → (b || any) ≡ true → 0 < length (cond b (x ∷ rest) rest)
@@ -73,22 +73,15 @@ met_numbered s ws ps cell h is e =
     listed : (pair : Pair) → pair.number ≡ cell_number s cell → Contains ps pair → Contains (map (λ (pair : Pair). pair.number) ps) (cell_number s cell)
     listed pair own (k, l, f) = (k, omega (arith, l, length-map ps (λ (pair : Pair). pair.number)), get_or-map (λ (pair : Pair). pair.number) ps k pair (cell_number s cell) l ∙ ap (λ (pair : Pair). pair.number) f ∙ own)
 
-in_met : (s : Scale) (ws : List BoxWrite) (cell : List ℕ) → IsCell s cell → met s ws cell ≡ true → Contains (met_cells s ws) cell
-unfolding met_cells
-in_met s ws cell is e = Contains-filter (met s ws) (numbers_on (cells_on s)) cell (Contains-numbers_on s cell is) e
-
-met_passes : (s : Scale) (ws : List BoxWrite) → All (λ cell. met s ws cell ≡ true) (met_cells s ws)
-unfolding met_cells
-met_passes s ws = filter_passes (met s ws) (numbers_on (cells_on s))
-
 jobs_met : (s : Scale) (ws : List BoxWrite) (ps : List Pair) (jobs : List (List ℕ)) → ArePairs s ws ps → AreInOrder s jobs
     → ((cell : List ℕ) → IsCell s cell → Contains jobs cell ↔ Contains (map (λ (pair : Pair). pair.number) ps) (cell_number s cell)) → jobs ≡ met_cells s ws
+unfolding met_cells
 jobs_met s ws ps jobs h order same =
-    same_rising (cell_number s) jobs (met_cells s ws) order.rising (met_rise s ws)
-    (λ cell c. let is = All-contains (IsCell s) jobs cell order.each c in in_met s ws cell is (numbered_met s ws ps cell h is ((same cell is).0 c)))
-    (λ cell c.
-    let is = All-contains (IsCell s) (met_cells s ws) cell (met_in_grid s ws) c in
-    (same cell is).1 (met_numbered s ws ps cell h is (All-contains (λ (cell : List ℕ). met s ws cell ≡ true) (met_cells s ws) cell (met_passes s ws) c)))
+    cells_in_order s (met s ws) jobs order
+    (λ k d l.
+    let is = order.each k d l in
+    numbered_met s ws ps (get_or jobs k d) h is ((same (get_or jobs k d) is).0 (Contains-get_or jobs k d l)))
+    (λ cell is e. (same cell is).1 (met_numbered s ws ps cell h is e))
 
 pub planned : (s t : Scale) (ws vs : List BoxWrite) (ps qs : List Pair) (found jobs : List (List ℕ)) → t ≡ s → ws ≡ vs → qs ≡ ps → All (IsWriteOf s) ws → ArePairs s vs ps → AreInOrder s jobs
     → ((cell : List ℕ) → Contains jobs cell ↔ Contains found cell)
@@ -116,7 +109,7 @@ room_at : (s : Scale) (ws : List BoxWrite) (job n : ℕ) (b : Bool) → b ≡ na
     → IsRoom s (cell_of (met_cells s ws) job) n
 room_at s ws job n true e h =
     let low : job < length (met_cells s ws) = below_from job (length (met_cells s ws)) (sym e) in
-    record { in_grid = met_in_grid s ws job [] low; len = sym h ∙ length-written s ws (cell_of (met_cells s ws) job) }
+    record { in_grid = (AreInOrder-met_cells s ws).each job [] low; len = sym h ∙ length-written_raw s ws (cell_of (met_cells s ws) job) }
 room_at s ws job n false e h = absurd h
 
 pub room : (plan : Planned) (s : Scale) (ws : List BoxWrite) (jobs : List (List ℕ)) (cell : List ℕ) (job n : ℕ) → plan ≡ record { scale = s; writes = ws } → jobs ≡ met_cells s ws → cell ≡ cell_of jobs job
@@ -133,14 +126,14 @@ none_first plan m (x ∷ xs) = none_first plan m xs
 
 -- a job below the number of jobs, and room for its bytes
 pub job_in_grid : (s : Scale) (ws : List BoxWrite) (jobs : List (List ℕ)) (cell : List ℕ) (job : ℕ) → jobs ≡ met_cells s ws → cell ≡ cell_of jobs job → job < length (met_cells s ws) → IsCell s cell
-job_in_grid s ws jobs cell job all own low = subst (IsCell s) (sym (own ∙ ap (λ (cs : List (List ℕ)). cell_of cs job) all)) (met_in_grid s ws job [] low)
+job_in_grid s ws jobs cell job all own low = subst (IsCell s) (sym (own ∙ ap (λ (cs : List (List ℕ)). cell_of cs job) all)) ((AreInOrder-met_cells s ws).each job [] low)
 
 below_true : (a b : ℕ) → a < b → nat_lt a b ≡ true
 below_true a b h = grind (arith, nat_tests)
 
 ready_at : (s : Scale) (ws : List BoxWrite) (job n : ℕ) (b : Bool) → b ≡ true → n ≡ raw_len (cell_box s (cell_of (met_cells s ws) job)) s.channels s.width
     → IsSomeAnd (if b then Some (written_raw s ws (cell_of (met_cells s ws) job)) else None) (λ bytes. length bytes ≡ n)
-ready_at s ws job n true e len = length-written s ws (cell_of (met_cells s ws) job) ∙ sym len
+ready_at s ws job n true e len = length-written_raw s ws (cell_of (met_cells s ws) job) ∙ sym len
 ready_at s ws job n false e len = absurd (cc e)
 
 pub job_room : (plan : Planned) (jobs : List (List ℕ)) (cell : List ℕ) (job n : ℕ) → jobs ≡ met_cells plan.scale plan.writes → cell ≡ cell_of jobs job → job < length (met_cells plan.scale plan.writes)

@@ -13,14 +13,14 @@ use Rattle.vol_spec.specs.Grid.{cells_in, cells_on, IsCell, meets, numbers_on}
 use Rattle.vol_spec.specs.StoredCells.{cell_number}
 use Rattle.vol_spec.specs.declared.scale.Scale.{Scale}
 use Rattle.chunk_grid.proofs.ListSteps.{filter-map}
-use Rattle.chunk_grid.proofs.ListingSteps.{All-numbers_on, cells_in-IsCell, Contains-numbers_on}
+use Rattle.chunk_grid.proofs.ListingSteps.{All-numbers_on, cells_in-IsCell, Contains-filter, Contains-numbers_on}
+use Rattle.chunk_grid.proofs.OrderSteps.{AreInOrder-numbers_on, rising_same}
 use Rattle.write_plan.specs.Pairs.{ArePairs, cell_count, pair_of, pairs_from, run_of, writes_of_run}
 use Rattle.write_plan.specs.WriteLists.{BoxWrite, write_in, writes_in}
 use Rattle.write_plan.specs.declared.writes.Write.{Write}
 use Rattle.write_plan.specs.declared.pairs.Pair.{Pair}
-use Rattle.write_plan.specs.PlanLaws.{all_rise}
 use Rattle.write_plan.proofs.NumberSteps.{cell_number-below}
-use Rattle.write_plan.proofs.OrderSteps.{same_rising, cell_known}
+use Rattle.write_plan.proofs.OrderSteps.{cell_known}
 
 -- filters
 pub filter_none : {X : Type 0} (p : X → Bool) (xs : List X) → All (λ x. p x ≡ false) xs → filter p xs ≡ []
@@ -42,15 +42,6 @@ pub filter_turn : {X : Type 0} (p q : X → Bool) (xs : List X) → filter p (fi
 filter_turn p q [] = refl
 filter_turn p q (x ∷ xs) = filter_step (p x) (q x) p q x xs refl refl (filter_turn p q xs)
 
-kept : {X : Type 0} (b : Bool) (y : X) (xs : List X) (x : X) → Contains xs x → Contains (cond b (y ∷ xs) xs) x
-kept true y xs x (k, l, e) = (suc k, omega arith, e)
-kept false y xs x h = h
-
-pub Contains-filter : {X : Type 0} (p : X → Bool) (xs : List X) (x : X) → Contains xs x → p x ≡ true → Contains (filter p xs) x
-Contains-filter p [] x (k, l, e) h = absurd (omega arith)
-Contains-filter p (y ∷ ys) x (zero, l, e) h = rw (e, h) (zero, omega arith, refl)
-Contains-filter p (y ∷ ys) x (suc k, l, e) h = kept (p y) y (filter p ys) x (Contains-filter p ys x (k, omega arith, e) h)
-
 pub same_number : (a b : ℕ) → a ≡ b → (a == b) ≡ true
 same_number a b e = grind (arith, nat_tests)
 
@@ -68,8 +59,8 @@ in_single x y (suc k, l, e) = absurd (omega arith)
 only_cell : (s : Scale) (cell : List ℕ) → IsCell s cell → filter (λ x. cell_number s x == cell_number s cell) (numbers_on (cells_on s)) ≡ cell ∷ []
 only_cell s cell is =
     let test : List ℕ → Bool = λ x. cell_number s x == cell_number s cell in
-    same_rising (cell_number s) (filter test (numbers_on (cells_on s))) (cell ∷ [])
-    (AllPairs-filter (λ a b. cell_number s a < cell_number s b) test (numbers_on (cells_on s)) (all_rise s)) (single_rises (cell_number s) cell)
+    rising_same (cell_number s) (filter test (numbers_on (cells_on s))) (cell ∷ [])
+    (AllPairs-filter (λ a b. cell_number s a < cell_number s b) test (numbers_on (cells_on s)) (AreInOrder-numbers_on s).rising) (single_rises (cell_number s) cell)
     (λ x h.
     let own : IsCell s x = All-contains (IsCell s) _ x (All-filter test (IsCell s) _ (All-numbers_on s)) h in
     let passes : test x ≡ true = All-contains (λ y. test y ≡ true) _ x (filter_passes test _) h in

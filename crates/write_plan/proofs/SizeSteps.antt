@@ -1,21 +1,15 @@
 -- How many voxels and bytes there are at least and at most.
-use Rattle.std.proofs.Common.{◌≡◌, ℕ, zero, suc, ◌+◌, ◌-◌, ◌*◌, ◌/◌, ◌^◌, ◌<◌, ◌≤◌, ◌++◌, ℤ, pos, ◌+ℤ◌, ◌-ℤ◌, ◌≤ℤ◌, nat_abs, List, [], ◌∷◌, length, map, sum, take, drop, get_or, sym, ap, ◌∙◌, subst, arith, lit<}
-use Rattle.std.specs.Prelude.{slice_index}
+use Rattle.std.proofs.Common.{◌≡◌, ℕ, zero, suc, ◌+◌, ◌-◌, ◌*◌, ◌^◌, ◌<◌, ◌≤◌, ◌++◌, List, [], ◌∷◌, length, map, sum, take, drop, get_or, sym, ap, ◌∙◌, subst, arith, lit<}
 use Rattle.std.specs.List.{All}
-use Rattle.std.proofs.lemmas.Int.{ints}
 use Rattle.std.proofs.lemmas.Grind.{common_steps}
 use Rattle.std.proofs.lemmas.List.{get_or-map, length-map, map-append, map_more, take-append-drop}
 use Rattle.std.proofs.lemmas.List.Elements.{All-head, All-tail, All-take}
-use Rattle.std.proofs.lemmas.List.FromFn.{length-map-range_with_len}
-use Rattle.std.proofs.lemmas.Nat.{mod_below, div_below, mul-le}
-use Rattle.std.proofs.Math.Nat.{le-mul_of_pos_right, mod-add-div}
-use Rattle.vol_base.specs.declared.boxes.Box3.{Box3}
-use Rattle.vol_base.specs.Boxes.{at, size, voxels}
-use Rattle.vol_spec.specs.Grid.{cell_at, cells_in, Inside}
+use Rattle.std.proofs.Math.Nat.{le-mul_of_pos_right}
+use Rattle.vol_base.specs.Boxes.{size, voxels}
+use Rattle.vol_spec.specs.Grid.{cells_in}
 use Rattle.vol_spec.specs.Limits.{first_bytes, first_size}
 use Rattle.vol_spec.specs.declared.scale.Scale.{Scale}
-use Rattle.chunk_grid.specs.Walks.{cell_by_number, counts_between, last_position, total}
-use Rattle.chunk_grid.proofs.GridSteps.{Inside-on, cells_in-block}
+use Rattle.chunk_grid.proofs.CountSteps.{cells_in-voxels}
 use Rattle.write_plan.specs.Plans.{pairs}
 use Rattle.write_plan.specs.WriteLists.{BoxWrite, IsWriteOf, write_in, writes_in, total as total_bytes}
 use Rattle.write_plan.specs.declared.writes.Write.{Write}
@@ -42,47 +36,9 @@ some_bytes s =
     positive _ _ (positive _ _ (positive _ _ (positive _ _ (some_size s 0 (lit< tt)) (some_size s 1 (lit< tt))) (some_size s 2 (lit< tt))) s.some_channels) (some_width s.width s.width_ok)
 
 -- a write meets at most as many cells as it has bytes
-last_block : (f m chunk : ℕ) → 1 ≤ chunk → (f + m) / chunk - f / chunk + 1 ≤ m + 1
-last_block f m chunk c =
-    let whole = mod-add-div f chunk in
-    let less = mod_below f chunk c in
-    let size : f < f / chunk * chunk + chunk = omega arith in
-    let more : m ≤ m * chunk = le-mul_of_pos_right m c in
-    let parts : (f / chunk + (m + 1)) * chunk ≡ f / chunk * chunk + chunk + m * chunk = omega arith in
-    let below : (f + m) / chunk < f / chunk + (m + 1) = div_below (f + m) chunk (f / chunk + (m + 1)) c (omega arith) in
-    omega arith
-
-axis_count : (f n chunk : ℕ) → 1 ≤ chunk → 0 < n → (f + n - 1) / chunk - f / chunk + 1 ≤ n
-axis_count f n chunk c some =
-    let e : f + (n - 1) ≡ f + n - 1 = omega arith in
-    let h : (f + n - 1) / chunk - f / chunk + 1 ≤ (n - 1) + 1 = subst (λ k. k / chunk - f / chunk + 1 ≤ (n - 1) + 1) e (last_block f (n - 1) chunk c) in
-    omega arith
-
-last_place : (o b : ℤ) (n : ℕ) → o ≤ℤ b → 0 < n → nat_abs (((b +ℤ pos n) -ℤ pos 1) -ℤ o) ≡ nat_abs (b -ℤ o) + n - 1
-last_place o b n begins some = omega (arith, ints)
-
-count_on : (s : Scale) (b : Box3) → Inside s b → (axis : ℕ) → axis < 3
-    → nat_abs (((at b.begin axis +ℤ pos (size b axis)) -ℤ pos 1) -ℤ at s.offset axis) / slice_index s.chunk axis - nat_abs (at b.begin axis -ℤ at s.offset axis) / slice_index s.chunk axis + 1 ≤ size b axis
-count_on s b h axis l =
-    let on = Inside-on s b h axis l in
-    let e = last_place (at s.offset axis) (at b.begin axis) (size b axis) on.begins on.some in
-    subst (λ q. q / slice_index s.chunk axis - nat_abs (at b.begin axis -ℤ at s.offset axis) / slice_index s.chunk axis + 1 ≤ size b axis) (sym e)
-    (axis_count (nat_abs (at b.begin axis -ℤ at s.offset axis)) (size b axis) (slice_index s.chunk axis) (s.chunk_ok axis l).0 on.some)
-
-cells_count : (s : Scale) (b : Box3) → Inside s b → length (cells_in s b) ≤ voxels b
-cells_count s b h =
-    let first : List ℕ = cell_at s b.begin in
-    let count : List ℕ = counts_between first (cell_at s (last_position b)) in
-    let e : length (cells_in s b) ≡ total count - 0 = ap length (cells_in-block s b h) ∙ length-map-range_with_len (cell_by_number first count) 0 (total count - 0) in
-    let x : slice_index count 0 ≤ size b 0 = count_on s b h 0 (lit< tt) in
-    let y : slice_index count 1 ≤ size b 1 = count_on s b h 1 (lit< tt) in
-    let z : slice_index count 2 ≤ size b 2 = count_on s b h 2 (lit< tt) in
-    let all : total count ≤ voxels b = mul-le _ _ _ _ (mul-le _ _ _ _ x y) z in
-    omega arith
-
 pub cells_in-small : (s : Scale) (w : BoxWrite) → IsWriteOf s w → length (cells_in s w.0) ≤ length w.1
 cells_in-small s w h =
-    let a = cells_count s w.0 h.inside in
+    let a = cells_in-voxels s w.0 h.inside in
     let b : voxels w.0 ≤ voxels w.0 * s.channels = le-mul_of_pos_right (voxels w.0) s.some_channels in
     let c : voxels w.0 * s.channels ≤ voxels w.0 * s.channels * s.width = le-mul_of_pos_right (voxels w.0 * s.channels) (some_width s.width s.width_ok) in
     let e = h.bytes in

@@ -1,6 +1,6 @@
 -- The whole of a stream.
 use Rattle.std.proofs.Common.{◌≡◌, ℕ, zero, suc, ◌<◌, ◌≤◌, ◌^◌, List, [], length, Option, Some, None, IfSome, Ok, Err, false, refl, ap, sym, arith, inl, inr}
-use Rattle.std.specs.Prelude.{◌==◌, drop}
+use Rattle.std.specs.Prelude.{◌==◌}
 use Rattle.std.specs.List.{All}
 use Rattle.std.specs.Option.{option_map}
 use Rattle.std.proofs.lemmas.Bool.Decides.{nat_tests}
@@ -25,13 +25,6 @@ ended_refused ws (Some x) e q h = rw (not_empty (length x) h) (ap Err (sym q))
 pub ended_all : (ws : List BoxWrite) (p : Option (List ℕ)) → p ≡ option_map (λ _. []) p → option_map (ended ws) p ≡ option_map (λ _. Ok ws) p
 ended_all ws None h = refl
 ended_all ws (Some x) h = let e : x ≡ [] = cc in ap Some (ap (ended ws) e)
-
-abbrev pub nothing : List ℕ → List ℕ
-nothing x = []
-
-pub all_gone : (o : Option (List ℕ)) (n : ℕ) → option_map nothing (option_map (drop n) o) ≡ option_map nothing o
-all_gone None n = refl
-all_gone (Some x) n = refl
 
 no_width : IsWidth 0 → ⊥
 no_width (inl h) = cc h

@@ -1,6 +1,6 @@
 use Rattle.std.proofs.Common.{lit<, ◌≡◌, true, IsTrue, ℕ, ◌<◌}
 use Rattle.chunk_grid.specs.Axes.{LiesOn}
-use Rattle.chunk_grid.proofs.AxisSteps.{by_axis}
+use Rattle.vol_base.proofs.Axes.{by_axis}
 use Rattle.chunk_grid.proofs.MeetSteps.{is_true, not_true}
 use Rattle.chunk_grid.proofs.GridSteps.{Inside-from, Inside-on}
 use Rattle.chunk_grid.proofs.boxes.inside.Goals as goal

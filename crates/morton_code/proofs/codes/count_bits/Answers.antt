@@ -1,5 +1,5 @@
 use Rattle.std.proofs.Common.{arith, slice_index, ◌≤◌, ◌^◌}
-use Rattle.morton_code.proofs.Steps.{by_axis}
+use Rattle.vol_base.proofs.Axes.{by_axis}
 use Rattle.morton_code.proofs.codes.count_bits.Goals as goal
 
 pub returns-clause-sizes : goal.returns-clause-sizes

@@ -5,7 +5,7 @@ use Rattle.vol_spec.specs.CellNames.{cell_name}
 use Rattle.vol_spec.specs.Cut.{first_some}
 use Rattle.vol_spec.specs.StoredCells.{AreInOrder, cell_of, put_in}
 use Rattle.shard_writer.specs.Writing.{bytes_from, objects_from, WritesAll}
-use Rattle.shard_writer.proofs.Told.{from_told, in_told}
+use Rattle.vol_spec.proofs.Told.{from_told, in_told}
 use Rattle.shard_writer.proofs.WindowSteps.{bytes_behind, drops_on, Keeps, keeps_of, more_faulty, more_front, more_put, more_sound, same_front, same_put}
 use Rattle.shard_writer.proofs.scale.write_windows.Goals as goal
 

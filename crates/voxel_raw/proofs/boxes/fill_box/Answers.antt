@@ -1,6 +1,7 @@
 use Rattle.std.proofs.Common.{◌∙◌, arith}
 use Rattle.vol_base.specs.Boxes.{num}
-use Rattle.voxel_raw.proofs.Voxels.{voxel_fits, zero_value}
+use Rattle.vol_spec.proofs.RawSteps.{voxel_fits}
+use Rattle.voxel_raw.proofs.Voxels.{zero_value}
 use Rattle.voxel_raw.proofs.boxes.fill_box.Goals as goal
 
 pub returns-clause-zeros : goal.returns-clause-zeros

@@ -2,7 +2,8 @@ use Rattle.std.proofs.Common.{arith, refl}
 use Rattle.vol_base.specs.Boxes.{num}
 use Rattle.voxel_raw.proofs.Parts.{lies_in}
 use Rattle.voxel_raw.proofs.Products.{facts}
-use Rattle.voxel_raw.proofs.Voxels.{fits_source, fits_target, moves, stays, voxel_fits, no_width, same_values}
+use Rattle.vol_spec.proofs.RawSteps.{voxel_fits}
+use Rattle.voxel_raw.proofs.Voxels.{fits_source, fits_target, moves, stays, no_width, same_values}
 use Rattle.voxel_raw.proofs.boxes.put_box.Goals as goal
 
 pub put_places-requires-clause-source : goal.put_places-requires-clause-source

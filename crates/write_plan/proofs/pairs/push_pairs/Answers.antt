@@ -4,7 +4,8 @@ use Rattle.std.proofs.lemmas.List.Elements.{All-contains}
 use Rattle.vol_spec.specs.Grid.{cells_in, IsCell}
 use Rattle.chunk_grid.proofs.ListingSteps.{cells_in-IsCell}
 use Rattle.write_plan.specs.Pairs.{pair_of}
-use Rattle.write_plan.proofs.WalkedSteps.{here, one_on, at_end, pushed_more}
+use Rattle.chunk_grid.proofs.Walked.{here, one_on, at_end}
+use Rattle.write_plan.proofs.ListSteps.{pushed_more}
 use Rattle.write_plan.proofs.pairs.push_pairs.Goals as goal
 
 pub loop-cell-init : goal.loop-cell-init

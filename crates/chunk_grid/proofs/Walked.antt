@@ -1,7 +1,7 @@
 -- A list that is walked over, one element on.
-use Rattle.std.proofs.Common.{◌≡◌, List, [], ◌∷◌, ◌++◌, map, arith, refl, sym, ap, ◌∙◌, subst, append_assoc}
+use Rattle.std.proofs.Common.{◌≡◌, List, [], ◌∷◌, ◌++◌, arith, refl, sym, ap, ◌∙◌, subst, append_assoc}
 use Rattle.std.specs.Prelude.{Contains}
-use Rattle.std.proofs.lemmas.List.{append-nil, map-append}
+use Rattle.std.proofs.lemmas.List.{append-nil}
 use Rattle.std.proofs.lemmas.List.Elements.{Contains-append_right}
 
 -- the next element stands in the list
@@ -15,7 +15,3 @@ one_on done left rest all x e is = append_assoc done (x ∷ []) rest ∙ ap (λ 
 
 pub at_end : {X : Type 0} (done left all : List X) → left ≡ [] → done ++ left ≡ all → done ≡ all
 at_end done left all e is = sym (append-nil done) ∙ ap (λ r. done ++ r) (sym e) ∙ is
-
--- what is pushed for each element
-pub pushed_more : {X Y : Type 0} (f : X → Y) (old now : List Y) (done : List X) (x : X) → now ≡ old ++ map f done → now ++ f x ∷ [] ≡ old ++ map f (done ++ x ∷ [])
-pushed_more f old now done x e = ap (λ ys. ys ++ f x ∷ []) e ∙ append_assoc old (map f done) (f x ∷ []) ∙ ap (λ ys. old ++ ys) (sym (map-append f done (x ∷ [])))
