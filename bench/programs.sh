@@ -29,9 +29,14 @@ print("%.3f" % min(times))
 PY
 }
 
-# Both programs with these words: what they print has to be the same.
-compare() {
+# What both programs print with these words has to be the same.
+check() {
     [ "$("$proved" "$@")" = "$("$plain" "$@")" ] || { echo "$1: the sums differ" >&2; exit 1; }
+}
+
+# Both programs with these words: compares what they print, and gives their times.
+compare() {
+    check "$@"
     ours=$(least "$proved" "$@")
     theirs=$(least "$plain" "$@")
     awk -v what="$*" -v ours="$ours" -v theirs="$theirs" \

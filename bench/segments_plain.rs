@@ -1,6 +1,7 @@
 // The same chunks as crates/bench_segments, written and read by the same steps in plain Rust, with the same words.
 
 use std::env;
+use std::hint::black_box;
 
 #[derive(Clone, Copy)]
 struct Shape {
@@ -40,8 +41,13 @@ fn put_word(out: &mut [u8], at: usize, x: u32) {
 }
 
 // The values of a block, with one value for its padding.
-fn fill_voxels(raw: &[u8], shape: &Shape, k: usize, padding: u64, voxels: &mut [u64]) {
-    let (first, count) = shape.place(k);
+fn fill_voxels(
+    raw: &[u8],
+    shape: &Shape,
+    (first, count): ([usize; 3], [usize; 3]),
+    padding: u64,
+    voxels: &mut [u64],
+) {
     let [bx, by, _] = shape.block;
     for (r, row) in voxels.chunks_exact_mut(bx).enumerate() {
         let (y, z) = (r % by, r / by);
@@ -53,8 +59,13 @@ fn fill_voxels(raw: &[u8], shape: &Shape, k: usize, padding: u64, voxels: &mut [
     }
 }
 
-// The table of the values, in front of `table`.
-fn find_table(voxels: &[u64], table: &mut [u64]) -> usize {
+// The spot of a value among 64.
+fn find_spot(x: u64) -> usize {
+    (x.wrapping_mul(0x9e3779b97f4a7c15) >> 58) as usize
+}
+
+// The values without those that equal the one before.
+fn gather(voxels: &[u64], table: &mut [u64]) -> usize {
     let mut count = 0;
     for (i, &x) in voxels.iter().enumerate() {
         if i == 0 || x != voxels[i - 1] {
@@ -62,6 +73,32 @@ fn find_table(voxels: &[u64], table: &mut [u64]) -> usize {
             count += 1;
         }
     }
+    count
+}
+
+// The values without those that equal the last one at their spot.
+fn gather_fresh(voxels: &[u64], table: &mut [u64]) -> usize {
+    let mut last_at = [voxels[0]; 64];
+    table[0] = voxels[0];
+    let mut count = 1;
+    for &x in &voxels[1..] {
+        let spot = find_spot(x);
+        if last_at[spot] != x {
+            table[count] = x;
+            count += 1;
+        }
+        last_at[spot] = x;
+    }
+    count
+}
+
+// The table of the values, in front of `table`.
+fn find_table(voxels: &[u64], table: &mut [u64]) -> usize {
+    let count = if voxels.len() < 64 {
+        gather(voxels, table)
+    } else {
+        gather_fresh(voxels, table)
+    };
     table[..count].sort_unstable();
     let mut kept = 0;
     for i in 0..count {
@@ -85,7 +122,7 @@ fn hash_table(table: &[u64], places: usize) -> usize {
         let x = (hash ^ v).wrapping_mul(0x9e3779b97f4a7c15);
         x ^ x >> 29
     });
-    (hash % places as u64) as usize
+    ((hash >> 32) * places as u64 >> 32) as usize
 }
 
 struct Scratch {
@@ -98,15 +135,24 @@ struct Scratch {
 }
 
 fn reserve(shape: &Shape) -> Scratch {
-    let blocks = shape.counts().iter().product();
+    let blocks: usize = shape.counts().iter().product();
     Scratch {
         voxels: vec![0; shape.voxels()],
         table: vec![0; shape.voxels()],
-        heads: vec![0; blocks],
+        heads: vec![0; 4 * blocks],
         next: vec![0; blocks],
         at: vec![0; blocks],
         lens: vec![0; blocks],
     }
+}
+
+// The heads of so many blocks of one voxel, read right behind each other.
+const AHEAD: usize = 32;
+
+fn sum_heads(raw: &[u8], from: usize, heads: &[u32]) -> u32 {
+    (from..(from + AHEAD).min(raw.len() / 8))
+        .map(|n| heads[hash_table(&[value(raw, n)], heads.len())])
+        .fold(0, u32::wrapping_add)
 }
 
 fn encode(raw: &[u8], shape: &Shape, s: &mut Scratch, out: &mut [u8]) -> usize {
@@ -116,21 +162,27 @@ fn encode(raw: &[u8], shape: &Shape, s: &mut Scratch, out: &mut [u8]) -> usize {
     s.heads.fill(0);
     let mut at = 8 * blocks;
     for k in 0..blocks {
-        let (first, _) = shape.place(k);
+        if k % AHEAD == 0 && s.voxels.len() == 1 {
+            black_box(sum_heads(raw, k, &s.heads));
+        }
+        let block = shape.place(k);
+        let (first, _) = block;
         let begin = (first[2] * shape.size[1] + first[1]) * shape.size[0] + first[0];
-        fill_voxels(raw, shape, k, value(raw, begin), &mut s.voxels);
+        fill_voxels(raw, shape, block, value(raw, begin), &mut s.voxels);
         let count = find_table(&s.voxels, &mut s.table);
-        fill_voxels(raw, shape, k, s.table[0], &mut s.voxels);
+        fill_voxels(raw, shape, block, s.table[0], &mut s.voxels);
         let table = &s.table[..count];
         let bits = find_bits(count);
         let end = at + 4 * (bits * s.voxels.len()).div_ceil(32);
         out[at..end].fill(0);
         if bits > 0 {
-            let mut place = 0;
+            let mut guesses = [0; 64];
             for (n, &x) in s.voxels.iter().enumerate() {
-                if table.get(place) != Some(&x) {
-                    place = table.binary_search(&x).unwrap();
+                let spot = find_spot(x);
+                if table.get(guesses[spot]) != Some(&x) {
+                    guesses[spot] = table.binary_search(&x).unwrap();
                 }
+                let place = guesses[spot];
                 let bit = n * bits;
                 let to = at + bit / 32 * 4;
                 let old = word(&out[to..], 0);
@@ -242,8 +294,8 @@ fn main() {
     while let Some(kind) = words.next() {
         let count: u64 = words.next().and_then(|word| word.parse().ok()).unwrap_or(1);
         let shape = match kind.as_str() {
-            "short" => Shape { size: [65536, 1, 1], block: [1; 3] },
-            "long" => Shape { size: [1048576, 1, 1], block: [1; 3] },
+            "short" | "short-labels" => Shape { size: [65536, 1, 1], block: [1; 3] },
+            "long" | "long-labels" => Shape { size: [1048576, 1, 1], block: [1; 3] },
             _ => Shape { size: [64; 3], block: [8; 3] },
         };
         let voxels: usize = shape.size.iter().product();

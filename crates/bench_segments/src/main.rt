@@ -1,6 +1,7 @@
 //! Segmentation chunks read and written, for measuring. The words are pairs of a kind and a count: `decode` or
 //! `encode` with `-labels` or `-noise` behind it, of a chunk of 64 x 64 x 64 wide values in blocks of 8 x 8 x 8; or
-//! `short` or `long`, to write a chunk of blocks of one voxel. Each pair's line has the sum of the bytes made.
+//! `short` or `long`, to write a chunk of blocks of one voxel, with some 40 labels where `-labels` is behind it and
+//! almost as many as voxels else. Each pair's line has the sum of the bytes made.
 #![tactic(auto)]
 
 ghost use Rattle.std.specs.Prelude.{◌≡◌, ◌*◌, ◌≤◌, ◌^◌, IfOk, length};
@@ -179,14 +180,25 @@ fn sum_decoded(alloc: Global, values: Values, count: u64) -> Result<u64, OutOfMe
     Ok(sum_bytes(&read).wrapping_add(sound))
 }
 
+// The same for blocks of one voxel.
+fn sum_short(alloc: Global, values: Values, count: u64) -> Result<u64, OutOfMemory> {
+    sum_encoded(alloc, &short_line(), 524288, 1048580, values, count)
+}
+
+fn sum_long(alloc: Global, values: Values, count: u64) -> Result<u64, OutOfMemory> {
+    sum_encoded(alloc, &long_line(), 8388608, 16777220, values, count)
+}
+
 fn sum_of(alloc: Global, kind: &str, count: u64) -> Result<u64, OutOfMemory> {
     match kind {
         "decode-labels" => sum_decoded(alloc, Values::Labels, count),
         "decode-noise" => sum_decoded(alloc, Values::Noise, count),
         "encode-labels" => sum_encoded(alloc, &cube(), 2097152, 4194308, Values::Labels, count),
         "encode-noise" => sum_encoded(alloc, &cube(), 2097152, 4194308, Values::Noise, count),
-        "short" => sum_encoded(alloc, &short_line(), 524288, 1048580, Values::Many, count),
-        _ => sum_encoded(alloc, &long_line(), 8388608, 16777220, Values::Many, count),
+        "short-labels" => sum_short(alloc, Values::Labels, count),
+        "short" => sum_short(alloc, Values::Many, count),
+        "long-labels" => sum_long(alloc, Values::Labels, count),
+        _ => sum_long(alloc, Values::Many, count),
     }
 }
 

@@ -109,12 +109,12 @@ in_word b n h =
 low_low : (x b c : ℕ) → x % 2 ^ (c + b) % 2 ^ b ≡ x % 2 ^ b
 low_low x b c = ap (λ q. q % 2 ^ b) (mod-pow-add x c b) ∙ mod-mul-add (x / 2 ^ b % 2 ^ c) (2 ^ b) (x % 2 ^ b) (mod_below x (2 ^ b) (pow_pos b))
 
--- the bits from a place on, in a word
-in_one : (m r b : ℕ) → r + b ≤ 32 → m % 2 ^ 32 / 2 ^ r % 2 ^ b ≡ m / 2 ^ r % 2 ^ b
-in_one m r b h =
-    let e : 32 ≡ (32 - r) + r = omega arith in
-    let f : 32 - r ≡ (32 - r - b) + b = omega arith in
-    ap (λ q. m % 2 ^ q / 2 ^ r % 2 ^ b) e ∙ ap (λ q. q % 2 ^ b) (field_of m (32 - r) r) ∙ ap (λ q. m / 2 ^ r % 2 ^ q % 2 ^ b) f ∙ low_low (m / 2 ^ r) b (32 - r - b)
+-- the bits from a place on, in the lowest w bits
+pub in_one : (m w r b : ℕ) → r + b ≤ w → m % 2 ^ w / 2 ^ r % 2 ^ b ≡ m / 2 ^ r % 2 ^ b
+in_one m w r b h =
+    let e : w ≡ (w - r) + r = omega arith in
+    let f : w - r ≡ (w - r - b) + b = omega arith in
+    ap (λ q. m % 2 ^ q / 2 ^ r % 2 ^ b) e ∙ ap (λ q. q % 2 ^ b) (field_of m (w - r) r) ∙ ap (λ q. m / 2 ^ r % 2 ^ q % 2 ^ b) f ∙ low_low (m / 2 ^ r) b (w - r - b)
 
 pub field_is : (bytes : List ℕ) (a b n : ℕ) → IsBytes bytes → IsTrue (is_allowed b) → field bytes a b n ≡ index_in (drop (4 * a) bytes) b n
 unfolding field index_in
@@ -127,4 +127,4 @@ field_is bytes a b n fits h =
     word_little xs q ∙ first_word (drop (4 * q) xs) (bytes_drop xs (4 * q) fx) ∙ ap (λ m. m % 2 ^ 32) (number_drop (4 * q) xs fx ∙ ap (λ p. number xs / p) (pow_bytes q)) in
     let split : 32 * q + r ≡ n * b = omega arith in
     let whole : number xs / 2 ^ (32 * q) / 2 ^ r ≡ number xs / 2 ^ (n * b) = shr-shr (number xs) (32 * q) r ∙ ap (λ p. number xs / 2 ^ p) split in
-    sym (ap (λ m. m / 2 ^ r % 2 ^ b) here ∙ in_one (number xs / 2 ^ (32 * q)) r b (in_word b n h) ∙ ap (λ m. m % 2 ^ b) whole)
+    sym (ap (λ m. m / 2 ^ r % 2 ^ b) here ∙ in_one (number xs / 2 ^ (32 * q)) 32 r b (in_word b n h) ∙ ap (λ m. m % 2 ^ b) whole)

@@ -1,5 +1,5 @@
 -- Sets of places that are filled.
-use Rattle.std.proofs.Common.{◌≡◌, ◌≢◌, ◌⊎◌, ℕ, List, refl, ap, ◌∙◌, sym, ⊎_elim}
+use Rattle.std.proofs.Common.{◌≡◌, ◌≢◌, ◌⊎◌, ℕ, List, ap, ◌∙◌, sym, ⊎_elim}
 use Rattle.vol_base.specs.Boxes.{value}
 use Rattle.segment_blocks.specs.Filled.{Filled}
 
@@ -27,7 +27,3 @@ filled_via P Q spot spot' want want' w old new f to from = record {
   placed = λ b q. let t = to b q in ap (value w new) t.2 ∙ f.placed t.0 t.1 ∙ t.3;
   kept = λ m out. f.kept m (λ a p e. let t = from a p in out t.0 t.1 (e ∙ sym t.2));
 }
-
--- nothing is filled yet
-pub filled_none : {A : Type 0} (P : A → Type 0) (spot : A → ℕ) (want : A → List ℕ) (w : ℕ) (old : List ℕ) → ((a : A) → P a → ⊥) → Filled P spot want w old old
-filled_none P spot want w old none = record { placed = λ a p. absurd (none a p); kept = λ m out. refl }

@@ -1,34 +1,25 @@
 -- The first fault of a list.
-use Rattle.std.proofs.Common.{◌≡◌, ℕ, zero, suc, ◌+◌, ◌<◌, ◌≤◌, List, [], ◌∷◌, ◌++◌, arith, refl, ap, ◌∙◌, sym, subst, Option, Some, None, IsTrue, Bool, true, false}
+use Rattle.std.proofs.Common.{◌≡◌, ℕ, zero, suc, ◌+◌, ◌<◌, ◌≤◌, List, [], ◌∷◌, arith, refl, ap, ◌∙◌, sym, subst, Option, Some, None, IsTrue, Bool, true, false}
 use Rattle.std.specs.Prelude.{map, flat_map, filter}
 use Rattle.std.specs.List.{range_with_len}
 use Rattle.std.proofs.Common.{inl, inr, cond}
 use Rattle.std.proofs.lemmas.Bool.{cases_eq}
 use Rattle.vol_base.specs.declared.faults.ChunkFault.{ChunkFault}
 use Rattle.vol_spec.specs.Cut.{first_some}
-
-first_append : (xs ys : List (Option ChunkFault)) → first_some xs ≡ None → first_some (xs ++ ys) ≡ first_some ys
-first_append [] ys h = refl
-first_append (None ∷ xs) ys h = first_append xs ys h
-first_append (Some f ∷ xs) ys h = absurd (cc)
-
-first_stops : (xs ys : List (Option ChunkFault)) (f : ChunkFault) → first_some xs ≡ Some f → first_some (xs ++ ys) ≡ Some f
-first_stops [] ys f h = absurd (cc)
-first_stops (None ∷ xs) ys f h = first_stops xs ys f h
-first_stops (Some g ∷ xs) ys f h = h
+use Rattle.vol_spec.proofs.Firsts.{first_some-append, first_some-front}
 
 -- places that have lists of their own: none has a fault, or the first that has
 pub none_of : (g : ℕ → List (Option ChunkFault)) (a n : ℕ) → ((i : ℕ) → a ≤ i → i < a + n → first_some (g i) ≡ None) → first_some (flat_map g (range_with_len a n)) ≡ None
 none_of g a zero none = refl
 none_of g a (suc n) none =
-    first_append (g a) (flat_map g (range_with_len (a + 1) n)) (none a (omega arith) (omega arith)) ∙ none_of g (a + 1) n (λ i l h. none i (omega arith) (omega arith))
+    first_some-append (g a) (flat_map g (range_with_len (a + 1) n)) (none a (omega arith) (omega arith)) ∙ none_of g (a + 1) n (λ i l h. none i (omega arith) (omega arith))
 
 pub first_of_places : (g : ℕ → List (Option ChunkFault)) (a n c : ℕ) (f : ChunkFault) → a ≤ c → c < a + n → ((i : ℕ) → a ≤ i → i < c → first_some (g i) ≡ None) → first_some (g c) ≡ Some f
     → first_some (flat_map g (range_with_len a n)) ≡ Some f
 first_of_places g a zero c f la lc before here = absurd (omega arith)
 first_of_places g a (suc n) c f la lc before here = elim (cases_eq a c) [
-  | inl same ↦ first_stops (g a) (flat_map g (range_with_len (a + 1) n)) f (ap (λ k. first_some (g k)) same ∙ here)
-  | inr other ↦ first_append (g a) (flat_map g (range_with_len (a + 1) n)) (before a (omega arith) (omega arith)) ∙ first_of_places g (a + 1) n c f (omega arith) (omega arith) (λ i l h. before i (omega arith) h) here
+  | inl same ↦ first_some-front (g a) (flat_map g (range_with_len (a + 1) n)) f (ap (λ k. first_some (g k)) same ∙ here)
+  | inr other ↦ first_some-append (g a) (flat_map g (range_with_len (a + 1) n)) (before a (omega arith) (omega arith)) ∙ first_of_places g (a + 1) n c f (omega arith) (omega arith) (λ i l h. before i (omega arith) h) here
 ]
 
 pub first_next : (o : Option ChunkFault) (rest : List (Option ChunkFault)) → o ≡ None → first_some (o ∷ rest) ≡ first_some rest

@@ -2,6 +2,7 @@ pub mod Again
 pub mod Appends
 pub mod Back
 pub mod Bits
+pub mod Bitwise
 pub mod Blocks
 pub mod Bodies
 pub mod Channels
@@ -11,9 +12,12 @@ pub mod Field
 pub mod Fills
 pub mod Firsts
 pub mod Gathered
+pub mod Homes
 pub mod Indexed
+pub mod Judged
 pub mod Limits
 pub mod Lines
+pub mod Numbered
 pub mod Offsets
 pub mod Owners
 pub mod Packing

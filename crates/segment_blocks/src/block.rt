@@ -1,5 +1,5 @@
 //! One block: rows into raw bytes.
-ghost use Rattle.std.specs.Prelude.{◌≡◌, ◌≢◌, ◌+◌, ◌*◌, ◌/◌, ◌<◌, ◌≤◌, ◌^◌, ℕ, length, IsTrue, OnOk, IfErr, if◌then◌else◌};
+ghost use Rattle.std.specs.Prelude.{◌≡◌, ◌+◌, ◌*◌, ◌/◌, ◌<◌, ◌≤◌, ℕ, length, IsTrue, OnOk, IfErr};
 ghost use Rattle.vol_spec.specs.SegFaults.{is_allowed};
 ghost use Rattle.vol_base.specs.Boxes.{value};
 ghost use Rattle.vol_spec.specs.SegSizes.{width_of};

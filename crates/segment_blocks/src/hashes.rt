@@ -1,6 +1,6 @@
 //! A number that equal tables share.
-ghost use Rattle.std.specs.Prelude.{◌≡◌, ◌+◌, ◌*◌, ◌%◌, ◌^◌, ◌<◌, ◌≤◌, ◌↔◌, ℕ, length, take, drop, IsTrue, MatchOption, slice_index};
-ghost use Rattle.segment_blocks.specs.Hashes.{mixed, hash_of};
+ghost use Rattle.std.specs.Prelude.{[], ◌∷◌, ◌≡◌, ◌+◌, ◌*◌, ◌^◌, ◌<◌, ◌≤◌, ◌↔◌, ℕ, length, take, drop, IsTrue, MatchOption};
+ghost use Rattle.segment_blocks.specs.Hashes.{mixed, hash_of, spread};
 ghost use Rattle.segment_blocks.specs.Stored.{AreStored, hash_at};
 ghost use Rattle.segment_blocks.specs.Placed.{IsIndex};
 ghost use Rattle.vol_spec.specs.SegShapes.{sizes_of};
@@ -17,10 +17,32 @@ fn mix(h: u64, v: u64) -> u64
     x ^ (x >> 29)
 }
 
+// The place of a hash among so many.
+fn find_home(h: u64, places: usize) -> usize
+    requires some { 0 < places }
+    requires few { places < 2 ^ 32 }
+    ensures value { result ≡ spread h places }
+    ensures below { result < places }
+{
+    (((h >> 32) * places as u64) >> 32) as usize
+}
+
+/// The hash of a table of one value, below `places`.
+#[tactic(auto, unfolding(crate::specs::Hashes::hash_of))]
+pub(crate) fn hash_value(value: u64, places: usize) -> usize
+    requires some { 0 < places }
+    requires few { places < 2 ^ 32 }
+    ensures value { result ≡ hash_of (value ∷ []) places }
+    ensures below { result < places }
+{
+    find_home(mix(0, value), places)
+}
+
 /// The hash of a table, below `places`.
 #[tactic(auto, unfolding(crate::specs::Hashes::hash_of))]
 pub(crate) fn hash_table(values: &[u64], places: usize) -> usize
-    requires { 0 < places }
+    requires some { 0 < places }
+    requires few { places < 2 ^ 32 }
     ensures value { result ≡ hash_of values.now places }
     ensures below { result < places }
 {
@@ -28,7 +50,7 @@ pub(crate) fn hash_table(values: &[u64], places: usize) -> usize
     for v in values {
         h = mix(h, *v);
     }
-    (h % places as u64) as usize
+    find_home(h, places)
 }
 
 /// Whether the bytes of two tables are equal, of m and n values of `width` bytes.

@@ -1,10 +1,10 @@
 //! The header of a block.
-ghost use Rattle.std.specs.Prelude.{◌≡◌, ◌≢◌, ◌+◌, ◌-◌, ◌*◌, ◌/◌, ◌%◌, ◌<◌, ◌≤◌, ◌^◌, ℕ, [], ◌∷◌, length, drop, IsTrue, Some, None, not, nat_lt, ◌==◌, ◌&&◌};
+ghost use Rattle.std.specs.Prelude.{◌≡◌, ◌+◌, ◌*◌, ◌/◌, ◌%◌, ◌<◌, ◌≤◌, ◌^◌, [], ◌∷◌, length, drop, not, nat_lt, ◌==◌, ◌&&◌};
 ghost use Rattle.vol_spec.specs.SegChunks.{word, words, start, bits, table_at, values_at};
 ghost use Rattle.vol_spec.specs.SegFaults.{is_allowed, when};
 ghost use Rattle.vol_spec.specs.Cut.{first_some};
 ghost use Rattle.std.specs.Result.{result_err};
-ghost use Rattle.vol_spec.specs.SegBlocks.{block_count, block_voxels, packed_words};
+ghost use Rattle.vol_spec.specs.SegBlocks.{packed_words};
 
 use crate::word::read_word;
 use vol_base::ChunkFault;
@@ -44,6 +44,7 @@ pub(crate) struct Header {
     pub values: usize,
 }
 
+/// Reads the header of block k of channel c, two words behind the channel's start.
 pub(crate) fn read_header(bytes: &[u8], c: usize, k: usize) -> Header
     requires channel { 4 * c + 4 ≤ length bytes.now }
     requires block { 4 * (start bytes.now c + 2 * k + 2) ≤ length bytes.now }

@@ -2,6 +2,7 @@
 //! compressed_segmentation encoding).
 #![tactic(auto)]
 
+mod ahead;
 mod append;
 mod block;
 mod hashes;

@@ -1,5 +1,5 @@
 //! Packed indices.
-ghost use Rattle.std.specs.Prelude.{◌≡◌, ◌+◌, ◌-◌, ◌*◌, ◌/◌, ◌%◌, ◌<◌, ◌≤◌, ◌^◌, ℕ, length, ◌++◌, slice_index, IsTrue, map, take};
+ghost use Rattle.std.specs.Prelude.{◌≡◌, ◌+◌, ◌*◌, ◌/◌, ◌%◌, ◌<◌, ◌≤◌, ◌^◌, ℕ, length, ◌++◌, slice_index, IsTrue, map, take};
 ghost use Rattle.vol_spec.specs.Raw.{number};
 ghost use Rattle.vol_spec.specs.SegFaults.{is_allowed};
 ghost use Rattle.vol_spec.specs.SegBlocks.{packed_words};
@@ -9,7 +9,7 @@ ghost use Rattle.std.specs.List.{Contains};
 ghost use Rattle.vol_spec.specs.Cut.{bytes_of};
 
 use crate::header::count_words;
-use crate::table::find_place;
+use crate::table::{find_place, find_spot};
 use byteorder::{ByteOrder, LittleEndian};
 
 /// The least allowed number of bits that can tell so many entries apart.
@@ -67,10 +67,12 @@ pub(crate) fn pack_places(voxels: &[u64], table: &[u64], bits: u32, values: &mut
     requires clear { number values.old ≡ 0 }
     ensures { number values.new ≡ packed bits (map (place_in table.now) voxels.now) }
 {
-    let mut place = 0usize;
+    let mut guesses = [0usize; 64];
     for n in 0..voxels.len() {
-        place = find_place(table, voxels[n], place);
+        let spot = find_spot(voxels[n]);
+        let place = find_place(table, voxels[n], guesses[spot]);
         put_index(values, bits, n, place as u32);
+        guesses[spot] = place;
     }
 }
 

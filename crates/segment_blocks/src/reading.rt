@@ -1,5 +1,5 @@
 //! A chunk's values out of its bytes.
-ghost use Rattle.std.specs.Prelude.{◌≡◌, ◌≢◌, ◌+◌, ◌-◌, ◌*◌, ◌/◌, ◌%◌, ◌<◌, ◌≤◌, ◌^◌, ℕ, [], ◌∷◌, length, drop, IsTrue, OnOk, Some, None, not, ◌||◌, ◌==◌, nat_lt};
+ghost use Rattle.std.specs.Prelude.{◌≡◌, ◌+◌, ◌*◌, ◌/◌, ◌%◌, ◌<◌, ◌≤◌, ℕ, length, OnOk, not, ◌||◌, ◌==◌, nat_lt};
 ghost use Rattle.vol_spec.specs.SegShapes.{sizes_of};
 ghost use Rattle.vol_spec.specs.SegChunks.{word, words, start, seg_at};
 ghost use Rattle.std.specs.Result.{result_err};
@@ -8,7 +8,7 @@ ghost use Rattle.vol_spec.specs.SegFaults.{block_faults, channel_faults, seg_fau
 ghost use Rattle.segment_blocks.specs.Filled.{Filled};
 ghost use Rattle.vol_spec.specs.SegBlocks.{InChunk, block_count, num, raw_len, width};
 ghost use Rattle.vol_spec.specs.Raw.{digit};
-ghost use Rattle.segment_blocks.specs.Whole.{Where, OfBlock, OfBlocks, OfChannels, place_of, entry_of};
+ghost use Rattle.segment_blocks.specs.Whole.{OfBlock, OfBlocks, place_of, entry_of};
 
 use crate::block::fill_block;
 use crate::header::{find_part, judge_header, read_header};

@@ -1,5 +1,5 @@
 //! One row of a block.
-ghost use Rattle.std.specs.Prelude.{◌≡◌, ◌≢◌, ◌+◌, ◌*◌, ◌/◌, ◌<◌, ◌≤◌, ◌^◌, ℕ, length, IsTrue, OnOk, IfErr, if◌then◌else◌};
+ghost use Rattle.std.specs.Prelude.{◌≡◌, ◌+◌, ◌*◌, ◌/◌, ◌<◌, ◌≤◌, ◌^◌, ℕ, length, IsTrue, OnOk, IfErr, if◌then◌else◌};
 ghost use Rattle.vol_spec.specs.SegChunks.{word};
 ghost use Rattle.vol_spec.specs.SegFaults.{is_allowed};
 ghost use Rattle.vol_base.specs.Boxes.{value};
@@ -22,8 +22,8 @@ fn read_index(values: &[u8], bits: u32, n: usize) -> u32
     (word >> (bit % 32) as u32) & (u32::MAX >> (32 - bits))
 }
 
-// How many values the bytes hold.
-fn count_values(bytes: &[u8], wide: bool) -> usize
+/// How many values the bytes hold.
+pub(crate) fn count_values(bytes: &[u8], wide: bool) -> usize
     ensures { (i : ℕ) → (i < result → Has (width_of wide) bytes.now i) × (result ≤ i → length bytes.now < width_of wide * i + width_of wide) }
 {
     if wide {

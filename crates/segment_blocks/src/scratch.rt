@@ -1,6 +1,5 @@
 //! Memory for writing, taken beforehand.
 ghost use Rattle.std.specs.Prelude.{◌≡◌, ◌≤◌, length, IfOk};
-ghost use Rattle.vol_spec.specs.SegSizes.{SegSizes};
 ghost use Rattle.segment_blocks.specs.Rooms.{IsRoom};
 
 use crate::locate::{count_blocks, count_voxels};
@@ -29,11 +28,12 @@ fn reserve_room(alloc: Global, shape: &SegShape) -> Result<Room, AllocError>
     Ok(Room {
         voxels: vec![in alloc; 0u64; voxels]?,
         table: vec![in alloc; 0u64; voxels]?,
-        heads: vec![in alloc; 0u32; blocks]?,
+        heads: vec![in alloc; 0u32; 4 * blocks]?,
         next: vec![in alloc; 0u32; blocks]?,
         at: vec![in alloc; 0u32; blocks]?,
         lens: vec![in alloc; 0u32; blocks]?,
         headers: vec![in alloc; 0u32; 2 * blocks]?,
+        near: 0,
     })
 }
 

@@ -1,6 +1,7 @@
 //! Chunks of known words: sound ones and damaged ones.
-ghost use Rattle.std.specs.Prelude.{◌≡◌, ◌≤◌, ◌^◌, IfOk, IfSome, length};
+ghost use Rattle.std.specs.Prelude.{◌≡◌, ◌≤◌, ◌^◌, IfOk, IfSome, None, length};
 ghost use Rattle.vol_spec.specs.SegBlocks.{raw_len};
+ghost use Rattle.vol_spec.specs.SegFaults.{seg_fault};
 ghost use Rattle.vol_spec.specs.SegShapes.{sizes_of};
 ghost use Rattle.vol_spec.specs.SegSizes.{padded_in};
 
@@ -8,7 +9,7 @@ mod plain;
 
 use crate::{Scratch, SegShape, decode, encode};
 use byteorder::{ByteOrder, LittleEndian};
-use plain::{plain_fault, plain_value};
+use plain::{count_values, plain_fault, plain_value};
 use std::alloc::{AllocError, Global};
 use std::process::Abort;
 use std::test::Fail;
@@ -377,16 +378,30 @@ fn tells_the_first_fault(rt: HostRuntime) -> Result<(), Fail> {
     Ok(())
 }
 
+// Compares the values that were read of a sound chunk with those that are read of it plainly.
+fn compare_values(
+    rt: &impl Abort,
+    bytes: &[u8],
+    shape: &SegShape,
+    values: &[u64],
+) -> Result<(), Fail>
+    requires { seg_fault bytes.now (sizes_of shape.now) ≡ None }
+{
+    let count = count_values(shape);
+    assert_eq!(rt; values.len() as u64, count);
+    for n in 0..count {
+        let wanted = plain_value(bytes, shape, n);
+        assert_eq!(rt; values.get(n as usize), Some(&wanted));
+    }
+    Ok(())
+}
+
 // Compares what is read of a chunk with what is read of it plainly.
 fn compare(rt: &impl Abort, alloc: Global, bytes: &[u8], shape: &SegShape) -> Result<(), Fail> {
-    match decoded(alloc, bytes, shape)? {
-        Ok(values) => {
-            assert_eq!(rt; plain_fault(bytes, shape), None);
-            for (n, value) in values.iter().enumerate() {
-                assert_eq!(rt; plain_value(bytes, shape, n as u64), *value);
-            }
-        }
-        Err(fault) => assert_eq!(rt; plain_fault(bytes, shape), Some(fault)),
+    let read = decoded(alloc, bytes, shape)?;
+    match plain_fault(bytes, shape) {
+        None => compare_values(rt, bytes, shape, &read.ok().ok_or("fault")?)?,
+        Some(wanted) => assert_eq!(rt; read.err(), Some(wanted)),
     }
     Ok(())
 }

@@ -1,5 +1,5 @@
 //! The values of a block.
-ghost use Rattle.std.specs.Prelude.{◌≡◌, ◌+◌, ◌-◌, ◌*◌, ◌/◌, ◌%◌, ◌<◌, ◌≤◌, ℕ, ◌^◌, length, slice_index, nat_lt, map, take, IsTrue, if◌then◌else◌};
+ghost use Rattle.std.specs.Prelude.{◌≡◌, ◌+◌, ◌*◌, ◌/◌, ◌%◌, ◌<◌, ◌≤◌, ℕ, ◌^◌, length, slice_index, nat_lt, map, take, IsTrue, if◌then◌else◌};
 ghost use Rattle.vol_spec.specs.Raw.{digit};
 ghost use Rattle.vol_spec.specs.SegBlocks.{block_count, block_voxels, raw_len};
 ghost use Rattle.vol_spec.specs.SegShapes.{sizes_of};

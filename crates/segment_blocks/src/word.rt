@@ -1,5 +1,5 @@
 //! Words and values in bytes.
-ghost use Rattle.std.specs.Prelude.{◌≡◌, ◌≢◌, ◌+◌, ◌*◌, ◌<◌, ◌≤◌, ℕ, length, if◌then◌else◌};
+ghost use Rattle.std.specs.Prelude.{◌≡◌, ◌≢◌, ◌+◌, ◌*◌, ◌≤◌, ℕ, length, if◌then◌else◌};
 ghost use Rattle.vol_spec.specs.SegChunks.{word};
 ghost use Rattle.vol_base.specs.Boxes.{value};
 ghost use Rattle.vol_spec.specs.Raw.{digit};
@@ -7,6 +7,7 @@ ghost use Rattle.vol_spec.specs.SegSizes.{width_of};
 
 use byteorder::{ByteOrder, LittleEndian};
 
+/// Reads the word of number i, four bytes with the lowest first.
 pub(crate) fn read_word(bytes: &[u8], i: usize) -> u32
     requires { 4 * i + 4 ≤ length bytes.now }
     ensures { result ≡ word bytes.now i }

@@ -1,5 +1,5 @@
 //! A chunk's bytes out of its values.
-ghost use Rattle.std.specs.Prelude.{◌≡◌, ◌+◌, ◌-◌, ◌*◌, ◌/◌, ◌%◌, ◌<◌, ◌≤◌, ◌^◌, ◌++◌, ℕ, length, slice_index, slice_set, take, drop, flat_map, None};
+ghost use Rattle.std.specs.Prelude.{◌≡◌, ◌+◌, ◌*◌, ◌/◌, ◌<◌, ◌≤◌, ◌^◌, ◌++◌, ℕ, length, slice_index, slice_set, take, drop, flat_map, None};
 ghost use Rattle.std.specs.List.{range_with_len};
 ghost use Rattle.vol_spec.specs.Cut.{bytes_of};
 ghost use Rattle.vol_spec.specs.Raw.{digit};
@@ -15,6 +15,7 @@ ghost use Rattle.segment_blocks.specs.Rooms.{IsRoom, SameRoom, Serves};
 ghost use Rattle.segment_blocks.specs.Shape.{padded};
 ghost use Rattle.segment_blocks.specs.Stored.{Candidate, HasTables, IsBegun};
 
+use crate::ahead::read_ahead;
 use crate::append::{put_values, put_words};
 use crate::hashes::{Known, add_owner, find_owner, hash_table};
 use crate::locate::{count_blocks, find_block};
@@ -180,6 +181,7 @@ fn encode_blocks(
     clear_heads(&mut room.heads);
     let mut at = 8 * blocks;
     for k in 0..blocks {
+        read_ahead(raw, shape, c, k, &room.heads, &mut room.near);
         at = encode_block(raw, shape, c, k, room, out, at);
     }
     at

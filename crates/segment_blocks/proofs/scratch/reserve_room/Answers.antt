@@ -3,6 +3,11 @@ use Rattle.vol_spec.specs.SegShapes.{sizes_of}
 use Rattle.segment_blocks.proofs.Shapes.{facts, limits, some_count}
 use Rattle.segment_blocks.proofs.scratch.reserve_room.Goals as goal
 
+pub overflow_mul-blocks : goal.overflow_mul-blocks
+overflow_mul-blocks c =
+    let f = facts (sizes_of c.args.shape.now) (limits c.args.shape.now) in
+    omega (arith, c.count_blocks-blocks.ensures, f.blocks)
+
 pub returns : goal.returns
 returns c =
     let s = sizes_of c.args.shape.now in
