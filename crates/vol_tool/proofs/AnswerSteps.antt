@@ -8,7 +8,7 @@ use Rattle.vol_spec.specs.Grid.{Inside}
 use Rattle.vol_spec.specs.Raw.{raw_len}
 use Rattle.vol_spec.specs.declared.scale.Scale.{Scale}
 use Rattle.vol_tool.specs.Answers.{HasCut}
-use Rattle.vol_tool.specs.Reading.{ReadWhole}
+use Rattle.cutout.specs.Reading.{ReadWhole}
 
 -- bytes that hold the value of each voxel are the cutout
 pub has_cut : (m : Objects) (dataset : List ℕ) (s : Scale) (part : Box3) (out : List ℕ) → ReadWhole m dataset s part out → Inside s part

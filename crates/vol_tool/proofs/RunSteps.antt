@@ -13,7 +13,7 @@ use Rattle.write_plan.specs.WriteLists.{BoxWrite}
 use Rattle.command_line.specs.declared.commands.Command.{Command}
 use Rattle.command_line.specs.declared.commands.Command.TheVariants.{Cutout, Write}
 use Rattle.vol_tool.specs.Answers.{stored_scale}
-use Rattle.vol_tool.specs.Effects.{Gains}
+use Rattle.tool_lines.specs.Effects.{Gains}
 use Rattle.vol_tool.specs.Statuses.{Outlets}
 use Rattle.vol_tool.specs.Storing.{count_line, HasStored, WriteShows}
 use Rattle.vol_tool.specs.declared.status.Status.{Status}

@@ -6,7 +6,7 @@ use Rattle.vol_base.specs.Outside.{Objects}
 use Rattle.vol_spec.specs.Cut.{first_fault}
 use Rattle.vol_spec.specs.Grid.{whole}
 use Rattle.vol_tool.specs.Answers.{Cuts, CutsScale, stored_scale, Writes}
-use Rattle.vol_tool.specs.Lines.{damaged_line, large_line, memory_line, outside_line}
+use Rattle.tool_lines.specs.Lines.{damaged_line, large_line, memory_line, outside_line}
 use Rattle.vol_tool.specs.Refusals.{line_of, status_of}
 use Rattle.vol_tool.specs.Statuses.{CutoutShows, Leaves, MeetsFault, Outlets, RefusesBox, Tells}
 use Rattle.vol_tool.specs.declared.refusal.Refusal.{Refusal}
@@ -60,13 +60,13 @@ shows refusal status m dataset key part o cuts (inr told) = subst (λ s. CutoutS
 
 -- and leaves what the status says
 leaves_line : (refusal : Refusal) (dataset : List ℕ) (o : Outlets) → Writes (Err refusal) o.out_old o.out_new → Tells o (line_of dataset refusal) → Leaves (status_of refusal) o
-leaves_line (NoScale why) dataset o kept told = kept
-leaves_line (Outside part whole) dataset o kept told = kept
-leaves_line (TooLarge bytes) dataset o kept told = kept
-leaves_line (Damaged cell fault) dataset o kept told = kept
-leaves_line NotEmpty dataset o kept told = kept
-leaves_line (Stream fault) dataset o kept told = kept
-leaves_line (TooManyCells cells) dataset o kept told = kept
+leaves_line (NoScale why) dataset o kept told = (kept, (dataset, NoScale why, refl, told))
+leaves_line (Outside part whole) dataset o kept told = (kept, (dataset, Outside part whole, refl, told))
+leaves_line (TooLarge bytes) dataset o kept told = (kept, (dataset, TooLarge bytes, refl, told))
+leaves_line (Damaged cell fault) dataset o kept told = (kept, (dataset, Damaged cell fault, refl, told))
+leaves_line NotEmpty dataset o kept told = (kept, (dataset, NotEmpty, refl, told))
+leaves_line (Stream fault) dataset o kept told = (kept, (dataset, Stream fault, refl, told))
+leaves_line (TooManyCells cells) dataset o kept told = (kept, (dataset, TooManyCells cells, refl, told))
 leaves_line FeedFault dataset o kept told = (kept, told)
 leaves_line StoreFault dataset o kept told = (kept, told)
 leaves_line OutFault dataset o kept told = told

@@ -11,7 +11,7 @@ use Rattle.shard_writer.specs.declared.written.Written.{Written}
 use Rattle.write_plan.specs.Stream.{writes_of}
 use Rattle.write_plan.specs.WriteLists.{BoxWrite}
 use Rattle.vol_tool.specs.Answers.{info_name, scale_from, stored_scale}
-use Rattle.vol_tool.specs.Storing.{Counts, FrontPut, HasStored, JudgesFolder, PutsWrites, ReadsStream, WritesAll, WritesScale}
+use Rattle.vol_tool.specs.Storing.{Counts, FrontPut, HasStored, PutsWrites, ReadsStream, WritesAll, WritesScale}
 use Rattle.vol_tool.specs.declared.refusal.NoScale.{NoScale as NoScaleType}
 use Rattle.vol_tool.specs.declared.refusal.Refusal.{Refusal}
 use Rattle.vol_tool.specs.declared.refusal.Refusal.TheVariants.{NoScale, Outside, TooLarge, Damaged, NotEmpty, Stream, TooManyCells, StoreFault, FeedFault, OutFault, NoMemory}
@@ -38,21 +38,6 @@ info_apart dataset s = and_false _ _ (ap (λ c. c == 47) (behind dataset (codes 
 scale_kept : (m : Objects) (dataset key : List ℕ) (s : Scale) (chunks : List (List ℕ × List ℕ)) → stored_scale (put_in m (object_list dataset s chunks)) dataset key ≡ stored_scale m dataset key
 unfolding stored_scale
 scale_kept m dataset key s chunks = ap (λ o. scale_from o key) (stored_others m dataset s chunks (info_name dataset) (info_apart dataset s))
-
--- a folder that isn't empty, or that can't be judged
-pub folder_refused : (refusal : Refusal) (m : Objects) (now : Option Objects) (bytes : List ℕ) (left : Option (List ℕ)) (dataset key : List ℕ) (s : Scale) → now ≡ Some m → left ≡ Some bytes
-    → JudgesFolder (Err refusal) (any_under m (folder_of dataset s)) → WritesScale (Err refusal) m now bytes left dataset key s
-folder_refused NotEmpty m now bytes left dataset key s same unread judged = (judged, unread)
-folder_refused StoreFault m now bytes left dataset key s same unread judged = inl same
-folder_refused (NoScale why) m now bytes left dataset key s same unread judged = absurd judged
-folder_refused (Outside part whole) m now bytes left dataset key s same unread judged = absurd judged
-folder_refused (TooLarge n) m now bytes left dataset key s same unread judged = absurd judged
-folder_refused (Damaged cell fault) m now bytes left dataset key s same unread judged = absurd judged
-folder_refused (Stream fault) m now bytes left dataset key s same unread judged = absurd judged
-folder_refused (TooManyCells cells) m now bytes left dataset key s same unread judged = absurd judged
-folder_refused FeedFault m now bytes left dataset key s same unread judged = absurd judged
-folder_refused OutFault m now bytes left dataset key s same unread judged = absurd judged
-folder_refused NoMemory m now bytes left dataset key s same unread judged = absurd judged
 
 -- a stream that isn't one of writes, or that can't be read
 pub stream_refused : (refusal : Refusal) (m : Objects) (now : Option Objects) (bytes : List ℕ) (left : Option (List ℕ)) (dataset key : List ℕ) (s : Scale) → now ≡ Some m → any_under m (folder_of dataset s) ≡ false

@@ -1,6 +1,6 @@
 -- What a write shows, by how it ended.
 use Rattle.std.proofs.Common.{◌≡◌, ◌≢◌, ◌⊎◌, ◌∙◌, ℕ, ◌<◌, ◌≤◌, ◌^◌, List, length, Option, Some, None, IfSome, Result, Ok, Err, refl, sym, subst, ap, inl, inr, arith}
-use Rattle.std.specs.Prelude.{false, IsOkAnd}
+use Rattle.std.specs.Prelude.{IsOkAnd}
 use Rattle.std.proofs.lemmas.List.{take_all}
 use Rattle.vol_base.specs.Outside.{Draft, Objects}
 use Rattle.vol_spec.specs.StoredCells.{chunks_of, met_cells, object_list, put_in}
@@ -12,11 +12,11 @@ use Rattle.write_plan.specs.Stream.{writes_of}
 use Rattle.write_plan.specs.WriteLists.{BoxWrite}
 use Rattle.write_plan.specs.declared.fault.PlanFault.{PlanFault}
 use Rattle.vol_tool.specs.Answers.{stored_scale, Writes}
-use Rattle.vol_tool.specs.Effects.{Gains, GainsFront}
-use Rattle.vol_tool.specs.Lines.{cells_line, info_line, memory_line, stream_line, written_line}
-use Rattle.vol_tool.specs.Refusals.{line_of, status_of}
-use Rattle.vol_tool.specs.Statuses.{info_text, Outlets, Tells}
-use Rattle.vol_tool.specs.Storing.{count_line, Counts, FrontPut, HasStored, KeepsStore, Prints, puts, RefusesWrite, WritesAll, WriteShows, WritesScale}
+use Rattle.tool_lines.specs.Effects.{Gains, GainsFront}
+use Rattle.tool_lines.specs.Lines.{cells_line, info_line, memory_line, stream_line, written_line}
+use Rattle.vol_tool.specs.Refusals.{info_text, line_of, status_of}
+use Rattle.vol_tool.specs.Statuses.{Outlets, Tells}
+use Rattle.vol_tool.specs.Storing.{count_line, Counts, FrontPut, HasStored, KeepsStore, Prints, RefusesWrite, WritesAll, WriteShows, WritesScale}
 use Rattle.vol_tool.specs.declared.refusal.Refusal.{Refusal}
 use Rattle.vol_tool.specs.declared.refusal.Refusal.TheVariants.{NoScale, Outside, TooLarge, Damaged, NotEmpty, Stream, TooManyCells, StoreFault, FeedFault, OutFault, NoMemory}
 use Rattle.vol_tool.specs.declared.status.Status.{Status}
@@ -151,27 +151,6 @@ out_printed (Stream fault) old new line prints = absurd prints
 out_printed (TooManyCells cells) old new line prints = absurd prints
 out_printed StoreFault old new line prints = absurd prints
 out_printed FeedFault old new line prints = absurd prints
-
--- the store, where nothing may be put
-same_store : (refusal : Refusal) (old now : Option Objects) (before after : Option Draft) → puts (status_of refusal) ≡ false → KeepsStore refusal old now before after → (now ≡ old) × (after ≡ before)
-same_store (NoScale why) old now before after none kept = kept
-same_store (Outside part whole) old now before after none kept = kept
-same_store (TooLarge n) old now before after none kept = kept
-same_store (Damaged cell fault) old now before after none kept = cc none
-same_store NotEmpty old now before after none kept = kept
-same_store (Stream fault) old now before after none kept = kept
-same_store (TooManyCells cells) old now before after none kept = kept
-same_store FeedFault old now before after none kept = kept
-same_store OutFault old now before after none kept = cc none
-same_store StoreFault old now before after none kept = cc none
-same_store NoMemory old now before after none kept = cc none
-
-pub store_kept : (refusal : Refusal) (status : Status) (old now : Option Objects) (before after : Option Draft) (dataset : List ℕ) (o : Outlets) → Told refusal status dataset o → puts status ≡ false
-    → KeepsStore refusal old now before after → (now ≡ old) × (after ≡ before)
-store_kept refusal status old now before after dataset o (inl told) none kept = same_store refusal old now before after (ap puts (sym told.0) ∙ none) kept
-store_kept refusal status old now before after dataset o (inr told) none kept =
-    let e : puts MemoryStatus ≡ false = ap puts (sym told.0) ∙ none in
-    cc e
 
 -- the same where objects and feed may be untold
 pub refused_told : (refusal : Refusal) (status : Status) (told now : Option Objects) (before after : Option Draft) (fed left : Option (List ℕ)) (dataset key : List ℕ) (o : Outlets)

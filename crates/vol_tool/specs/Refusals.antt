@@ -1,7 +1,9 @@
 -- The status and the line of a refusal.
-use Rattle.std.specs.Prelude.{List, ℕ}
-use Rattle.vol_tool.specs.Lines.{cells_line, damaged_line, feed_line, folder_line, info_line, large_line, memory_line, outside_line, output_line, store_line, stream_line}
-use Rattle.vol_tool.specs.Statuses.{info_text}
+use Rattle.std.specs.Prelude.{List, ℕ, codes}
+use Rattle.info_doc.specs.Texts.{fault_text as info_fault_text}
+use Rattle.tool_lines.specs.Lines.{cells_line, damaged_line, feed_line, folder_line, info_line, large_line, memory_line, outside_line, output_line, store_line, stream_line}
+use Rattle.vol_tool.specs.declared.refusal.NoScale.{NoScale as Why}
+use Rattle.vol_tool.specs.declared.refusal.NoScale.TheVariants.{Absent, Refused, NotBuilt}
 use Rattle.vol_tool.specs.declared.refusal.Refusal.{Refusal}
 use Rattle.vol_tool.specs.declared.refusal.Refusal.TheVariants.{NoScale, Outside, TooLarge, Damaged, NotEmpty, Stream, TooManyCells, StoreFault, FeedFault, OutFault, NoMemory}
 use Rattle.vol_tool.specs.declared.status.Status.{Status}
@@ -19,6 +21,12 @@ status_of StoreFault = StoreStatus
 status_of FeedFault = FeedStatus
 status_of OutFault = OutStatus
 status_of NoMemory = MemoryStatus
+
+-- why a data set has no scale of a key that can be read
+abbrev pub info_text : Why → List ℕ
+info_text Absent = codes "absent"
+info_text (Refused fault) = info_fault_text fault
+info_text NotBuilt = codes "not built"
 
 abbrev pub line_of : List ℕ → Refusal → List ℕ
 line_of dataset (NoScale why) = info_line dataset (info_text why)

@@ -1,17 +1,16 @@
 -- The statuses of commands, and what stands after each of them.
-use Rattle.std.specs.Prelude.{◌≡◌, ◌⊎◌, ℕ, ◌-◌, ◌^◌, ◌<◌, min, List, Option, IsOkAnd, IsErrAnd, IsSomeAnd, codes}
+use Rattle.std.specs.Prelude.{◌≡◌, ◌⊎◌, ℕ, ◌-◌, ◌^◌, ◌<◌, min, List, Option, IsOkAnd, IsErrAnd, IsSomeAnd}
 use Rattle.vol_base.specs.declared.boxes.Box3.{Box3}
 use Rattle.vol_base.specs.Outside.{Objects}
-use Rattle.vol_tool.specs.declared.refusal.NoScale.{NoScale}
-use Rattle.vol_tool.specs.declared.refusal.NoScale.TheVariants.{Absent, Refused, NotBuilt}
-use Rattle.info_doc.specs.Texts.{fault_text as info_fault_text}
 use Rattle.vol_spec.specs.Cut.{cut, first_fault}
 use Rattle.vol_spec.specs.Grid.{Inside, whole}
 use Rattle.vol_spec.specs.Raw.{raw_len}
 use Rattle.vol_spec.specs.declared.scale.Scale.{Scale}
 use Rattle.vol_tool.specs.Answers.{IsRequest, IsSound, stored_scale}
-use Rattle.vol_tool.specs.Effects.{Gains, GainsFront, Says}
-use Rattle.vol_tool.specs.Lines.{damaged_line, feed_line, info_line, large_line, memory_line, outside_line, output_line, store_line, usage_line}
+use Rattle.tool_lines.specs.Effects.{Gains, GainsFront, Says}
+use Rattle.tool_lines.specs.Lines.{damaged_line, feed_line, info_line, large_line, memory_line, outside_line, output_line, store_line, usage_line}
+use Rattle.vol_tool.specs.Refusals.{info_text, line_of, status_of}
+use Rattle.vol_tool.specs.declared.refusal.Refusal.{Refusal}
 use Rattle.vol_tool.specs.declared.status.Status.{Status}
 use Rattle.vol_tool.specs.declared.status.Status.TheVariants.{Ok, Usage, InfoRefused, RequestRefused, Damaged, StoreFault, FeedFault, OutFault, NoMemory, DoorFault}
 
@@ -27,12 +26,6 @@ number_of FeedFault = 6
 number_of OutFault = 7
 number_of NoMemory = 8
 number_of DoorFault = 9
-
--- why a data set has no scale of a key that can be cut
-abbrev pub info_text : NoScale → List ℕ
-info_text Absent = codes "absent"
-info_text (Refused fault) = info_fault_text fault
-info_text NotBuilt = codes "not built"
 
 -- the outlets of a call: what was written before and after it, and the error outlet's counts of faults
 pub record Outlets : Type 0 where
@@ -70,14 +63,18 @@ CutoutShows Usage m dataset key part o = ⊥
 CutoutShows FeedFault m dataset key part o = ⊥
 CutoutShows DoorFault m dataset key part o = ⊥
 
--- the outlets, also where no object is told: the output gains something only by a cutout that succeeds or whose outlet fails, and the
--- line of a status that has one line alone is told; nothing is told at success
+-- the line of some refusal that has the status
+abbrev pub TellsRefusal : Outlets → Status → Type 0
+TellsRefusal o status = (dataset : List ℕ) × (refusal : Refusal) × (status_of refusal ≡ status) × Tells o (line_of dataset refusal)
+
+-- the outlets, also where no object is told: the output gains something only by a command that succeeds or whose outlet fails, and
+-- the line of a refusal with the status is told; nothing is told at success
 abbrev pub Leaves : Status → Outlets → Type 0
 Leaves Ok o = o.err_new ≡ o.err_old
 Leaves Usage o = (o.out_new ≡ o.out_old) × Tells o usage_line
-Leaves InfoRefused o = o.out_new ≡ o.out_old
-Leaves RequestRefused o = o.out_new ≡ o.out_old
-Leaves Damaged o = o.out_new ≡ o.out_old
+Leaves InfoRefused o = (o.out_new ≡ o.out_old) × TellsRefusal o InfoRefused
+Leaves RequestRefused o = (o.out_new ≡ o.out_old) × TellsRefusal o RequestRefused
+Leaves Damaged o = (o.out_new ≡ o.out_old) × TellsRefusal o Damaged
 Leaves StoreFault o = (o.out_new ≡ o.out_old) × Tells o store_line
 Leaves OutFault o = Tells o output_line
 Leaves NoMemory o = (o.out_new ≡ o.out_old) × Tells o memory_line

@@ -14,9 +14,10 @@ use Rattle.write_plan.specs.Plans.{pairs}
 use Rattle.write_plan.specs.Stream.{writes_of}
 use Rattle.write_plan.specs.WriteLists.{BoxWrite}
 use Rattle.write_plan.specs.declared.fault.PlanFault.{PlanFault}
-use Rattle.vol_tool.specs.Effects.{Gains, GainsFront}
-use Rattle.vol_tool.specs.Lines.{cells_line, folder_line, info_line, stream_line, written_line}
-use Rattle.vol_tool.specs.Statuses.{info_text, Outlets, Tells}
+use Rattle.tool_lines.specs.Effects.{Gains, GainsFront}
+use Rattle.tool_lines.specs.Lines.{cells_line, folder_line, info_line, stream_line, written_line}
+use Rattle.vol_tool.specs.Refusals.{info_text}
+use Rattle.vol_tool.specs.Statuses.{Outlets, Tells}
 use Rattle.vol_tool.specs.Answers.{stored_scale}
 use Rattle.vol_tool.specs.declared.refusal.NoScale.{NoScale}
 use Rattle.vol_tool.specs.declared.refusal.Refusal.{Refusal}

@@ -3,42 +3,42 @@
 #![tactic(auto)]
 
 mod buffers;
-mod counts;
-mod cutout;
-mod directory;
+mod cut_out;
 mod info;
-mod lines;
-mod output;
-mod reading;
 mod refusal;
 mod report;
 mod status;
-mod streams;
 #[cfg(test)]
 mod tests;
 mod top;
 mod write;
 
-use directory::DirStore;
+use host_io::{DirStore, NoDoor, StdFeed, StdOutlet};
+use status::Status;
 use std::env::Env;
+use std::io::ErrorKind;
 use std::process::ExitCode;
 use std::{env, io};
-use streams::{NoDoor, StdFeed, StdOutlet};
+use tool_lines::say;
 use top::run;
 use vol_base::FreeGate;
 
 // The words after the program's name. It fails as a whole where the system doesn't give each of them as
-// text.
+// text, or where there is no memory for them.
 fn read_arguments<R: Env + AllocGlobal>(rt: &R) -> io::Result<Vec<String>> {
     let words = env::args(rt)?.skip(1).collect(rt.alloc())?;
     Ok(words)
 }
 
-/// Runs the command that the arguments spell, and ends with its status. Arguments that can't be read are no
-/// words.
+/// Runs the command that the arguments spell, and ends with its status. Arguments that aren't text are no words.
 fn main(rt: HostRuntime) -> ExitCode {
+    let mut err = StdOutlet::new(rt.stderr());
     let words = match read_arguments(&rt) {
         Ok(words) => words,
+        Err(error) if error.kind() == ErrorKind::OutOfMemory => {
+            say(&mut err, b"out of memory\n");
+            return ExitCode::from(Status::NoMemory.number());
+        }
         Err(_) => Vec::new(rt.alloc()),
     };
     let status = run(
@@ -48,7 +48,7 @@ fn main(rt: HostRuntime) -> ExitCode {
         &mut DirStore::new(rt),
         &mut StdFeed::new(rt.stdin()),
         &mut StdOutlet::new(rt.stdout()),
-        &mut StdOutlet::new(rt.stderr()),
+        &mut err,
         &mut NoDoor::new(),
         &FreeGate,
     );

@@ -1,19 +1,17 @@
 //! What a refusal says.
 ghost use Rattle.std.specs.Prelude.{◌≡◌, ◌≢◌, ◌≤◌, ◌⊎◌, IfOk};
-ghost use Rattle.vol_tool.specs.Effects.{Says};
-ghost use Rattle.vol_tool.specs.Lines.{info_line, memory_line};
-ghost use Rattle.vol_tool.specs.Refusals.{line_of, status_of};
-ghost use Rattle.vol_tool.specs.Statuses.{info_text};
+ghost use Rattle.tool_lines.specs.Effects.{Says};
+ghost use Rattle.tool_lines.specs.Lines.{info_line, memory_line};
+ghost use Rattle.vol_tool.specs.Refusals.{info_text, line_of, status_of};
 
-use crate::lines::{
-    write_cells_line, write_damaged_line, write_info_line, write_large_line, write_outside_line,
-    write_stream_line,
-};
-use crate::output::say;
 use crate::refusal::{NoScale, Refusal};
 use crate::status::Status;
 use info_doc::InfoFault;
 use std::alloc::{AllocError, Global};
+use tool_lines::{
+    say, write_cells_line, write_damaged_line, write_info_line, write_large_line,
+    write_outside_line, write_stream_line,
+};
 use vol_base::{Name, Outlet};
 
 fn find_status(refusal: &Refusal) -> Status

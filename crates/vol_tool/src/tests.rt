@@ -3,8 +3,8 @@
 mod plain;
 mod writes;
 
-use crate::streams::NoDoor;
 use crate::top::run;
+use host_io::NoDoor;
 use std::alloc::{AllocError, Global};
 use std::process::Abort;
 use std::sync::Wait;

@@ -13,13 +13,14 @@ ghost use Rattle.command_line.specs.Words.{line};
 ghost use Rattle.shard_writer.specs.Writing.{Drops};
 ghost use Rattle.write_plan.specs.Stream.{writes_of};
 ghost use Rattle.write_plan.specs.WriteLists.{BoxWrite};
+ghost use Rattle.tool_lines.specs.Effects.{Gains};
+ghost use Rattle.tool_lines.specs.Lines.{written_line};
 ghost use Rattle.vol_tool.specs.Answers.{stored_scale};
 ghost use Rattle.vol_tool.specs.Commands.{is_write, may_put};
 ghost use Rattle.vol_tool.specs.Statuses.{CanCut, CutoutShows, Leaves};
 ghost use Rattle.vol_tool.specs.Storing.{CanWrite, puts, WriteShows};
 
-use crate::cutout::cut_out;
-use crate::output::say;
+use crate::cut_out::cut_out;
 use crate::report::report;
 use crate::status::Status;
 use crate::write::{print_written, write_objects};
@@ -27,6 +28,7 @@ use command_line::{Command, read_words};
 use std::alloc::Global;
 use std::sync::Wait;
 use std::thread::Threads;
+use tool_lines::say;
 use vol_base::{Box3, Door, Feed, Gate, Name, Outlet, Store};
 
 // The command `cutout`.
@@ -85,6 +87,7 @@ fn run_write<S: Store, F: Feed, O: Outlet, E: Outlet>(
         → (Rose (S.faults store.old) (S.faults store.new) → ⊥) → (Rose (F.faults feed.old) (F.faults feed.new) → ⊥) → (Rose (O.faults out.old) (O.faults out.new) → ⊥)
         → (result ≡ Status.Ok) ⊎ (result ≡ Status.NoMemory) }
     ensures end { result ≡ Status.Ok → F.left feed.new ≡ option_map (λ _. []) (F.left feed.old) }
+    ensures printed { result ≡ Status.Ok → (objects : ℕ) × (cells : ℕ) × Gains (O.written out.old) (O.written out.new) (written_line objects cells) }
     ensures draft { Drops (S.draft store.old) (S.draft store.new) }
     ensures kept { puts result ≡ false → (S.objects store.new ≡ S.objects store.old) × (S.draft store.new ≡ S.draft store.old) }
     ensures store_later { S.faults store.old ≤ S.faults store.new }
@@ -143,7 +146,8 @@ where
         → (result ≡ Status.Ok) ⊎ (result ≡ Status.NoMemory) }
     ensures leaves { Leaves result
         (record { out_old = O.written out.old; out_new = O.written out.new; err_old = E.written err.old; err_new = E.written err.new; err_before = E.faults err.old; err_now = E.faults err.new }) }
-    // a write that succeeds reads its feed to the end
+    // a write that succeeds prints how many objects and cells there are, and reads its feed to the end
+    ensures printed { is_write (line (map string_bytes words.now)) ≡ true → result ≡ Status.Ok → (objects : ℕ) × (cells : ℕ) × Gains (O.written out.old) (O.written out.new) (written_line objects cells) }
     ensures end { is_write (line (map string_bytes words.now)) ≡ true → result ≡ Status.Ok → F.left feed.new ≡ option_map (λ _. []) (F.left feed.old) }
     // no object stays half written that was begun in the call
     ensures draft { Drops (S.draft store.old) (S.draft store.new) }

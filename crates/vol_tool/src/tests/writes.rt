@@ -302,30 +302,23 @@ fn check_case<R: Threads + Wait + Abort + Sync>(
     Ok(())
 }
 
-// A refusal with status 3, which leaves these objects and stores none.
+// A refusal with status 3, which leaves these objects and stores none. The feed gives so many bytes at a time.
 fn check_refusal<R: Threads + Wait + Abort + Sync>(
     rt: &R,
     alloc: Global,
     sizes: [&str; 2],
     objects: &[(&str, &[u8])],
     stream: &[u8],
+    piece: u8,
     err: &str,
 ) -> Result<(), Fail> {
     let mut store = empty_store(alloc, sizes, &[])?;
     for (name, bytes) in objects {
         put(alloc, &mut store, name, bytes)?;
     }
+    let faults = Faults { piece, ..NO_FAULTS };
     let line = err.as_bytes();
-    check(
-        rt,
-        alloc,
-        &mut store,
-        "write d s",
-        stream,
-        &NO_FAULTS,
-        3,
-        line,
-    )?;
+    check(rt, alloc, &mut store, "write d s", stream, &faults, 3, line)?;
     assert!(rt; has_all(&store, objects), "objects at {err}");
     assert!(rt; has_none(&store, &NEVER), "new objects at {err}");
     Ok(())
@@ -338,6 +331,24 @@ const NEVER: [(&str, &[u8]); 3] = [
     ("d/s/0-64_0-64_0-1", &[]),
 ];
 
+// The most bytes that a feed gives at a time.
+const PIECES: [u8; 3] = [1, 7, 255];
+
+fn check_refusals<R: Threads + Wait + Abort + Sync>(
+    rt: &R,
+    alloc: Global,
+    piece: u8,
+) -> Result<(), Fail> {
+    for (sizes, objects, stream, err) in &REFUSALS {
+        check_refusal(rt, alloc, *sizes, objects, stream, piece, err)?;
+    }
+    for (sizes, writes, err) in &BAD_WRITES {
+        let stream = stream_of(alloc, writes)?;
+        check_refusal(rt, alloc, *sizes, &[], &stream, piece, err)?;
+    }
+    Ok(())
+}
+
 #[test]
 fn stores_writes(rt: HostRuntime) -> Result<(), Fail> {
     let alloc = rt.alloc();
@@ -346,12 +357,8 @@ fn stores_writes(rt: HostRuntime) -> Result<(), Fail> {
         check_case(&rt, alloc, case, "write --workers=3 d s", 1)?;
         check_case(&rt, alloc, case, "write d s --workers=16", 7)?;
     }
-    for (sizes, objects, stream, err) in &REFUSALS {
-        check_refusal(&rt, alloc, *sizes, objects, stream, err)?;
-    }
-    for (sizes, writes, err) in &BAD_WRITES {
-        let stream = stream_of(alloc, writes)?;
-        check_refusal(&rt, alloc, *sizes, &[], &stream, err)?;
+    for piece in PIECES {
+        check_refusals(&rt, alloc, piece)?;
     }
     Ok(())
 }
@@ -368,7 +375,15 @@ fn refuses_too_many_cells(rt: HostRuntime) -> Result<(), Fail> {
     };
     let stream = stream_of(alloc, &[write, write])?;
     let sizes = ["[2097153,1,1]", "[1,1,1]"];
-    check_refusal(&rt, alloc, sizes, &[], &stream, "too many cells 4194306\n")
+    check_refusal(
+        &rt,
+        alloc,
+        sizes,
+        &[],
+        &stream,
+        255,
+        "too many cells 4194306\n",
+    )
 }
 
 // Calls over one store, each with its status and what it prints.

@@ -1,7 +1,7 @@
 use Rattle.std.proofs.Common.{◌≤◌, ◌^◌, ap, sym, subst, Err, IfSome}
 use Rattle.write_plan.specs.Plans.{pairs}
 use Rattle.vol_tool.specs.Storing.{PutsWrites}
-use Rattle.vol_tool.proofs.CellSteps.{in_told}
+use Rattle.vol_spec.proofs.Told.{in_told}
 use Rattle.vol_tool.proofs.PlanSteps.{few_pairs}
 use Rattle.vol_tool.proofs.write.write_planned.Goals as goal
 

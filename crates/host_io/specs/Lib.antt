@@ -1,0 +1,2 @@
+pub mod Absences
+pub mod Tallies
