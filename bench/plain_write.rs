@@ -2,8 +2,11 @@
 //! layout.rs.
 //!
 //!     plain_write LAYOUT make DATASET          writes the dataset's info
-//!     plain_write LAYOUT stream                writes a stream of writes to standard output
+//!     plain_write LAYOUT stream FORM           writes a stream of writes to standard output
 //!     plain_write LAYOUT write DATASET KEY     reads a stream from standard input and writes its objects
+//!
+//! FORM is `whole`: the whole volume, and a cube of half its side that is in no line with the chunks; or `boxes`: 40 boxes
+//! at random, each of at most half the volume's side on each axis; or `voxels`: 20,000 voxels at random.
 //!
 //! The whole stream is read first. Each chunk is made in memory from the writes that meet it, written to a file that
 //! ends in .part, and renamed.
@@ -88,13 +91,35 @@ fn write(layout: &Layout, folder: &Path) -> io::Result<()> {
     Ok(())
 }
 
-/// Two writes: the whole volume, and a cube of half its side that is in no line with the chunks.
-fn write_stream(layout: &Layout) -> io::Result<()> {
-    let quarter = layout.size / 4 + 1;
-    let parts: [Spans; 2] = [[(0, layout.size); 3], [(quarter, quarter + layout.size / 2); 3]];
+/// A span at random of these sizes.
+fn pick_span(noise: &mut Noise, side: usize, sizes: usize) -> (usize, usize) {
+    let size = 1 + noise.below(sizes);
+    let begin = noise.below(side - size + 1);
+    (begin, begin + size)
+}
+
+/// Boxes at random, of at most so many voxels on each axis.
+fn pick_boxes(layout: &Layout, noise: &mut Noise, count: usize, sizes: usize) -> Vec<Spans> {
+    (0..count).map(|_| [0, 1, 2].map(|_| pick_span(noise, layout.size, sizes))).collect()
+}
+
+/// The boxes of a stream.
+fn pick_parts(layout: &Layout, noise: &mut Noise, form: &str) -> Option<Vec<Spans>> {
+    let (half, quarter) = (layout.size / 2, layout.size / 4 + 1);
+    match form {
+        "whole" => Some(vec![[(0, layout.size); 3], [(quarter, quarter + half); 3]]),
+        "boxes" => Some(pick_boxes(layout, noise, 40, half)),
+        "voxels" => Some(pick_boxes(layout, noise, 20_000, 1)),
+        _ => None,
+    }
+}
+
+fn write_stream(layout: &Layout, form: &str) -> io::Result<()> {
     let mut noise = Noise::new();
-    let mut out = io::stdout().lock();
-    out.write_all(b"PVW1\x02\0\0\0")?;
+    let parts = pick_parts(layout, &mut noise, form).ok_or(io::ErrorKind::InvalidInput)?;
+    let mut out = io::BufWriter::new(io::stdout().lock());
+    out.write_all(b"PVW1")?;
+    out.write_all(&(parts.len() as u32).to_le_bytes())?;
     for part in &parts {
         for (begin, _) in part {
             out.write_all(&(*begin as i64).to_le_bytes())?;
@@ -115,7 +140,7 @@ fn main() -> ExitCode {
     };
     let done = match words[1..] {
         ["make", dataset] => layout.make_info(Path::new(dataset)),
-        ["stream"] => write_stream(&layout),
+        ["stream", form] => write_stream(&layout, form),
         ["write", dataset, key] => write(&layout, &Path::new(dataset).join(key)),
         _ => return ExitCode::from(1),
     };

@@ -1,9 +1,10 @@
 #!/bin/sh
 # Overlapping writes into empty scales by vol_tool and by the plain program beside this script: five tries in turn, the
-# best of each. The stream is in the page cache; it has one write of the whole scale and one of an eighth of it across
-# the chunks. The scales are 512 x 512 x 512 bytes in chunks of 64 x 64 x 64, and 128 x 128 x 128 voxels of four channels
-# of 64-bit numbers in chunks of 32 x 32 x 32. Both programs write each chunk to a file that ends in .part, which they
-# rename; neither waits until the disk has it. Their objects are compared at the end.
+# best of each. A stream is in the page cache. It has one write of the whole scale and one of an eighth of it across the
+# chunks; or 40 boxes at random, each of at most half the scale's side on each axis; or 20,000 voxels at random. The scales
+# are 512 x 512 x 512 bytes in chunks of 64 x 64 x 64, and 128 x 128 x 128 voxels of four channels of 64-bit numbers in
+# chunks of 32 x 32 x 32. Both programs write each chunk to a file that ends in .part, which they rename; neither waits
+# until the disk has it. Their objects are compared at the end.
 #
 #     bench/write.sh [PROGRAM]
 #
@@ -26,10 +27,10 @@ trap 'rm -rf "$work"' EXIT
 rustc --edition 2021 -O -o "$work/plain_write" "$root/bench/plain_write.rs" || exit
 cd "$work" || exit
 
-# LAYOUT
+# LAYOUT FORM
 compare() {
-    ./plain_write "$1" make ours && ./plain_write "$1" make plain && ./plain_write "$1" stream >stream || exit
-    echo "$1"
+    ./plain_write "$1" make ours && ./plain_write "$1" make plain && ./plain_write "$1" stream "$2" >stream || exit
+    echo "$1 $2"
     python3 "$root/bench/compare.py" 5 \
         "'$program' write ours s" \
         "./plain_write $1 write plain s" \
@@ -39,5 +40,7 @@ compare() {
     rm -rf ours plain
 }
 
-compare bytes
-compare wide
+compare bytes whole
+compare wide whole
+compare bytes boxes
+compare bytes voxels

@@ -10,7 +10,7 @@ ROOT = pathlib.Path(__file__).resolve().parent.parent
 PROGRAM = ROOT / "crates" / "vol_tool" / "out" / "vol_tool"
 
 # Statuses
-OK, USAGE, INFO, REQUEST, DAMAGED, STORE, FEED, OUTPUT = range(8)
+OK, USAGE, INFO, REQUEST, DAMAGED, STORE, FEED, OUTPUT, MEMORY = range(9)
 
 # How long a run may take, in seconds.
 LIMIT = 60

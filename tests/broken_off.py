@@ -1,0 +1,235 @@
+#!/usr/bin/env python3
+"""Breaks writes of the built vol_tool off: what stands afterwards is whole objects, and `.part` files where it was killed.
+
+    tests/broken_off.py [PROGRAM]
+
+PROGRAM is crates/vol_tool/out/vol_tool if it is left out. It takes about a minute, so it is run by hand and isn't a part
+of the gate. A write is killed at a random moment, 50 times; cutouts run while another process writes; and a write meets
+a full disk, a small tmpfs, which is passed over with a word where none can be mounted. The last line is 'N passed, N
+failed', and the status is 1 where a case failed.
+"""
+import contextlib
+import itertools
+import pathlib
+import random
+import subprocess
+import sys
+import tempfile
+import time
+
+from program import LIMIT, OK, STORE, compare, info_of, run, stream_of, tell_all
+
+# The voxels of the scale and of a chunk on each axis. A voxel is a byte.
+SIZE = 256
+CHUNK = 32
+
+KILLS = 50
+WRITES_WATCHED = 5
+
+# Too few bytes for the scale's objects.
+DISK_BYTES = 4 << 20
+
+WORDS_WRITE = ["write", "d", "s"]
+WORDS_CUT = ["cutout", "d", "s", f"[0:{SIZE},0:{SIZE},0:{SIZE}]"]
+
+
+def make_values():
+    """The values of the scale, x fastest. None is 0, so that each of them is told from a voxel that isn't written."""
+    chance = random.Random(1)
+    return chance.randbytes(SIZE**3).replace(b"\0", b"\1")
+
+
+def rows_of(values, cell):
+    """The rows of a cell in the values of the scale."""
+    x, y, z = (number * CHUNK for number in cell)
+    for k, j in itertools.product(range(z, z + CHUNK), range(y, y + CHUNK)):
+        begin = x + SIZE * (j + SIZE * k)
+        yield values[begin : begin + CHUNK]
+
+
+def cells():
+    """The cells in the order in which they are written, x fastest."""
+    return ((x, y, z) for z, y, x in itertools.product(range(SIZE // CHUNK), repeat=3))
+
+
+def name_of(cell):
+    return "_".join(f"{number * CHUNK}-{(number + 1) * CHUNK}" for number in cell)
+
+
+def objects_of(values):
+    """The bytes of each object, by its name in the scale's folder."""
+    return {name_of(cell): b"".join(rows_of(values, cell)) for cell in cells()}
+
+
+def lay_out(folder):
+    (folder / "d").mkdir()
+    (folder / "d" / "info").write_bytes(info_of([SIZE] * 3, [CHUNK] * 3))
+
+
+def judge_objects(folder, objects, parts_allowed):
+    """
+    What stands is a front of the objects, each of them whole, and at most so many files whose names end in .part.
+
+    Gives the fault, and the names of what stands.
+    """
+    standing = set()
+    parts = 0
+    for path in (path for path in folder.rglob("*") if path.is_file() and path.name != "info"):
+        if path.name.endswith(".part"):
+            parts += 1
+        elif path.read_bytes() != objects.get(path.name):
+            return f"{path.name} isn't whole", standing
+        else:
+            standing.add(path.name)
+    if parts > parts_allowed:
+        return f"{parts} files end in .part", standing
+    if standing != set(list(objects)[: len(standing)]):
+        return f"the {len(standing)} objects that stand aren't the first ones", standing
+    return None, standing
+
+
+def judge_cut(found, objects, standing):
+    """A cutout of the scale has the values of the objects that stand, and zeros."""
+    status, output, errors = found
+    if (status, errors, len(output)) != (OK, b"", SIZE**3):
+        return f"cutout: status {status}, {len(output)} bytes, {errors!r}"
+    for cell in cells():
+        name = name_of(cell)
+        wanted = objects[name] if name in standing else bytes(CHUNK**3)
+        if b"".join(rows_of(output, cell)) != wanted:
+            return f"cutout: {name} isn't as it stands"
+    return None
+
+
+def judge_torn(found, objects):
+    """Each chunk of a cutout is whole: all of an object's values, or zeros."""
+    status, output, errors = found
+    if (status, errors, len(output)) != (OK, b"", SIZE**3):
+        return f"cutout: status {status}, {len(output)} bytes, {errors!r}"
+    for cell in cells():
+        if b"".join(rows_of(output, cell)) not in (objects[name_of(cell)], bytes(CHUNK**3)):
+            return f"cutout: {name_of(cell)} is torn"
+    return None
+
+
+def start(program, folder, stream):
+    """A write that reads the stream from a file."""
+    with stream.open("rb") as feed:
+        return subprocess.Popen(
+            [program, *WORDS_WRITE], cwd=folder, stdin=feed, stdout=subprocess.DEVNULL, stderr=subprocess.DEVNULL
+        )
+
+
+def judge_killed(program, stream, objects, delay):
+    """A write that is killed after so many seconds. Gives the fault, and how many objects stand."""
+    with tempfile.TemporaryDirectory() as name:
+        folder = pathlib.Path(name)
+        lay_out(folder)
+        process = start(program, folder, stream)
+        time.sleep(delay)
+        process.kill()
+        process.wait()
+        wrong, standing = judge_objects(folder, objects, parts_allowed=1)
+        return wrong or judge_cut(run(program, folder, WORDS_CUT), objects, standing), len(standing)
+
+
+def judge_watched(program, stream, objects):
+    """Cutouts while a write runs. Gives the fault, and how many cutouts were taken meanwhile."""
+    with tempfile.TemporaryDirectory() as name:
+        folder = pathlib.Path(name)
+        lay_out(folder)
+        process = start(program, folder, stream)
+        count = 0
+        wrong = None
+        try:
+            while process.poll() is None and wrong is None:
+                wrong = judge_torn(run(program, folder, WORDS_CUT), objects)
+                count += 1
+        finally:
+            process.kill()
+        if wrong is None and process.wait() != OK:
+            wrong = f"the write's status is {process.returncode}"
+        return wrong or judge_whole(program, folder, objects), count
+
+
+def judge_whole(program, folder, objects):
+    """All objects stand, and nothing else."""
+    wrong, standing = judge_objects(folder, objects, parts_allowed=0)
+    if wrong is None and len(standing) != len(objects):
+        wrong = f"{len(standing)} objects stand"
+    return wrong or judge_cut(run(program, folder, WORDS_CUT), objects, standing)
+
+
+def measure(program, stream):
+    """How many seconds a write takes."""
+    with tempfile.TemporaryDirectory() as name:
+        folder = pathlib.Path(name)
+        lay_out(folder)
+        begin = time.monotonic()
+        start(program, folder, stream).wait(LIMIT)
+        return time.monotonic() - begin
+
+
+@contextlib.contextmanager
+def small_disk():
+    """A folder on a disk of few bytes, or None where it can't be mounted."""
+    with tempfile.TemporaryDirectory() as name:
+        mount = ["mount", "-t", "tmpfs", "-o", f"size={DISK_BYTES}", "tmpfs", name]
+        try:
+            mounted = subprocess.run(mount, capture_output=True, timeout=LIMIT).returncode == 0
+        except OSError:
+            mounted = False
+        try:
+            yield pathlib.Path(name) if mounted else None
+        finally:
+            if mounted:
+                subprocess.run(["umount", name], check=True, timeout=LIMIT)
+
+
+def judge_full_disk(program, stream, objects, folder):
+    """The disk is full in the middle of a write: whole objects stand, and nothing else."""
+    lay_out(folder)
+    with stream.open("rb") as feed:
+        found = run(program, folder, WORDS_WRITE, feed)
+    wrong, standing = judge_objects(folder, objects, parts_allowed=0)
+    wrong = compare(found, (STORE, b"", b"store fault\n")) or wrong
+    if wrong is None and not 0 < len(standing) < len(objects):
+        wrong = f"{len(standing)} objects stand"
+    return wrong or judge_cut(run(program, folder, WORDS_CUT), objects, standing)
+
+
+def judge_kills(program, stream, objects):
+    """Each kill's title, and the first thing that is wrong or None; and whether some came in the middle of a write."""
+    chance = random.Random(2)
+    longest = 1.2 * measure(program, stream)
+    counts = []
+    for number in range(KILLS):
+        wrong, standing = judge_killed(program, stream, objects, chance.uniform(0, longest))
+        counts.append(standing)
+        yield f"kill {number}", wrong
+    halfway = sum(0 < count < len(objects) for count in counts)
+    print(f"{halfway} of {KILLS} kills came between the first object and the last")
+    yield "kills between the first object and the last", None if halfway else "there were none"
+
+
+def judge_all(program):
+    """Each case's title, and the first thing that is wrong with it or None."""
+    values = make_values()
+    objects = objects_of(values)
+    with tempfile.TemporaryDirectory() as name:
+        stream = pathlib.Path(name) / "stream"
+        stream.write_bytes(stream_of(((0, 0, 0), (SIZE,) * 3, values)))
+        yield from judge_kills(program, stream, objects)
+        watched = [judge_watched(program, stream, objects) for _ in range(WRITES_WATCHED)]
+        for number, (wrong, _) in enumerate(watched):
+            yield f"watched write {number}", wrong
+        yield "cutouts while a write runs", None if any(count for _, count in watched) else "there were none"
+        with small_disk() as folder:
+            if folder is None:
+                print("no tmpfs can be mounted here: the full disk is passed over")
+            else:
+                yield "a full disk", judge_full_disk(program, stream, objects, folder)
+
+
+if __name__ == "__main__":
+    sys.exit(tell_all(judge_all))

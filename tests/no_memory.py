@@ -1,0 +1,162 @@
+#!/usr/bin/env python3
+"""Refuses each allocation of runs of the built vol_tool in turn: a run ends with `out of memory`, or as if nothing was.
+
+    tests/no_memory.py [PROGRAM]
+
+PROGRAM is crates/vol_tool/out/vol_tool if it is left out. It wants a C compiler, `cc`, for the library that refuses
+(refuse_memory.c), so it is run by hand and isn't a part of the gate. Where the store is asked, an allocation for a path,
+for a folder's entries or of the system's own library may end as a store fault instead. Each refused run has a folder of
+its own; afterwards whole objects stand there, the first ones that are due, and no half of one. The last line is
+'N passed, N failed', and the status is 1 where a case failed.
+"""
+import collections
+import pathlib
+import subprocess
+import sys
+import tempfile
+
+from program import (
+    DAMAGED,
+    INFO,
+    INFO_PATH,
+    LIMIT,
+    MEMORY,
+    OK,
+    REQUEST,
+    STORE,
+    USAGE,
+    info_of,
+    stream_of,
+    tell_all,
+)
+
+# More allocations than a run of these has.
+MOST_ALLOCATIONS = 10_000
+
+ROW = info_of([3, 1, 1], [1, 1, 1])
+
+# The objects of the row in the order in which they are put.
+ROW_OBJECTS = {"d/s/0-1_0-1_0-1": b"\1", "d/s/1-2_0-1_0-1": b"\2", "d/s/2-3_0-1_0-1": b"\3"}
+
+THREE = stream_of(((0, 0, 0), (3, 1, 1), b"\1\2\3"))
+
+TWICE = stream_of(((0, 0, 0), (3, 1, 1), b"\1\2\3"), ((1, 0, 0), (1, 1, 1), b"\2"))
+
+OUTSIDE = stream_of(((0, 0, 0), (4, 1, 1), b"\1\2\3\4"))
+
+WRITE = ["write", "d", "s"]
+
+CUT = ["cutout", "d", "s", "[0:3,0:1,0:1]"]
+
+TORN = {**ROW_OBJECTS, "d/s/1-2_0-1_0-1": b"\2\2"}
+
+# title, info, objects, words, stream, status
+RUNS = [
+    ("a write", ROW, {}, WRITE, TWICE, OK),
+    ("a write with workers", ROW, {}, [*WRITE, "--workers=3"], THREE, OK),
+    ("a write of nothing", ROW, {}, WRITE, stream_of(), OK),
+    ("a cutout", ROW, ROW_OBJECTS, CUT, b"", OK),
+    ("a cutout of nothing", ROW, {}, CUT, b"", OK),
+    ("a folder that isn't empty", ROW, {"d/s/a/b": b""}, WRITE, THREE, REQUEST),
+    ("a write outside", ROW, {}, WRITE, OUTSIDE, REQUEST),
+    ("a broken stream", ROW, {}, WRITE, THREE[:-1], REQUEST),
+    ("a box outside", ROW, {}, ["cutout", "d", "s", "[0:4,0:1,0:1]"], b"", REQUEST),
+    ("a damaged object", ROW, TORN, CUT, b"", DAMAGED),
+    ("no such scale", ROW, {}, ["cutout", "d", "t", "[0:3,0:1,0:1]"], b"", INFO),
+    ("a broken info", ROW[:-1], {}, CUT, b"", INFO),
+    ("no info", None, {}, CUT, b"", INFO),
+    ("no command", ROW, {}, ["cut"], b"", USAGE),
+]
+
+
+def lay_out(folder, info, objects):
+    files = {**objects, **({} if info is None else {INFO_PATH: info})}
+    for name, content in files.items():
+        path = folder / name
+        path.parent.mkdir(parents=True, exist_ok=True)
+        path.write_bytes(content)
+
+
+def files_below(folder):
+    return {str(path.relative_to(folder)): path.read_bytes() for path in folder.rglob("*") if path.is_file()}
+
+
+def run_refused(program, library, case, number):
+    """What a run leaves whose allocation of this number is refused, and whether it has that many."""
+    _, info, objects, words, stream, _ = case
+    with tempfile.TemporaryDirectory() as name:
+        folder = pathlib.Path(name) / "store"
+        refused = pathlib.Path(name) / "refused"
+        folder.mkdir()
+        lay_out(folder, info, objects)
+        variables = {"LD_PRELOAD": str(library), "REFUSE": str(number), "REFUSED": str(refused)}
+        done = subprocess.run(
+            [program, *words], cwd=folder, input=stream, capture_output=True, timeout=LIMIT, env=variables
+        )
+        return (done.returncode, done.stdout, done.stderr, files_below(folder)), refused.exists()
+
+
+def judge_files(files, before, after):
+    """The files are those before, with a front of what a whole run puts."""
+    due = [name for name in after if name not in before]
+    count = sum(name in files for name in due)
+    wanted = {**before, **{name: after[name] for name in sorted(due)[:count]}}
+    return None if files == wanted else f"files {sorted(files)} wanted {sorted(wanted)}"
+
+
+def judge_refused(found, whole, before, endings):
+    """A run whose allocation was refused, against one with memory."""
+    if found == whole:
+        return None
+    status, output, errors, files = found
+    if (status, errors) not in endings:
+        return f"status {status}, {errors!r}"
+    if output:
+        return f"output {output!r}"
+    return judge_files(files, before, whole[3])
+
+
+def judge_run(program, library, case):
+    """Each allocation of a run is refused in turn."""
+    _, info, objects, _, _, status = case
+    whole, _ = run_refused(program, library, case, 0)
+    if whole[0] != status:
+        return f"status {whole[0]} wanted {status}"
+    before = {**objects, **({} if info is None else {INFO_PATH: info})}
+    endings = [(MEMORY, b"out of memory\n")] + [(STORE, b"store fault\n")] * (status != USAGE)
+    statuses = collections.Counter()
+    for number in range(1, MOST_ALLOCATIONS):
+        found, refused = run_refused(program, library, case, number)
+        if not refused:
+            print(f"{case[0]}: {number - 1} allocations; runs by their status: {dict(statuses)}")
+            return None if found == whole and number > 1 else f"no allocation was refused: {found!r:.200}"
+        statuses[found[0]] += 1
+        wrong = judge_refused(found, whole, before, endings)
+        if wrong is not None:
+            return f"allocation {number}: {wrong}"
+    return "it has more allocations than were tried"
+
+
+def build_library(source, library):
+    """Whether the library that refuses was built."""
+    command = ["cc", "-O1", "-fno-builtin", "-shared", "-fPIC", "-o", library, source]
+    try:
+        return subprocess.run(command, timeout=LIMIT).returncode == 0
+    except OSError:
+        return False
+
+
+def judge_all(program):
+    """Each case's title, and the first thing that is wrong with it or None."""
+    source = pathlib.Path(__file__).with_name("refuse_memory.c")
+    with tempfile.TemporaryDirectory() as name:
+        library = pathlib.Path(name) / "refuse_memory.so"
+        if not build_library(source, library):
+            yield "the library that refuses", "it can't be built"
+            return
+        for case in RUNS:
+            yield case[0], judge_run(program, library, case)
+
+
+if __name__ == "__main__":
+    sys.exit(tell_all(judge_all))
