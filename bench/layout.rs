@@ -103,17 +103,11 @@ impl Noise {
         Noise(1)
     }
 
-    fn step(&mut self) -> u64 {
-        self.0 = self.0.wrapping_mul(6364136223846793005).wrapping_add(1442695040888963407);
-        self.0
-    }
-
     pub fn take(&mut self, count: usize) -> Vec<u8> {
-        std::iter::repeat_with(|| (self.step() >> 56) as u8).take(count).collect()
-    }
-
-    /// A number below a limit of at most 2^32.
-    pub fn below(&mut self, limit: usize) -> usize {
-        ((self.step() >> 32) as usize * limit) >> 32
+        let next = || {
+            self.0 = self.0.wrapping_mul(6364136223846793005).wrapping_add(1442695040888963407);
+            (self.0 >> 56) as u8
+        };
+        std::iter::repeat_with(next).take(count).collect()
     }
 }

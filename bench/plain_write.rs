@@ -91,16 +91,23 @@ fn write(layout: &Layout, folder: &Path) -> io::Result<()> {
     Ok(())
 }
 
-/// A span at random of these sizes.
-fn pick_span(noise: &mut Noise, side: usize, sizes: usize) -> (usize, usize) {
-    let size = 1 + noise.below(sizes);
-    let begin = noise.below(side - size + 1);
+/// A number at random below a limit of at most 2^32.
+fn pick_below(noise: &mut Noise, limit: usize) -> usize {
+    let bytes = noise.take(4);
+    let number = u32::from_le_bytes(bytes.try_into().unwrap());
+    (number as usize * limit) >> 32
+}
+
+/// A span at random, of at most so many voxels.
+fn pick_span(noise: &mut Noise, side: usize, most: usize) -> (usize, usize) {
+    let size = 1 + pick_below(noise, most);
+    let begin = pick_below(noise, side - size + 1);
     (begin, begin + size)
 }
 
 /// Boxes at random, of at most so many voxels on each axis.
-fn pick_boxes(layout: &Layout, noise: &mut Noise, count: usize, sizes: usize) -> Vec<Spans> {
-    (0..count).map(|_| [0, 1, 2].map(|_| pick_span(noise, layout.size, sizes))).collect()
+fn pick_boxes(layout: &Layout, noise: &mut Noise, count: usize, most: usize) -> Vec<Spans> {
+    (0..count).map(|_| [0, 1, 2].map(|_| pick_span(noise, layout.size, most))).collect()
 }
 
 /// The boxes of a stream.
