@@ -2,6 +2,7 @@
 
 use std::io;
 use std::path::Path;
+use std::process::ExitCode;
 
 /// Sizes in voxels, and the bytes of a value.
 pub struct Layout {
@@ -109,5 +110,21 @@ impl Noise {
             (self.0 >> 56) as u8
         };
         std::iter::repeat_with(next).take(count).collect()
+    }
+}
+
+/// Does what the words ask of the layout that the first of them names. Status 1: they ask nothing that `job` knows; 5: it
+/// failed.
+pub fn run_with(job: impl Fn(&Layout, &[&str]) -> Option<io::Result<()>>) -> ExitCode {
+    let words: Vec<String> = std::env::args().skip(1).collect();
+    let words: Vec<&str> = words.iter().map(String::as_str).collect();
+    let layout = words.first().and_then(|name| Layout::named(name));
+    match layout.and_then(|layout| job(&layout, &words[1..])) {
+        Some(Ok(())) => ExitCode::SUCCESS,
+        Some(Err(error)) => {
+            eprintln!("{error}");
+            ExitCode::from(5)
+        }
+        None => ExitCode::from(1),
     }
 }

@@ -70,25 +70,13 @@ fn write_out(values: &[u8]) -> io::Result<()> {
 }
 
 fn main() -> ExitCode {
-    let words: Vec<String> = std::env::args().skip(1).collect();
-    let words: Vec<&str> = words.iter().map(String::as_str).collect();
-    let Some(layout) = words.first().and_then(|name| Layout::named(name)) else {
-        return ExitCode::from(1);
-    };
-    let done = match words[1..] {
-        ["make", dataset] => make(&layout, Path::new(dataset)),
-        ["cutout", dataset, key, part] => match parse_box(&layout, part) {
-            Some(part) => cut(&layout, &Path::new(dataset).join(key), &part)
-                .and_then(|values| write_out(&values)),
-            None => return ExitCode::from(1),
-        },
-        _ => return ExitCode::from(1),
-    };
-    match done {
-        Ok(()) => ExitCode::SUCCESS,
-        Err(error) => {
-            eprintln!("{error}");
-            ExitCode::from(5)
+    layout::run_with(|layout, words| match *words {
+        ["make", dataset] => Some(make(layout, Path::new(dataset))),
+        ["cutout", dataset, key, part] => {
+            let part = parse_box(layout, part)?;
+            let folder = Path::new(dataset).join(key);
+            Some(cut(layout, &folder, &part).and_then(|values| write_out(&values)))
         }
-    }
+        _ => None,
+    })
 }

@@ -140,22 +140,10 @@ fn write_stream(layout: &Layout, form: &str) -> io::Result<()> {
 }
 
 fn main() -> ExitCode {
-    let words: Vec<String> = std::env::args().skip(1).collect();
-    let words: Vec<&str> = words.iter().map(String::as_str).collect();
-    let Some(layout) = words.first().and_then(|name| Layout::named(name)) else {
-        return ExitCode::from(1);
-    };
-    let done = match words[1..] {
-        ["make", dataset] => layout.make_info(Path::new(dataset)),
-        ["stream", form] => write_stream(&layout, form),
-        ["write", dataset, key] => write(&layout, &Path::new(dataset).join(key)),
-        _ => return ExitCode::from(1),
-    };
-    match done {
-        Ok(()) => ExitCode::SUCCESS,
-        Err(error) => {
-            eprintln!("{error}");
-            ExitCode::from(5)
-        }
-    }
+    layout::run_with(|layout, words| match *words {
+        ["make", dataset] => Some(layout.make_info(Path::new(dataset))),
+        ["stream", form] => Some(write_stream(layout, form)),
+        ["write", dataset, key] => Some(write(layout, &Path::new(dataset).join(key))),
+        _ => None,
+    })
 }

@@ -11,21 +11,8 @@
 # PROGRAM is the built vol_tool if it is left out. It wants rustc, Python, and 1 GiB free where TMPDIR says.
 
 root=$(cd "$(dirname "$0")/.." && pwd) || exit
-program=${1:-$root/crates/vol_tool/out/vol_tool}
-case $program in
-/*) ;;
-*) program=$PWD/$program ;;
-esac
-if [ ! -x "$program" ]; then
-    echo "bench/write.sh: there is no program $program" >&2
-    exit 1
-fi
-
-work=$(mktemp -d) || exit
-trap 'rm -rf "$work"' EXIT
-
-rustc --edition 2021 -O -o "$work/plain_write" "$root/bench/plain_write.rs" || exit
-cd "$work" || exit
+set -- plain_write "$@"
+. "$root/bench/against.sh"
 
 # LAYOUT FORM
 compare() {
