@@ -1,7 +1,6 @@
 // The same chunks as crates/bench_segments, written and read by the same steps in plain Rust, with the same words.
 
 use std::env;
-use std::hint::black_box;
 
 #[derive(Clone, Copy)]
 struct Shape {
@@ -117,12 +116,17 @@ fn find_bits(entries: usize) -> usize {
         .unwrap_or(32)
 }
 
-fn hash_table(table: &[u64], places: usize) -> usize {
-    let hash = table.iter().fold(0u64, |hash, &v| {
-        let x = (hash ^ v).wrapping_mul(0x9e3779b97f4a7c15);
-        x ^ x >> 29
-    });
+fn mix_value(hash: u64, v: u64) -> u64 {
+    let x = (hash ^ v).wrapping_mul(0x9e3779b97f4a7c15);
+    x ^ x >> 29
+}
+
+fn spread(hash: u64, places: usize) -> usize {
     ((hash >> 32) * places as u64 >> 32) as usize
+}
+
+fn hash_table(table: &[u64], places: usize) -> usize {
+    spread(table.iter().fold(0, |hash, &v| mix_value(hash, v)), places)
 }
 
 struct Scratch {
@@ -132,39 +136,120 @@ struct Scratch {
     next: Vec<u32>,
     at: Vec<u32>,
     lens: Vec<u32>,
+    finder: Finder,
 }
 
 fn reserve(shape: &Shape) -> Scratch {
     let blocks: usize = shape.counts().iter().product();
+    let single = shape.voxels() == 1;
     Scratch {
         voxels: vec![0; shape.voxels()],
         table: vec![0; shape.voxels()],
-        heads: vec![0; 4 * blocks],
+        heads: vec![0; if single { 1 } else { 4 * blocks }],
         next: vec![0; blocks],
         at: vec![0; blocks],
         lens: vec![0; blocks],
+        finder: reserve_finder(if single { blocks } else { 0 }),
     }
 }
 
-// The heads of so many blocks of one voxel, read right behind each other.
-const AHEAD: usize = 32;
+// The number of the first block with an equal table, and 1, or 0.
+fn find_table_again(s: &Scratch, out: &[u8], hash: usize, end: usize, count: usize) -> usize {
+    let mut cursor = s.heads[hash] as usize;
+    while cursor != 0 {
+        let j = cursor - 1;
+        let other = s.at[j] as usize;
+        if s.lens[j] == count as u32 && out[other..other + 8 * count] == out[end..end + 8 * count] {
+            break;
+        }
+        cursor = s.next[j] as usize;
+    }
+    cursor
+}
 
-fn sum_heads(raw: &[u8], from: usize, heads: &[u32]) -> u32 {
-    (from..(from + AHEAD).min(raw.len() / 8))
-        .map(|n| heads[hash_table(&[value(raw, n)], heads.len())])
-        .fold(0, u32::wrapping_add)
+const GROUPS: usize = 64;
+
+// Room for finding the first equal value before each.
+struct Finder {
+    values: Vec<u64>,
+    order: Vec<u32>,
+    moved: Vec<u64>,
+    heads: Vec<u32>,
+    next: Vec<u32>,
+    earlier: Vec<u32>,
+}
+
+fn reserve_finder(blocks: usize) -> Finder {
+    Finder {
+        values: vec![0; blocks],
+        order: vec![0; blocks],
+        moved: vec![0; blocks],
+        heads: vec![0; (blocks / 32).max(64)],
+        next: vec![0; blocks],
+        earlier: vec![0; blocks],
+    }
+}
+
+// Puts the values into groups by a hash, each group in its order.
+fn group_values(f: &mut Finder) {
+    let group = |v: u64| mix_value(0, v) as usize % GROUPS;
+    let mut cursors = [0u32; GROUPS];
+    for &v in &f.values {
+        cursors[group(v)] += 1;
+    }
+    let mut sum = 0;
+    for cursor in &mut cursors {
+        let count = *cursor;
+        *cursor = sum;
+        sum += count;
+    }
+    for (k, &v) in f.values.iter().enumerate() {
+        let cursor = &mut cursors[group(v)];
+        f.moved[*cursor as usize] = v;
+        f.order[*cursor as usize] = k as u32;
+        *cursor += 1;
+    }
+}
+
+// For each value the place of the first equal one before it and 1, or 0.
+fn find_earlier(raw: &[u8], f: &mut Finder) {
+    for (k, v) in f.values.iter_mut().enumerate() {
+        *v = value(raw, k);
+    }
+    group_values(f);
+    f.earlier.fill(0);
+    let mut group = GROUPS;
+    for (a, &v) in f.moved.iter().enumerate() {
+        let hash = mix_value(0, v);
+        if hash as usize % GROUPS != group {
+            group = hash as usize % GROUPS;
+            f.heads.fill(0);
+        }
+        let home = spread(hash, f.heads.len());
+        let mut cursor = f.heads[home] as usize;
+        while cursor != 0 && f.moved[cursor - 1] != v {
+            cursor = f.next[cursor - 1] as usize;
+        }
+        if cursor != 0 {
+            f.earlier[f.order[a] as usize] = f.order[cursor - 1] + 1;
+        } else {
+            f.next[a] = f.heads[home];
+            f.heads[home] = a as u32 + 1;
+        }
+    }
 }
 
 fn encode(raw: &[u8], shape: &Shape, s: &mut Scratch, out: &mut [u8]) -> usize {
     let blocks: usize = shape.counts().iter().product();
     put_word(out, 0, 1);
     let out = &mut out[4..];
+    let single = s.voxels.len() == 1;
+    if single {
+        find_earlier(raw, &mut s.finder);
+    }
     s.heads.fill(0);
     let mut at = 8 * blocks;
     for k in 0..blocks {
-        if k % AHEAD == 0 && s.voxels.len() == 1 {
-            black_box(sum_heads(raw, k, &s.heads));
-        }
         let block = shape.place(k);
         let (first, _) = block;
         let begin = (first[2] * shape.size[1] + first[1]) * shape.size[0] + first[0];
@@ -195,22 +280,20 @@ fn encode(raw: &[u8], shape: &Shape, s: &mut Scratch, out: &mut [u8]) -> usize {
         s.at[k] = end as u32;
         s.lens[k] = count as u32;
         let hash = hash_table(table, s.heads.len());
-        let mut cursor = s.heads[hash] as usize;
-        while cursor != 0 {
-            let j = cursor - 1;
-            let other = s.at[j] as usize;
-            if s.lens[j] == count as u32 && out[other..other + 8 * count] == out[end..end + 8 * count] {
-                break;
-            }
-            cursor = s.next[j] as usize;
-        }
+        let cursor = if single {
+            s.finder.earlier[k] as usize
+        } else {
+            find_table_again(s, out, hash, end, count)
+        };
         let values = at;
         if cursor != 0 {
             s.at[k] = s.at[cursor - 1];
             at = end;
         } else {
-            s.next[k] = s.heads[hash];
-            s.heads[hash] = k as u32 + 1;
+            if !single {
+                s.next[k] = s.heads[hash];
+                s.heads[hash] = k as u32 + 1;
+            }
             at = end + 8 * count;
         }
         put_word(out, 8 * k, s.at[k] / 4 | (bits as u32) << 24);

@@ -17,6 +17,7 @@ pub mod Indexed
 pub mod Judged
 pub mod Limits
 pub mod Lines
+pub mod Members
 pub mod Numbered
 pub mod Offsets
 pub mod Owners
@@ -25,9 +26,11 @@ pub mod Packs
 pub mod Places
 pub mod Planes
 pub mod Reserves
+pub mod Rooms
 pub mod Rowwise
 pub mod Settling
 pub mod Shapes
+pub mod Singles
 pub mod Small
 pub mod Sound
 pub mod Tables

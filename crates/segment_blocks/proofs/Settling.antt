@@ -11,9 +11,10 @@ use Rattle.vol_spec.specs.Cut.{bytes_of}
 use Rattle.vol_spec.specs.SegSizes.{SegSizes, width_of}
 use Rattle.vol_spec.specs.SegWritten.{owner, packed_len, places, same, table, table_bytes, table_len, table_place, values_place}
 use Rattle.segment_blocks.specs.Placed.{IsIndex}
-use Rattle.segment_blocks.specs.Stored.{AreStored, Candidate, HasTables, hash_at}
+use Rattle.segment_blocks.specs.Stored.{AreStored, Candidate, HasTables, hash_at, indexed}
 use Rattle.segment_blocks.proofs.Equal.{same_is}
 use Rattle.segment_blocks.proofs.Indexed.{skipped}
+use Rattle.segment_blocks.proofs.Members.{indexed_places}
 use Rattle.segment_blocks.proofs.Owners.{first_passes, none_passes}
 use Rattle.segment_blocks.proofs.VoxelSteps.{either}
 
@@ -157,7 +158,7 @@ stored_more s raw c out at at' lens lens' k h x new = record {
 
 pub tables_more : (s : SegSizes) (raw : List ℕ) (c : ℕ) (out at at' lens lens' heads heads' next next' : List ℕ) (k : ℕ) → HasTables s raw c out at lens heads next k → Extends at at' lens lens' k → Candidate s raw c out k (slice_index at' k) (slice_index lens' k)
     → slice_index at' k ≡ 4 * table_place s raw c k → slice_index at' k + width_of s.wide * slice_index lens' k ≤ 4 * values_place s raw c (k + 1)
-    → IsIndex (hash_at s raw c (length heads')) (places s raw c) heads' next' (k + 1) → HasTables s raw c out at' lens' heads' next' (k + 1)
+    → IsIndex (hash_at s raw c (length heads')) (indexed s raw c) heads' next' (k + 1) → HasTables s raw c out at' lens' heads' next' (k + 1)
 tables_more s raw c out at at' lens lens' heads heads' next next' k h x new spot low index = record {
   stored = stored_more s raw c out at at' lens lens' k h.stored x new;
   low = up_to (λ j. slice_index at' j + width_of s.wide * slice_index lens' j ≤ 4 * values_place s raw c (k + 1)) k
@@ -234,11 +235,11 @@ shared_tables s raw c out at at' lens lens' heads next k j n h lj placed here x 
     (candidate_at s raw c out k (slice_index at' k) (slice_index at j) (slice_index lens' k) n ea el (borrowed s raw c out at lens heads next k j n h lj e en))
     (ea ∙ h.spots j lj ∙ ap (λ q. 4 * q) ends.0)
     (subst (λ q. q + width_of s.wide * slice_index lens' k ≤ 4 * values_place s raw c (k + 1)) (sym ea) (subst (λ q. slice_index at j + width_of s.wide * q ≤ 4 * values_place s raw c (k + 1)) (sym el) (omega (arith, low, ends.1))))
-    (skipped (hash_at s raw c (length heads)) (places s raw c) heads next k h.index (λ t. let p = placed_is s raw c k t in omega (arith, p, o)))
+    (skipped (hash_at s raw c (length heads)) (indexed s raw c) heads next k h.index (λ t. let p = placed_is s raw c k (indexed_places s raw c k t) in omega (arith, p, o)))
 
 pub placed_tables : (s : SegSizes) (raw : List ℕ) (c : ℕ) (out at at' lens lens' heads heads' next next' : List ℕ) (k a n : ℕ) → HasTables s raw c out at lens heads next k → owner s raw c k ≡ k
     → Extends at at' lens lens' k → slice_index at' k ≡ a → slice_index lens' k ≡ n → Candidate s raw c out k a n → a ≡ 4 * (values_place s raw c k + packed_len s raw c k)
-    → IsIndex (hash_at s raw c (length heads')) (places s raw c) heads' next' (k + 1) → HasTables s raw c out at' lens' heads' next' (k + 1)
+    → IsIndex (hash_at s raw c (length heads')) (indexed s raw c) heads' next' (k + 1) → HasTables s raw c out at' lens' heads' next' (k + 1)
 placed_tables s raw c out at at' lens lens' heads heads' next next' k a n h o x ea el new spot index =
     let ends = placed_ends s raw c k a n o spot new.len in
     tables_more s raw c out at at' lens lens' heads heads' next next' k h x

@@ -6,6 +6,7 @@ pub mod Row
 pub mod Reserved
 pub mod Rooms
 pub mod Shape
+pub mod Singles
 pub mod Stored
 pub mod Voxels
 pub mod Whole

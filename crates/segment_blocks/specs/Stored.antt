@@ -1,5 +1,5 @@
 -- The tables of a channel's first blocks, where their bytes are.
-use Rattle.std.specs.Prelude.{◌≡◌, ℕ, ◌+◌, ◌*◌, ◌<◌, ◌≤◌, ◌^◌, ◌++◌, List, length, slice_index, take, drop, flat_map}
+use Rattle.std.specs.Prelude.{◌≡◌, ◌&&◌, not, Bool, ℕ, ◌+◌, ◌*◌, ◌<◌, ◌≤◌, ◌^◌, ◌++◌, List, length, slice_index, take, drop, flat_map}
 use Rattle.vol_spec.specs.Cut.{bytes_of}
 use Rattle.vol_spec.specs.SegSizes.{SegSizes}
 use Rattle.vol_spec.specs.SegSizes.{width_of}
@@ -7,6 +7,7 @@ use Rattle.vol_spec.specs.SegBlocks.{block_count}
 use Rattle.vol_spec.specs.SegWritten.{block_bits, packed_bytes, places, table, table_bytes, table_place, values_place}
 use Rattle.segment_blocks.specs.declared.room.Room.{Room}
 use Rattle.segment_blocks.specs.Placed.{IsIndex}
+use Rattle.segment_blocks.specs.Singles.{is_single}
 use Rattle.std.specs.List.{range_with_len}
 use Rattle.segment_blocks.specs.Hashes.{hash_of}
 
@@ -27,12 +28,16 @@ pub record Candidate (s : SegSizes) (raw : List ℕ) (c : ℕ) (out : List ℕ) 
   pub here : take (width_of s.wide * n) (drop a out) ≡ flat_map (bytes_of (width_of s.wide)) (table s raw c k)
   pub narrow : (i : ℕ) → i < length (table s raw c k) → slice_index (table s raw c k) i < 256 ^ width_of s.wide
 
+-- a block's table is in the index where no earlier block has it and blocks have more than one voxel
+abbrev pub indexed : SegSizes → List ℕ → ℕ → ℕ → Bool
+indexed s raw c j = not (is_single s) && places s raw c j
+
 -- the tables of a channel's first blocks: their bytes, before those of block k; where they are; and the index of those that are written
 pub record HasTables (s : SegSizes) (raw : List ℕ) (c : ℕ) (out at lens heads next : List ℕ) (k : ℕ) : Type 0 where
   pub stored : AreStored s raw c out at lens k
   pub low : (j : ℕ) → j < k → slice_index at j + width_of s.wide * slice_index lens j ≤ 4 * values_place s raw c k
   pub spots : (j : ℕ) → j < k → slice_index at j ≡ 4 * table_place s raw c j
-  pub index : IsIndex (hash_at s raw c (length heads)) (places s raw c) heads next k
+  pub index : IsIndex (hash_at s raw c (length heads)) (indexed s raw c) heads next k
 
 -- the words of the headers of the first blocks
 pub record HasHeaders (s : SegSizes) (raw : List ℕ) (c : ℕ) (headers : List ℕ) (k : ℕ) : Type 0 where

@@ -1,10 +1,10 @@
 //! A number that equal tables share.
 ghost use Rattle.std.specs.Prelude.{[], ◌∷◌, ◌≡◌, ◌+◌, ◌*◌, ◌^◌, ◌<◌, ◌≤◌, ◌↔◌, ℕ, length, take, drop, IsTrue, MatchOption};
 ghost use Rattle.segment_blocks.specs.Hashes.{mixed, hash_of, spread};
-ghost use Rattle.segment_blocks.specs.Stored.{AreStored, hash_at};
+ghost use Rattle.segment_blocks.specs.Stored.{AreStored, hash_at, indexed};
 ghost use Rattle.segment_blocks.specs.Placed.{IsIndex};
 ghost use Rattle.vol_spec.specs.SegShapes.{sizes_of};
-ghost use Rattle.vol_spec.specs.SegWritten.{table, same, places};
+ghost use Rattle.vol_spec.specs.SegWritten.{table, same};
 
 use crate::word::find_width;
 use vol_spec::SegShape;
@@ -25,17 +25,6 @@ fn find_home(h: u64, places: usize) -> usize
     ensures below { result < places }
 {
     (((h >> 32) * places as u64) >> 32) as usize
-}
-
-/// The hash of a table of one value, below `places`.
-#[tactic(auto, unfolding(crate::specs::Hashes::hash_of))]
-pub(crate) fn hash_value(value: u64, places: usize) -> usize
-    requires some { 0 < places }
-    requires few { places < 2 ^ 32 }
-    ensures value { result ≡ hash_of (value ∷ []) places }
-    ensures below { result < places }
-{
-    find_home(mix(0, value), places)
 }
 
 /// The hash of a table, below `places`.
@@ -100,14 +89,14 @@ pub(crate) fn find_owner(
     k: usize,
 ) -> Option<usize>
     requires stored { AreStored (sizes_of shape.now) raw.now c known.now.bytes.now known.now.at.now known.now.lens.now (k + 1) }
-    requires index { IsIndex (hash_at (sizes_of shape.now) raw.now c (length known.now.heads.now)) (places (sizes_of shape.now) raw.now c) known.now.heads.now known.now.next.now k }
+    requires index { IsIndex (hash_at (sizes_of shape.now) raw.now c (length known.now.heads.now)) (indexed (sizes_of shape.now) raw.now c) known.now.heads.now known.now.next.now k }
     requires hash { hash ≡ hash_at (sizes_of shape.now) raw.now c (length known.now.heads.now) k }
     requires heads { hash < length known.now.heads.now }
     requires next { k < length known.now.next.now }
     requires at { k < length known.now.at.now }
     requires lens { k < length known.now.lens.now }
 
-    ensures { MatchOption result ((j : ℕ) → j < k → IsTrue (places (sizes_of shape.now) raw.now c j) → IsTrue (same (table (sizes_of shape.now) raw.now c j) (table (sizes_of shape.now) raw.now c k)) → ⊥) (λ j. (j < k) × IsTrue (places (sizes_of shape.now) raw.now c j) × IsTrue (same (table (sizes_of shape.now) raw.now c j) (table (sizes_of shape.now) raw.now c k))) }
+    ensures { MatchOption result ((j : ℕ) → j < k → IsTrue (indexed (sizes_of shape.now) raw.now c j) → IsTrue (same (table (sizes_of shape.now) raw.now c j) (table (sizes_of shape.now) raw.now c k)) → ⊥) (λ j. (j < k) × IsTrue (indexed (sizes_of shape.now) raw.now c j) × IsTrue (same (table (sizes_of shape.now) raw.now c j) (table (sizes_of shape.now) raw.now c k))) }
 {
     let mut cursor = known.heads[hash] as usize;
     while cursor != 0 {
@@ -130,14 +119,14 @@ pub(crate) fn add_owner(
     hash: usize,
     k: usize,
 )
-    requires index { IsIndex (hash_at (sizes_of _shape.now) _raw.now _c (length heads.old)) (places (sizes_of _shape.now) _raw.now _c) heads.old next.old k }
+    requires index { IsIndex (hash_at (sizes_of _shape.now) _raw.now _c (length heads.old)) (indexed (sizes_of _shape.now) _raw.now _c) heads.old next.old k }
     requires some { 0 < length heads.old }
     requires hash { hash ≡ hash_at (sizes_of _shape.now) _raw.now _c (length heads.old) k }
     requires heads { hash < length heads.old }
     requires next { k < length next.old }
     requires small { k + 1 < 2 ^ 32 }
-    requires placed { IsTrue (places (sizes_of _shape.now) _raw.now _c k) }
-    ensures { IsIndex (hash_at (sizes_of _shape.now) _raw.now _c (length heads.old)) (places (sizes_of _shape.now) _raw.now _c) heads.new next.new (k + 1) }
+    requires placed { IsTrue (indexed (sizes_of _shape.now) _raw.now _c k) }
+    ensures { IsIndex (hash_at (sizes_of _shape.now) _raw.now _c (length heads.old)) (indexed (sizes_of _shape.now) _raw.now _c) heads.new next.new (k + 1) }
 {
     next[k] = heads[hash];
     heads[hash] = (k + 1) as u32;

@@ -2,17 +2,18 @@
 //! compressed_segmentation encoding).
 #![tactic(auto)]
 
-mod ahead;
 mod append;
 mod block;
 mod hashes;
 mod header;
+mod known;
 mod locate;
 mod pack;
 mod reading;
 mod room;
 mod row;
 mod scratch;
+mod single;
 mod table;
 #[cfg(test)]
 mod tests;

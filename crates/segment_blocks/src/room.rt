@@ -2,7 +2,7 @@
 
 /// The values of a block with its padding, and its table; an index of the written tables, with one
 /// place for each hash and one for each block; of each block where its table is, in bytes, how many
-/// entries that has, and the two words of the header; and what reading ahead came to, which tells nothing.
+/// entries that has, and the two words of the header.
 #[derive(Drop)]
 pub(crate) struct Room {
     pub voxels: Vec<u64>,
@@ -12,5 +12,4 @@ pub(crate) struct Room {
     pub at: Vec<u32>,
     pub lens: Vec<u32>,
     pub headers: Vec<u32>,
-    pub near: u32,
 }

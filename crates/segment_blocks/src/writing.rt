@@ -13,15 +13,17 @@ ghost use Rattle.vol_spec.specs.SegWritten.{channel_bytes, channel_start, packed
 ghost use Rattle.segment_blocks.specs.Reserved.{sizes_for};
 ghost use Rattle.segment_blocks.specs.Rooms.{IsRoom, SameRoom, Serves};
 ghost use Rattle.segment_blocks.specs.Shape.{padded};
+ghost use Rattle.segment_blocks.specs.Singles.{IsSingles, KnowsEarlier, SameSingles};
 ghost use Rattle.segment_blocks.specs.Stored.{Candidate, HasTables, IsBegun};
 
-use crate::ahead::read_ahead;
 use crate::append::{put_values, put_words};
-use crate::hashes::{Known, add_owner, find_owner, hash_table};
+use crate::hashes::{Known, hash_table};
+use crate::known::{add_block, find_equal};
 use crate::locate::{count_blocks, find_block};
 use crate::pack::{find_bits, put_places};
 use crate::room::Room;
 use crate::scratch::Scratch;
+use crate::single::{Singles, find_singles};
 use crate::voxels::tabulate;
 use crate::word::find_width;
 use vol_spec::SegShape;
@@ -72,10 +74,12 @@ fn settle(
     shape: &SegShape,
     c: u32,
     k: usize,
+    earlier: &[u32],
     room: &mut Room,
     out: &[u8],
     ends: Ends,
 ) -> usize
+    requires earlier { KnowsEarlier (sizes_of shape.now) raw.now c earlier.now }
     requires block { k < block_count (sizes_of shape.now) }
     requires channel { c < shape.now.channels }
     requires room { IsRoom (sizes_of shape.now) room.old }
@@ -99,13 +103,13 @@ fn settle(
         heads: &room.heads,
         next: &room.next,
     };
-    match find_owner(raw, shape, c, &known, hash, k) {
+    match find_equal(raw, shape, c, earlier, &known, hash, k) {
         Some(j) => {
             room.at[k] = room.at[j];
             ends.indices
         }
         None => {
-            add_owner(raw, shape, c, &mut room.heads, &mut room.next, hash, k);
+            add_block(raw, shape, c, &mut room.heads, &mut room.next, hash, k);
             ends.indices + find_width(shape.wide) * ends.entries
         }
     }
@@ -128,10 +132,12 @@ fn encode_block(
     shape: &SegShape,
     c: u32,
     k: usize,
+    earlier: &[u32],
     room: &mut Room,
     out: &mut [u8],
     at: usize,
 ) -> usize
+    requires earlier { KnowsEarlier (sizes_of shape.now) raw.now c earlier.now }
     requires block { k < block_count (sizes_of shape.now) }
     requires channel { c < shape.now.channels }
     requires raw { length raw.now ≡ raw_len (sizes_of shape.now) }
@@ -145,7 +151,7 @@ fn encode_block(
     ensures same { SameRoom room.old room.new }
 {
     let ends = write_block(raw, shape, c, k, &mut room.voxels, &mut room.table, out, at);
-    let next = settle(raw, shape, c, k, room, out, ends);
+    let next = settle(raw, shape, c, k, earlier, room, out, ends);
     let table = room.at[k] / 4;
     let bits = find_bits(ends.entries);
     put_header(&mut room.headers, k, table, bits, (at / 4) as u32);
@@ -165,9 +171,11 @@ fn encode_blocks(
     shape: &SegShape,
     c: u32,
     blocks: usize,
+    singles: &mut Singles,
     room: &mut Room,
     out: &mut [u8],
 ) -> usize
+    requires singles { IsSingles (sizes_of shape.now) singles.old }
     requires blocks { blocks ≡ block_count (sizes_of shape.now) }
     requires channel { c < shape.now.channels }
     requires raw { length raw.now ≡ raw_len (sizes_of shape.now) }
@@ -177,18 +185,27 @@ fn encode_blocks(
     ensures at { result ≡ 4 * values_place (sizes_of shape.now) raw.now c (block_count (sizes_of shape.now)) }
     ensures begun { IsBegun (sizes_of shape.now) raw.now c out.new room.new (block_count (sizes_of shape.now)) }
     ensures same { SameRoom room.old room.new }
+    ensures singles { SameSingles singles.old singles.new }
 {
+    find_singles(raw, shape, c, singles);
     clear_heads(&mut room.heads);
     let mut at = 8 * blocks;
     for k in 0..blocks {
-        read_ahead(raw, shape, c, k, &room.heads, &mut room.near);
-        at = encode_block(raw, shape, c, k, room, out, at);
+        at = encode_block(raw, shape, c, k, &singles.earlier, room, out, at);
     }
     at
 }
 
 // Channel c in front of `out`; tells its length.
-fn encode_channel(raw: &[u8], shape: &SegShape, c: u32, room: &mut Room, out: &mut [u8]) -> usize
+fn encode_channel(
+    raw: &[u8],
+    shape: &SegShape,
+    c: u32,
+    singles: &mut Singles,
+    room: &mut Room,
+    out: &mut [u8],
+) -> usize
+    requires singles { IsSingles (sizes_of shape.now) singles.old }
     requires channel { c < shape.now.channels }
     requires raw { length raw.now ≡ raw_len (sizes_of shape.now) }
     requires limit { padded (sizes_of shape.now) ≤ 2 ^ 22 }
@@ -197,9 +214,10 @@ fn encode_channel(raw: &[u8], shape: &SegShape, c: u32, room: &mut Room, out: &m
     ensures len { result ≡ 4 * values_place (sizes_of shape.now) raw.now c (block_count (sizes_of shape.now)) }
     ensures bytes { take result out.new ≡ channel_bytes (sizes_of shape.now) raw.now c }
     ensures same { SameRoom room.old room.new }
+    ensures singles { SameSingles singles.old singles.new }
 {
     let blocks = count_blocks(shape);
-    let len = encode_blocks(raw, shape, c, blocks, room, out);
+    let len = encode_blocks(raw, shape, c, blocks, singles, room, out);
     put_words(&mut out[..8 * blocks], &room.headers[..2 * blocks]);
     len
 }
@@ -208,10 +226,12 @@ fn encode_channel(raw: &[u8], shape: &SegShape, c: u32, room: &mut Room, out: &m
 fn encode_channels(
     raw: &[u8],
     shape: &SegShape,
+    singles: &mut Singles,
     room: &mut Room,
     starts: &mut [u32],
     out: &mut [u8],
 ) -> usize
+    requires singles { IsSingles (sizes_of shape.now) singles.old }
     requires raw { length raw.now ≡ raw_len (sizes_of shape.now) }
     requires limit { padded (sizes_of shape.now) * shape.now.channels ≤ 2 ^ 22 }
     requires room { IsRoom (sizes_of shape.now) room.old }
@@ -221,11 +241,12 @@ fn encode_channels(
     ensures bytes { drop (4 * shape.now.channels) (take result out.new) ≡ flat_map (channel_bytes (sizes_of shape.now) raw.now) (range_with_len 0 shape.now.channels) }
     ensures starts { (c : ℕ) → c < shape.now.channels → slice_index starts.new c ≡ channel_start (sizes_of shape.now) raw.now c }
     ensures same { SameRoom room.old room.new }
+    ensures singles { SameSingles singles.old singles.new }
 {
     let mut at = 4 * shape.channels as usize;
     for c in 0..shape.channels {
         starts[c as usize] = (at / 4) as u32;
-        at += encode_channel(raw, shape, c, room, &mut out[at..]);
+        at += encode_channel(raw, shape, c, singles, room, &mut out[at..]);
     }
     at
 }
@@ -248,7 +269,14 @@ pub fn encode(raw: &[u8], shape: &SegShape, scratch: &mut Scratch, out: &mut [u8
     ensures scratch { sizes_for scratch.new ≡ sizes_for scratch.old }
 {
     let channels = shape.channels as usize;
-    let len = encode_channels(raw, shape, &mut scratch.room, &mut scratch.starts, out);
+    let len = encode_channels(
+        raw,
+        shape,
+        &mut scratch.singles,
+        &mut scratch.room,
+        &mut scratch.starts,
+        out,
+    );
     put_words(&mut out[..4 * channels], &scratch.starts[..channels]);
     len
 }

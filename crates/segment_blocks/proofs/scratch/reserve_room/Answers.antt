@@ -3,8 +3,8 @@ use Rattle.vol_spec.specs.SegShapes.{sizes_of}
 use Rattle.segment_blocks.proofs.Shapes.{facts, limits, some_count}
 use Rattle.segment_blocks.proofs.scratch.reserve_room.Goals as goal
 
-pub overflow_mul-blocks : goal.overflow_mul-blocks
-overflow_mul-blocks c =
+pub overflow_mul-heads : goal.overflow_mul-heads
+overflow_mul-heads c =
     let f = facts (sizes_of c.args.shape.now) (limits c.args.shape.now) in
     omega (arith, c.count_blocks-blocks.ensures, f.blocks)
 

@@ -16,6 +16,7 @@ use Rattle.segment_blocks.proofs.Back.{table_fits}
 use Rattle.segment_blocks.proofs.Bodies.{over_front}
 use Rattle.segment_blocks.proofs.Channels.{seg_bytes_is, start_le, start_low, starts_bytes}
 use Rattle.segment_blocks.proofs.Reserves.{serves_room}
+use Rattle.segment_blocks.proofs.Rooms.{kept_singles, serves_singles}
 use Rattle.segment_blocks.proofs.Shapes.{limits, padded_is}
 use Rattle.segment_blocks.proofs.Sound.{is_sound, reads_back}
 use Rattle.segment_blocks.proofs.writing.encode.Goals as goal
@@ -25,6 +26,18 @@ encode_channels-len-requires-clause-limit c = let e = padded_is (sizes_of c.args
 
 pub encode_channels-len-requires-clause-room : goal.encode_channels-len-requires-clause-room
 encode_channels-len-requires-clause-room c = serves_room (sizes_for c.args.scratch.now) (sizes_of c.args.shape.now) c.args.scratch.now.room (limits c.args.shape.now) c.requires.scratch c.args.scratch.now.room_ok
+
+pub encode_channels-len-requires-clause-singles : goal.encode_channels-len-requires-clause-singles
+encode_channels-len-requires-clause-singles c = serves_singles (sizes_for c.args.scratch.now) (sizes_of c.args.shape.now) c.args.scratch.now.singles (limits c.args.shape.now) c.requires.scratch c.args.scratch.now.singles_ok
+
+pub invariant_of-scratch-clause-singles_ok : goal.invariant_of-scratch-clause-singles_ok
+invariant_of-scratch-clause-singles_ok c = kept_singles (sizes_for c.args.scratch.now) c.args.scratch.now.singles c.encode_channels-len.new.singles c.args.scratch.now.singles_ok c.encode_channels-len.ensures.singles
+
+pub invariant_of-scratch-clause-starts_ok : goal.invariant_of-scratch-clause-starts_ok
+invariant_of-scratch-clause-starts_ok c =
+    let starts : List ℕ = c.encode_channels-len.new.starts in
+    let items : take c.args.scratch.now.starts.len (starts ++ drop (length starts) c.args.scratch.now.starts.items) ≡ starts = take_at starts _ _ (omega (arith, c.encode_channels-len.auto.starts, c.deref_mut.ensures.len)) in
+    omega (arith, ap length items, c.encode_channels-len.auto.starts, c.args.scratch.now.starts_ok, ap length c.deref_mut.ensures.value)
 
 pub encode_channels-len-requires-clause-out : goal.encode_channels-len-requires-clause-out
 encode_channels-len-requires-clause-out c = let e = padded_is (sizes_of c.args.shape.now) in omega (arith, e, c.requires.out)

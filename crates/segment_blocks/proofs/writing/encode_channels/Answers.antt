@@ -5,6 +5,7 @@ use Rattle.vol_spec.specs.SegWritten.{channel_bytes}
 use Rattle.segment_blocks.specs.Shape.{padded}
 use Rattle.segment_blocks.proofs.Channels.{channel_more, channels_first, front_of, same_more, start_first, start_low, start_more, start_room, starts_more}
 use Rattle.segment_blocks.proofs.Offsets.{channel_room}
+use Rattle.segment_blocks.proofs.Rooms.{kept_singles, same_self, same_singles}
 use Rattle.segment_blocks.proofs.Shapes.{limits, some_voxels}
 use Rattle.segment_blocks.proofs.writing.encode_channels.Goals as goal
 use borrow.Rule.Slice.PartMut.{post_of}
@@ -15,6 +16,7 @@ loop-c-init c = (
   channels_first (4 * c.args.shape.now.channels) c.args.out.now,
   (λ d l. absurd (omega arith)),
   record { voxels = refl; table = refl; heads = refl; next = refl; at = refl; lens = refl; headers = refl },
+  same_self c.args.singles.now,
 )
 
 pub overflow_cast-starts : goal.overflow_cast-starts
@@ -76,4 +78,8 @@ loop-c-preserved c =
       channel_more s c.args.raw.now c.loop-c.c at n out (new ++ post) (omega (arith, r, c.loop-c.invariant.0, c.loop-c.auto.out)) (omega (arith, low, c.loop-c.invariant.0)) here c.loop-c.invariant.1,
       starts_more s c.args.raw.now c.loop-c.starts c.loop-c.c (at / 4) (omega (arith, c.loop-c.auto.starts, c.requires.starts, c.loop-c-test.true)) (omega (arith, c.loop-c.invariant.0)) c.loop-c.invariant.2,
       same_more c.args.room.now c.loop-c.room c.encode_channel-at.new.room c.loop-c.invariant.3 c.encode_channel-at.ensures.same,
+      same_singles c.args.singles.now c.loop-c.singles c.encode_channel-at.new.singles c.loop-c.invariant.4 c.encode_channel-at.ensures.singles,
     )
+
+pub encode_channel-at-requires-clause-singles : goal.encode_channel-at-requires-clause-singles
+encode_channel-at-requires-clause-singles c = kept_singles (sizes_of c.args.shape.now) c.args.singles.now c.loop-c.singles c.requires.singles c.loop-c.invariant.4

@@ -1,9 +1,9 @@
 use Rattle.std.proofs.Common.{arith, ◌≡◌, ◌+◌, ◌*◌, ◌∙◌, ap, sym, subst, ℕ, List, length, length-set, set, slice_index, take, drop, ◌++◌}
 use Rattle.std.proofs.lemmas.List.{get_or_default, take_at}
 use Rattle.vol_spec.specs.SegShapes.{sizes_of}
-use Rattle.vol_spec.specs.SegWritten.{owner, places}
+use Rattle.vol_spec.specs.SegWritten.{owner}
 use Rattle.segment_blocks.specs.Placed.{IsIndex}
-use Rattle.segment_blocks.specs.Stored.{AreStored, HasTables, hash_at}
+use Rattle.segment_blocks.specs.Stored.{AreStored, HasTables, hash_at, indexed}
 use Rattle.segment_blocks.proofs.Offsets.{offsets_fit, table_le}
 use Rattle.segment_blocks.proofs.Settling.{candidate_stored, extends_set, extends_twice, is_placed, owner_found, owner_none, placed_ends, placed_is, placed_tables, set_below, set_here, shared_ends, shared_tables}
 use Rattle.segment_blocks.proofs.Shapes.{facts, limits, some_voxels}
@@ -22,27 +22,27 @@ overflow_cast-ends-2 c =
     let f = facts s (limits c.args.shape.now) in
     omega (arith, f.voxels, table_le s c.args.raw.now c.args.c c.args.k, c.requires.candidate.len)
 
-pub find_owner-requires-clause-stored : goal.find_owner-requires-clause-stored
-find_owner-requires-clause-stored c =
+pub find_equal-requires-clause-stored : goal.find_equal-requires-clause-stored
+find_equal-requires-clause-stored c =
     let s = sizes_of c.args.shape.now in
     let base : AreStored s c.args.raw.now c.args.c c.args.out.now (set c.args.room.now.at.items c.args.k c.args.ends.indices) (set c.args.room.now.lens.items c.args.k c.args.ends.entries) (c.args.k + 1) =
     candidate_stored s c.args.raw.now c.args.c c.args.out.now c.args.room.now.at.items c.args.room.now.lens.items c.args.room.now.heads.items c.args.room.now.next.items c.args.k c.args.ends.indices c.args.ends.entries c.requires.tables (omega (arith, c.requires.room.at, c.requires.block)) (omega (arith, c.requires.room.lens, c.requires.block)) c.requires.candidate in
     subst (λ q. AreStored s c.args.raw.now c.args.c c.args.out.now q c.deref-3.result.now (c.args.k + 1)) (sym c.deref-2.ensures.value)
     (subst (λ q. AreStored s c.args.raw.now c.args.c c.args.out.now (set c.args.room.now.at.items c.args.k c.args.ends.indices) q (c.args.k + 1)) (sym c.deref-3.ensures.value) base)
 
-pub find_owner-requires-clause-heads : goal.find_owner-requires-clause-heads
-find_owner-requires-clause-heads c = omega (arith, c.hash_table-hash.ensures.below, c.deref-4.ensures.len, c.len.ensures)
+pub find_equal-requires-clause-heads : goal.find_equal-requires-clause-heads
+find_equal-requires-clause-heads c = omega (arith, c.hash_table-hash.ensures.below, c.deref-4.ensures.len, c.len.ensures)
 
-pub add_owner-requires-clause-heads : goal.add_owner-requires-clause-heads
-add_owner-requires-clause-heads c = omega (arith, c.hash_table-hash.ensures.below, c.deref_mut.ensures.len, c.len.ensures)
+pub add_block-requires-clause-heads : goal.add_block-requires-clause-heads
+add_block-requires-clause-heads c = omega (arith, c.hash_table-hash.ensures.below, c.deref_mut.ensures.len, c.len.ensures)
 
-pub add_owner-requires-clause-small : goal.add_owner-requires-clause-small
-add_owner-requires-clause-small c =
+pub add_block-requires-clause-small : goal.add_block-requires-clause-small
+add_block-requires-clause-small c =
     let f = facts (sizes_of c.args.shape.now) (limits c.args.shape.now) in
     omega (arith, c.requires.block, f.blocks)
 
-pub add_owner-requires-clause-placed : goal.add_owner-requires-clause-placed
-add_owner-requires-clause-placed c =
+pub add_block-requires-clause-placed : goal.add_block-requires-clause-placed
+add_block-requires-clause-placed c =
     let s = sizes_of c.args.shape.now in
     is_placed s c.args.raw.now c.args.c c.args.k (owner_none s c.args.raw.now c.args.c c.args.k c.in-None.ensures)
 
@@ -87,11 +87,11 @@ returns-in-None-clause-tables c =
     let x : ℕ = c.args.ends.indices in
     let n : ℕ = c.args.ends.entries in
     let o = owner_none s c.args.raw.now c.args.c k c.in-None.ensures in
-    let eh : take c.args.room.now.heads.len (c.add_owner.new.heads ++ drop (length c.add_owner.new.heads) heads) ≡ c.add_owner.new.heads = take_at c.add_owner.new.heads _ _ (omega (arith, c.add_owner.auto.heads, c.deref_mut.ensures.len)) in
-    let en : take c.args.room.now.next.len (c.add_owner.new.next ++ drop (length c.add_owner.new.next) next) ≡ c.add_owner.new.next = take_at c.add_owner.new.next _ _ (omega (arith, c.add_owner.auto.next, c.deref_mut-in-None.ensures.len)) in
-    let index : IsIndex (hash_at s c.args.raw.now c.args.c (length c.add_owner.new.heads)) (places s c.args.raw.now c.args.c) c.add_owner.new.heads c.add_owner.new.next (k + 1) =
-    subst (λ q. IsIndex (hash_at s c.args.raw.now c.args.c q) (places s c.args.raw.now c.args.c) c.add_owner.new.heads c.add_owner.new.next (k + 1)) (sym c.add_owner.auto.heads) c.add_owner.ensures in
-    subst (λ q. HasTables s c.args.raw.now c.args.c c.args.out.now (set at k x) (set lens k n) q (take c.args.room.now.next.len (c.add_owner.new.next ++ drop (length c.add_owner.new.next) next)) (k + 1)) (sym eh)
-    (subst (λ q. HasTables s c.args.raw.now c.args.c c.args.out.now (set at k x) (set lens k n) c.add_owner.new.heads q (k + 1)) (sym en)
-    (placed_tables s c.args.raw.now c.args.c c.args.out.now at (set at k x) lens (set lens k n) heads c.add_owner.new.heads next c.add_owner.new.next k x n c.requires.tables o (extends_set at lens k x n)
+    let eh : take c.args.room.now.heads.len (c.add_block.new.heads ++ drop (length c.add_block.new.heads) heads) ≡ c.add_block.new.heads = take_at c.add_block.new.heads _ _ (omega (arith, c.add_block.auto.heads, c.deref_mut.ensures.len)) in
+    let en : take c.args.room.now.next.len (c.add_block.new.next ++ drop (length c.add_block.new.next) next) ≡ c.add_block.new.next = take_at c.add_block.new.next _ _ (omega (arith, c.add_block.auto.next, c.deref_mut-in-None.ensures.len)) in
+    let index : IsIndex (hash_at s c.args.raw.now c.args.c (length c.add_block.new.heads)) (indexed s c.args.raw.now c.args.c) c.add_block.new.heads c.add_block.new.next (k + 1) =
+    subst (λ q. IsIndex (hash_at s c.args.raw.now c.args.c q) (indexed s c.args.raw.now c.args.c) c.add_block.new.heads c.add_block.new.next (k + 1)) (sym c.add_block.auto.heads) c.add_block.ensures in
+    subst (λ q. HasTables s c.args.raw.now c.args.c c.args.out.now (set at k x) (set lens k n) q (take c.args.room.now.next.len (c.add_block.new.next ++ drop (length c.add_block.new.next) next)) (k + 1)) (sym eh)
+    (subst (λ q. HasTables s c.args.raw.now c.args.c c.args.out.now (set at k x) (set lens k n) c.add_block.new.heads q (k + 1)) (sym en)
+    (placed_tables s c.args.raw.now c.args.c c.args.out.now at (set at k x) lens (set lens k n) heads c.add_block.new.heads next c.add_block.new.next k x n c.requires.tables o (extends_set at lens k x n)
     (set_here at k x (omega (arith, c.requires.room.at, c.requires.block))) (set_here lens k n (omega (arith, c.requires.room.lens, c.requires.block))) c.requires.candidate c.requires.indices index))

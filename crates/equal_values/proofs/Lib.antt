@@ -1,0 +1,10 @@
+mod Counts
+mod Firsts
+mod Homes
+mod Indexed
+mod Orderly
+mod Ranges
+mod Sites
+mod Sorted
+mod Walks
+mod Groupwise

@@ -1,0 +1,6 @@
+pub mod Chains
+pub mod Earlier
+pub mod Groups
+pub mod Hashes
+pub mod Orders
+pub mod Reserved

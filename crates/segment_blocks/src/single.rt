@@ -1,0 +1,154 @@
+//! Blocks of one voxel, whose tables have one value.
+ghost use Rattle.std.specs.Prelude.{◌≡◌, ◌≢◌, ◌+◌, ◌*◌, ◌<◌, ◌≤◌, ◌^◌, ◌==◌, ℕ, length, slice_index, take, IfOk, IsTrue, MatchOption};
+ghost use Rattle.equal_values.specs.Earlier as equal;
+ghost use Rattle.equal_values.specs.Earlier.{coded};
+ghost use Rattle.equal_values.specs.Reserved.{most_of};
+ghost use Rattle.vol_spec.specs.Raw.{digit};
+ghost use Rattle.vol_spec.specs.SegBlocks.{block_count, block_voxels, raw_len};
+ghost use Rattle.vol_spec.specs.SegShapes.{sizes_of};
+ghost use Rattle.vol_spec.specs.SegSizes.{width_of};
+ghost use Rattle.vol_spec.specs.SegWritten.{places, same, table};
+ghost use Rattle.segment_blocks.specs.Singles.{HasEarlier, HasPlaces, IsSingles, KnowsEarlier, SameSingles, is_single};
+
+use crate::locate::{count_blocks, count_voxels};
+use crate::word::read_value;
+use equal_values::{Finder, find_earlier};
+use std::alloc::{AllocError, Global};
+use vol_base::OutOfMemory;
+use vol_spec::SegShape;
+
+/// The values of a channel whose blocks have one voxel each, and for each block the first one before it
+/// that has an equal value, and 1, or 0.
+#[derive(Drop)]
+pub(crate) struct Singles {
+    pub values: Vec<u64>,
+    pub finder: Finder,
+    pub earlier: Vec<u32>,
+}
+
+/// Whether each block has one voxel.
+pub(crate) fn test_single(shape: &SegShape) -> bool
+    ensures { result ≡ is_single (sizes_of shape.now) }
+{
+    count_voxels(shape) == 1
+}
+
+fn reserve_values(alloc: Global, blocks: usize) -> Result<Vec<u64>, AllocError>
+    ensures { IfOk result (λ v. length v.items ≡ blocks) }
+{
+    vec![in alloc; 0u64; blocks]
+}
+
+fn reserve_earlier(alloc: Global, blocks: usize) -> Result<Vec<u32>, AllocError>
+    ensures { IfOk result (λ v. length v.items ≡ blocks) }
+{
+    vec![in alloc; 0u32; blocks]
+}
+
+// How many blocks of one voxel a channel has.
+fn count_singles(shape: &SegShape) -> usize
+    ensures few { result ≤ 2 ^ 24 }
+    ensures all { IsTrue (is_single (sizes_of shape.now)) → result ≡ block_count (sizes_of shape.now) }
+{
+    if test_single(shape) {
+        count_blocks(shape)
+    } else {
+        0
+    }
+}
+
+/// Memory for the blocks of a shape; where they have more voxels, for none.
+pub(crate) fn reserve_singles(alloc: Global, shape: &SegShape) -> Result<Singles, OutOfMemory>
+    ensures { IfOk result (IsSingles (sizes_of shape.now)) }
+{
+    let blocks = count_singles(shape);
+    Ok(Singles {
+        values: reserve_values(alloc, blocks).map_err(|_| OutOfMemory)?,
+        finder: Finder::reserve(alloc, blocks)?,
+        earlier: reserve_earlier(alloc, blocks).map_err(|_| OutOfMemory)?,
+    })
+}
+
+// The values from a place on.
+fn fill_values(raw: &[u8], from: usize, wide: bool, values: &mut [u64])
+    requires { width_of wide * (from + length values.old) ≤ length raw.now }
+    ensures { (k : ℕ) → k < length values.new → slice_index values.new k ≡ digit raw.now (width_of wide) (from + k) }
+{
+    for k in 0..values.len() {
+        values[k] = read_value(raw, from + k, wide);
+    }
+}
+
+// So many values from a place on, and of each the first one before it that is equal.
+fn find_in(
+    raw: &[u8],
+    from: usize,
+    wide: bool,
+    count: usize,
+    values: &mut [u64],
+    finder: &mut Finder,
+    earlier: &mut [u32],
+)
+    requires raw { width_of wide * (from + count) ≤ length raw.now }
+    requires values { count ≤ length values.old }
+    requires finder { count ≤ most_of finder.old }
+    requires earlier { count ≤ length earlier.old }
+    requires few { count ≤ 2 ^ 24 }
+    ensures values { (k : ℕ) → k < count → slice_index (take count values.new) k ≡ digit raw.now (width_of wide) (from + k) }
+    ensures earlier { (k : ℕ) → k < count → slice_index earlier.new k ≡ coded (equal.earlier (take count values.new) k) }
+    ensures finder { most_of finder.new ≡ most_of finder.old }
+{
+    fill_values(raw, from, wide, &mut values[..count]);
+    find_earlier(&values[..count], finder, &mut earlier[..count]);
+}
+
+// The earlier blocks of a channel whose blocks have one voxel each.
+fn find_each(raw: &[u8], shape: &SegShape, c: u32, blocks: usize, singles: &mut Singles)
+    requires blocks { blocks ≡ block_count (sizes_of shape.now) }
+    requires single { IsTrue (is_single (sizes_of shape.now)) }
+    requires channel { c < shape.now.channels }
+    requires raw { length raw.now ≡ raw_len (sizes_of shape.now) }
+    requires room { HasPlaces (sizes_of shape.now) singles.old }
+    ensures earlier { HasEarlier (sizes_of shape.now) raw.now c singles.new.earlier.items }
+    ensures same { SameSingles singles.old singles.new }
+{
+    find_in(
+        raw,
+        c as usize * blocks,
+        shape.wide,
+        blocks,
+        &mut singles.values,
+        &mut singles.finder,
+        &mut singles.earlier,
+    );
+}
+
+/// Finds the earlier blocks of a channel, where its blocks have one voxel each.
+pub(crate) fn find_singles(raw: &[u8], shape: &SegShape, c: u32, singles: &mut Singles)
+    requires channel { c < shape.now.channels }
+    requires raw { length raw.now ≡ raw_len (sizes_of shape.now) }
+    requires room { IsSingles (sizes_of shape.now) singles.old }
+    ensures earlier { KnowsEarlier (sizes_of shape.now) raw.now c singles.new.earlier.items }
+    ensures same { SameSingles singles.old singles.new }
+{
+    if test_single(shape) {
+        find_each(raw, shape, c, count_blocks(shape), singles);
+    }
+}
+
+/// The first block before k with the same table as k, if there is one, in a channel of such blocks.
+pub(crate) fn get_earlier(
+    _raw: &[u8],
+    _shape: &SegShape,
+    _c: u32,
+    earlier: &[u32],
+    k: usize,
+) -> Option<usize>
+    requires earlier { HasEarlier (sizes_of _shape.now) _raw.now _c earlier.now }
+    requires block { k < block_count (sizes_of _shape.now) }
+    requires room { block_count (sizes_of _shape.now) ≤ length earlier.now }
+    ensures { MatchOption result ((j : ℕ) → j < k → IsTrue (places (sizes_of _shape.now) _raw.now _c j) → IsTrue (same (table (sizes_of _shape.now) _raw.now _c j) (table (sizes_of _shape.now) _raw.now _c k)) → ⊥) (λ j. (j < k) × IsTrue (places (sizes_of _shape.now) _raw.now _c j) × IsTrue (same (table (sizes_of _shape.now) _raw.now _c j) (table (sizes_of _shape.now) _raw.now _c k))) }
+{
+    let number = earlier[k] as usize;
+    if number == 0 { None } else { Some(number - 1) }
+}
