@@ -4,7 +4,7 @@ use Rattle.std.proofs.lemmas.Bool.{cases_eq}
 use Rattle.equal_values.specs.Chains.{IsIndex, LeadsTo}
 
 -- a higher limit
-further : (hash : ℕ → ℕ) (placed : ℕ → Bool) (h a b cursor : ℕ) → a ≤ b → LeadsTo hash placed h a cursor
+pub further : (hash : ℕ → ℕ) (placed : ℕ → Bool) (h a b cursor : ℕ) → a ≤ b → LeadsTo hash placed h a cursor
     → LeadsTo hash placed h b cursor
 further hash placed h a b cursor ab l = ⊎_elim
     (λ (z : cursor ≡ 0). inl z)

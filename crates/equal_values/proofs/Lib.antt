@@ -1,7 +1,7 @@
 mod Counts
 mod Firsts
-mod Homes
-mod Indexed
+pub mod Homes
+pub mod Indexed
 mod Orderly
 mod Ranges
 mod Sites

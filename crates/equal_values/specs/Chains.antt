@@ -1,5 +1,5 @@
--- An index of the positions whose values stand there for the first time, by a number that equal values share.
--- Place i of heads and next has 0, or a position and 1.
+-- An index of numbered things, by a number that equal ones share. Place i of heads and next has 0, or a thing's number and 1.
+-- Here the things are the positions whose values stand there for the first time.
 use Rattle.std.specs.Prelude.{◌≡◌, ◌⊎◌, ℕ, ◌+◌, ◌*◌, ◌/◌, ◌%◌, ◌^◌, ◌<◌, ◌==◌, ◌&&◌, Bool, IsTrue, List, length, slice_index}
 use Rattle.equal_values.specs.Earlier.{coded, earlier}
 use Rattle.equal_values.specs.Hashes.{group_of, hashed}
@@ -24,12 +24,12 @@ group_at moved a = group_of (slice_index moved a)
 abbrev pub home_at : List ℕ → ℕ → ℕ → ℕ
 home_at moved heads a = spread (hashed (slice_index moved a)) heads
 
--- a number of the index leads to a position below `limit` that is put in and has the hash h, or to none
+-- a number of the index leads to a thing below `limit` that is put in and has the hash h, or to none
 abbrev pub LeadsTo : (ℕ → ℕ) → (ℕ → Bool) → ℕ → ℕ → ℕ → Type 0
 LeadsTo hash placed h limit cursor =
     (cursor ≡ 0) ⊎ ((j : ℕ) × (cursor ≡ j + 1) × (j < limit) × IsTrue (placed j) × (hash j ≡ h))
 
--- the index of the positions below k
+-- the index of those below k
 pub record IsIndex (hash : ℕ → ℕ) (placed : ℕ → Bool) (heads next : List ℕ) (k : ℕ) : Type 0 where
   pub heads_lead : (h : ℕ) → h < length heads → LeadsTo hash placed h k (slice_index heads h)
   pub next_lead : (i : ℕ) → i < k → IsTrue (placed i) → LeadsTo hash placed (hash i) i (slice_index next i)

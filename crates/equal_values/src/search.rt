@@ -1,4 +1,5 @@
-//! The first equal value for each, group by group.
+//! The first equal value for each, group by group. A place is one in the list of values; a position one in the order by
+//! groups.
 ghost use Rattle.std.specs.Prelude.{◌≡◌, ◌+◌, ◌*◌, ◌/◌, ◌^◌, ◌<◌, ◌≤◌, ℕ, length, slice_index, slice_set, IsTrue, max};
 ghost use Rattle.equal_values.specs.Earlier.{earlier as earlier_of, coded};
 ghost use Rattle.equal_values.specs.Orders.{IsOrder};
@@ -89,7 +90,8 @@ fn clear(numbers: &mut [u32])
     numbers.fill(0);
 }
 
-// Puts a number at a place that has 0. Most numbers are 0, and to write them at places far from each other takes time.
+// Puts a number at a place that has 0. Where most values stand once, most numbers are 0, and places far from each other
+// take time to write.
 fn put_number(earlier: &mut [u32], place: usize, number: u32)
     requires within { place < length earlier.old }
     requires free { slice_index earlier.old place ≡ 0 }
@@ -154,7 +156,8 @@ fn search_positions(
     }
 }
 
-/// How many heads the index of a group has, for so many values in all: about two for each value.
+/// How many heads the index of a group has, for so many values in all: about two for each value of a group, where the
+/// groups are alike. The number is for speed alone.
 pub(crate) fn count_heads(values: usize) -> usize
     ensures { result ≡ max (values / 32) 64 }
 {

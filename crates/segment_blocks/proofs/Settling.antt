@@ -10,10 +10,10 @@ use Rattle.std.proofs.lemmas.List.Sums.{sum_by-append, sum_by-cons}
 use Rattle.vol_spec.specs.Cut.{bytes_of}
 use Rattle.vol_spec.specs.SegSizes.{SegSizes, width_of}
 use Rattle.vol_spec.specs.SegWritten.{owner, packed_len, places, same, table, table_bytes, table_len, table_place, values_place}
-use Rattle.segment_blocks.specs.Placed.{IsIndex}
+use Rattle.equal_values.specs.Chains.{IsIndex}
 use Rattle.segment_blocks.specs.Stored.{AreStored, Candidate, HasTables, hash_at, indexed}
 use Rattle.segment_blocks.proofs.Equal.{same_is}
-use Rattle.segment_blocks.proofs.Indexed.{skipped}
+use Rattle.equal_values.proofs.Indexed.{skipped}
 use Rattle.segment_blocks.proofs.Members.{indexed_places}
 use Rattle.segment_blocks.proofs.Owners.{first_passes, none_passes}
 use Rattle.segment_blocks.proofs.VoxelSteps.{either}

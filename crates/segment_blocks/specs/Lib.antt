@@ -1,7 +1,6 @@
 pub mod Filled
 pub mod Hashes
 pub mod Located
-pub mod Placed
 pub mod Row
 pub mod Reserved
 pub mod Rooms

@@ -6,7 +6,7 @@ use Rattle.vol_spec.specs.SegSizes.{width_of}
 use Rattle.vol_spec.specs.SegBlocks.{block_count}
 use Rattle.vol_spec.specs.SegWritten.{block_bits, packed_bytes, places, table, table_bytes, table_place, values_place}
 use Rattle.segment_blocks.specs.declared.room.Room.{Room}
-use Rattle.segment_blocks.specs.Placed.{IsIndex}
+use Rattle.equal_values.specs.Chains.{IsIndex}
 use Rattle.segment_blocks.specs.Singles.{is_single}
 use Rattle.std.specs.List.{range_with_len}
 use Rattle.segment_blocks.specs.Hashes.{hash_of}
@@ -32,7 +32,7 @@ pub record Candidate (s : SegSizes) (raw : List ℕ) (c : ℕ) (out : List ℕ) 
 abbrev pub indexed : SegSizes → List ℕ → ℕ → ℕ → Bool
 indexed s raw c j = not (is_single s) && places s raw c j
 
--- the tables of a channel's first blocks: their bytes, before those of block k; where they are; and the index of those that are written
+-- the tables of a channel's first blocks: their bytes, before those of block k; where they are; and the index of those that it has
 pub record HasTables (s : SegSizes) (raw : List ℕ) (c : ℕ) (out at lens heads next : List ℕ) (k : ℕ) : Type 0 where
   pub stored : AreStored s raw c out at lens k
   pub low : (j : ℕ) → j < k → slice_index at j + width_of s.wide * slice_index lens j ≤ 4 * values_place s raw c k

@@ -1,8 +1,8 @@
 //! A number that equal tables share.
-ghost use Rattle.std.specs.Prelude.{[], ◌∷◌, ◌≡◌, ◌+◌, ◌*◌, ◌^◌, ◌<◌, ◌≤◌, ◌↔◌, ℕ, length, take, drop, IsTrue, MatchOption};
-ghost use Rattle.segment_blocks.specs.Hashes.{mixed, hash_of, spread};
+ghost use Rattle.std.specs.Prelude.{◌≡◌, ◌+◌, ◌*◌, ◌^◌, ◌<◌, ◌≤◌, ◌↔◌, ℕ, length, take, drop, IsTrue, MatchOption};
+ghost use Rattle.segment_blocks.specs.Hashes.{mixed, hash_of};
 ghost use Rattle.segment_blocks.specs.Stored.{AreStored, hash_at, indexed};
-ghost use Rattle.segment_blocks.specs.Placed.{IsIndex};
+ghost use Rattle.equal_values.specs.Chains.{IsIndex, spread};
 ghost use Rattle.vol_spec.specs.SegShapes.{sizes_of};
 ghost use Rattle.vol_spec.specs.SegWritten.{table, same};
 
@@ -79,7 +79,7 @@ fn is_equal(_raw: &[u8], shape: &SegShape, _c: u32, known: &Known, j: usize, k: 
     )
 }
 
-/// The first block before k with the same table as k, if there is one.
+/// The first block before k in the index with the same table as k, if there is one. No block of one voxel is there.
 pub(crate) fn find_owner(
     raw: &[u8],
     shape: &SegShape,

@@ -1,6 +1,6 @@
 //! The earlier block with an equal table: by the values where blocks have one voxel, else by the index of tables.
-ghost use Rattle.std.specs.Prelude.{◌≡◌, ◌+◌, ◌<◌, ◌≤◌, ◌^◌, ℕ, length, IsTrue, MatchOption};
-ghost use Rattle.segment_blocks.specs.Placed.{IsIndex};
+ghost use Rattle.std.specs.Prelude.{◌≡◌, ◌+◌, ◌<◌, ◌^◌, ℕ, length, IsTrue, MatchOption};
+ghost use Rattle.equal_values.specs.Chains.{IsIndex};
 ghost use Rattle.segment_blocks.specs.Singles.{KnowsEarlier};
 ghost use Rattle.segment_blocks.specs.Stored.{AreStored, hash_at, indexed};
 ghost use Rattle.vol_spec.specs.SegBlocks.{block_count};

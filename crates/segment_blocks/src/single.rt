@@ -1,10 +1,10 @@
 //! Blocks of one voxel, whose tables have one value.
-ghost use Rattle.std.specs.Prelude.{◌≡◌, ◌≢◌, ◌+◌, ◌*◌, ◌<◌, ◌≤◌, ◌^◌, ◌==◌, ℕ, length, slice_index, take, IfOk, IsTrue, MatchOption};
+ghost use Rattle.std.specs.Prelude.{◌≡◌, ◌+◌, ◌*◌, ◌<◌, ◌≤◌, ◌^◌, ◌==◌, ℕ, length, slice_index, take, IfOk, IsTrue, MatchOption};
 ghost use Rattle.equal_values.specs.Earlier as equal;
 ghost use Rattle.equal_values.specs.Earlier.{coded};
 ghost use Rattle.equal_values.specs.Reserved.{most_of};
 ghost use Rattle.vol_spec.specs.Raw.{digit};
-ghost use Rattle.vol_spec.specs.SegBlocks.{block_count, block_voxels, raw_len};
+ghost use Rattle.vol_spec.specs.SegBlocks.{block_count, raw_len};
 ghost use Rattle.vol_spec.specs.SegShapes.{sizes_of};
 ghost use Rattle.vol_spec.specs.SegSizes.{width_of};
 ghost use Rattle.vol_spec.specs.SegWritten.{places, same, table};
@@ -57,7 +57,7 @@ fn count_singles(shape: &SegShape) -> usize
     }
 }
 
-/// Memory for the blocks of a shape; where they have more voxels, for none.
+/// Memory for the blocks of a shape, if they have one voxel each.
 pub(crate) fn reserve_singles(alloc: Global, shape: &SegShape) -> Result<Singles, OutOfMemory>
     ensures { IfOk result (IsSingles (sizes_of shape.now)) }
 {
@@ -93,7 +93,6 @@ fn find_in(
     requires values { count ≤ length values.old }
     requires finder { count ≤ most_of finder.old }
     requires earlier { count ≤ length earlier.old }
-    requires few { count ≤ 2 ^ 24 }
     ensures values { (k : ℕ) → k < count → slice_index (take count values.new) k ≡ digit raw.now (width_of wide) (from + k) }
     ensures earlier { (k : ℕ) → k < count → slice_index earlier.new k ≡ coded (equal.earlier (take count values.new) k) }
     ensures finder { most_of finder.new ≡ most_of finder.old }

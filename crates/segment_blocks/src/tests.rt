@@ -26,7 +26,7 @@ struct Known {
 }
 
 // Spelled as this writer does. The words were found by hand or by another program.
-const SPELLED: [Known; 11] = [
+const SPELLED: [Known; 12] = [
     // one bit
     Known {
         size: [2, 1, 1],
@@ -110,6 +110,15 @@ const SPELLED: [Known; 11] = [
         wide: false,
         words: &[1, 6, 6, 7, 7, 6, 8, 5, 6],
         values: &[5, 6, 5],
+    },
+    // the same in two channels
+    Known {
+        size: [2, 1, 1],
+        block: [1, 1, 1],
+        channels: 2,
+        wide: false,
+        words: &[2, 7, 4, 4, 4, 5, 5, 4, 4, 5, 5, 6, 7],
+        values: &[5, 5, 6, 7],
     },
     // a block that y clips
     Known {

@@ -1,6 +1,6 @@
 use Rattle.std.proofs.Common.{subst, sym, length, set, slice_index, ◌+◌}
 use Rattle.segment_blocks.specs.Hashes.{hash_of}
-use Rattle.segment_blocks.specs.Placed.{IsIndex}
+use Rattle.equal_values.specs.Chains.{IsIndex}
 use Rattle.vol_spec.specs.SegShapes.{sizes_of}
 use Rattle.segment_blocks.specs.Stored.{hash_at, indexed}
 use Rattle.segment_blocks.proofs.Homes.{home_below}

@@ -1,6 +1,6 @@
 use Rattle.std.proofs.Common.{◌<◌, ℕ, IsTrue, length}
 use Rattle.vol_spec.specs.SegShapes.{sizes_of}
-use Rattle.segment_blocks.specs.Placed.{LeadsTo}
+use Rattle.equal_values.specs.Chains.{LeadsTo}
 use Rattle.segment_blocks.specs.Stored.{hash_at, indexed}
 use Rattle.vol_spec.specs.SegWritten.{same, table}
 use Rattle.segment_blocks.proofs.hashes.find_owner.Given as goal

@@ -27,11 +27,6 @@ find_in-requires-clause-raw c =
     let end : width_of s.wide * (c.args.c * c.args.blocks + c.args.blocks) ≡ width_of s.wide * (c.args.c * block_count s + block_count s) = ap (λ q. width_of s.wide * (c.args.c * q + q)) c.requires.blocks in
     omega (arith, room, c.requires.raw, end)
 
-pub find_in-requires-clause-few : goal.find_in-requires-clause-few
-find_in-requires-clause-few c =
-    let f = facts (sizes_of c.args.shape.now) (limits c.args.shape.now) in
-    omega (arith, f.blocks, c.requires.blocks)
-
 pub returns-clause-earlier : goal.returns-clause-earlier
 returns-clause-earlier c =
     let s = sizes_of c.args.shape.now in

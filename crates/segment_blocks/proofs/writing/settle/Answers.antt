@@ -2,7 +2,7 @@ use Rattle.std.proofs.Common.{arith, ◌≡◌, ◌+◌, ◌*◌, ◌∙◌, ap,
 use Rattle.std.proofs.lemmas.List.{get_or_default, take_at}
 use Rattle.vol_spec.specs.SegShapes.{sizes_of}
 use Rattle.vol_spec.specs.SegWritten.{owner}
-use Rattle.segment_blocks.specs.Placed.{IsIndex}
+use Rattle.equal_values.specs.Chains.{IsIndex}
 use Rattle.segment_blocks.specs.Stored.{AreStored, HasTables, hash_at, indexed}
 use Rattle.segment_blocks.proofs.Offsets.{offsets_fit, table_le}
 use Rattle.segment_blocks.proofs.Settling.{candidate_stored, extends_set, extends_twice, is_placed, owner_found, owner_none, placed_ends, placed_is, placed_tables, set_below, set_here, shared_ends, shared_tables}
