@@ -176,7 +176,7 @@ struct Finder {
     moved: Vec<u64>,
     heads: Vec<u32>,
     next: Vec<u32>,
-    earlier: Vec<u32>,
+    spots: Vec<u32>,
 }
 
 fn reserve_finder(blocks: usize) -> Finder {
@@ -186,7 +186,7 @@ fn reserve_finder(blocks: usize) -> Finder {
         moved: vec![0; blocks],
         heads: vec![0; (blocks / 32).max(64)],
         next: vec![0; blocks],
-        earlier: vec![0; blocks],
+        spots: vec![0; blocks],
     }
 }
 
@@ -217,7 +217,7 @@ fn find_earlier(raw: &[u8], f: &mut Finder) {
         *v = value(raw, k);
     }
     group_values(f);
-    f.earlier.fill(0);
+    f.spots.fill(0);
     let mut group = GROUPS;
     for (a, &v) in f.moved.iter().enumerate() {
         let hash = mix_value(0, v);
@@ -231,10 +231,24 @@ fn find_earlier(raw: &[u8], f: &mut Finder) {
             cursor = f.next[cursor - 1] as usize;
         }
         if cursor != 0 {
-            f.earlier[f.order[a] as usize] = f.order[cursor - 1] + 1;
+            f.spots[f.order[a] as usize] = f.order[cursor - 1] + 1;
         } else {
             f.next[a] = f.heads[home];
             f.heads[home] = a as u32 + 1;
+        }
+    }
+}
+
+// For each block where its table is, in place of the place of the first block with an equal one and 1.
+fn place_tables(spots: &mut [u32]) {
+    let mut next = 8 * spots.len() as u32;
+    for k in 0..spots.len() {
+        let number = spots[k] as usize;
+        if number == 0 {
+            spots[k] = next;
+            next += 8;
+        } else {
+            spots[k] = spots[number - 1];
         }
     }
 }
@@ -246,6 +260,7 @@ fn encode(raw: &[u8], shape: &Shape, s: &mut Scratch, out: &mut [u8]) -> usize {
     let single = s.voxels.len() == 1;
     if single {
         find_earlier(raw, &mut s.finder);
+        place_tables(&mut s.finder.spots);
     }
     s.heads.fill(0);
     let mut at = 8 * blocks;
@@ -280,14 +295,17 @@ fn encode(raw: &[u8], shape: &Shape, s: &mut Scratch, out: &mut [u8]) -> usize {
         s.at[k] = end as u32;
         s.lens[k] = count as u32;
         let hash = hash_table(table, s.heads.len());
-        let cursor = if single {
-            s.finder.earlier[k] as usize
+        let spot = if single {
+            s.finder.spots[k] as usize
         } else {
-            find_table_again(s, out, hash, end, count)
+            match find_table_again(s, out, hash, end, count) {
+                0 => end,
+                number => s.at[number - 1] as usize,
+            }
         };
         let values = at;
-        if cursor != 0 {
-            s.at[k] = s.at[cursor - 1];
+        s.at[k] = spot as u32;
+        if spot != end {
             at = end;
         } else {
             if !single {
@@ -361,6 +379,8 @@ fn value_at(kind: &str, n: u64) -> u64 {
         1000 + (x / 19 + y / 19 * 4 + z / 19 * 16) % 40
     } else if kind.ends_with("noise") {
         5000 + mix(n) % (2 + (x / 8 + y / 8 * 8 + z / 8 * 64) % 29)
+    } else if kind.ends_with("again") {
+        mix(n) % (if kind.starts_with("short") { 1 << 16 } else { 1 << 20 })
     } else {
         mix(n) % (1 << 24)
     }
@@ -377,8 +397,8 @@ fn main() {
     while let Some(kind) = words.next() {
         let count: u64 = words.next().and_then(|word| word.parse().ok()).unwrap_or(1);
         let shape = match kind.as_str() {
-            "short" | "short-labels" => Shape { size: [65536, 1, 1], block: [1; 3] },
-            "long" | "long-labels" => Shape { size: [1048576, 1, 1], block: [1; 3] },
+            "short" | "short-labels" | "short-again" => Shape { size: [65536, 1, 1], block: [1; 3] },
+            "long" | "long-labels" | "long-again" => Shape { size: [1048576, 1, 1], block: [1; 3] },
             _ => Shape { size: [64; 3], block: [8; 3] },
         };
         let voxels: usize = shape.size.iter().product();

@@ -1,7 +1,10 @@
-//! Segmentation chunks read and written, for measuring. The words are pairs of a kind and a count: `decode` or
-//! `encode` with `-labels` or `-noise` behind it, of a chunk of 64 x 64 x 64 wide values in blocks of 8 x 8 x 8; or
-//! `short` or `long`, to write a chunk of blocks of one voxel, with some 40 labels where `-labels` is behind it and
-//! almost as many as voxels else. Each pair's line has the sum of the bytes made.
+//! Segmentation chunks read and written, for measuring. The words are pairs of a kind and a count, and each pair's line
+//! has the sum of the bytes made. The kinds:
+//!
+//! - `decode` or `encode` with `-labels` or `-noise` behind it: a chunk of 64 x 64 x 64 wide values in blocks of 8 x 8 x 8
+//!   is read or written;
+//! - `short` or `long`: a chunk of 2^16 or 2^20 blocks of one voxel is written, with almost as many values as voxels; with
+//!   `-again` behind it over a third of the values have come before, with `-labels` there are some 40.
 #![tactic(auto)]
 
 ghost use Rattle.std.specs.Prelude.{◌≡◌, ◌*◌, ◌≤◌, ◌^◌, IfOk, length};
@@ -23,8 +26,8 @@ enum Values {
     Labels,
     // 2 to 30 labels in each block, at every voxel another
     Noise,
-    // mostly other values
-    Many,
+    // any below this
+    Below(u64),
 }
 
 fn cube() -> SegShape
@@ -79,7 +82,7 @@ fn value_at(values: Values, n: u64) -> u64 {
     match values {
         Values::Labels => 1000 + (x / 19 + y / 19 * 4 + z / 19 * 16) % 40,
         Values::Noise => 5000 + mix(n) % (2 + (x / 8 + y / 8 * 8 + z / 8 * 64) % 29),
-        Values::Many => mix(n) % (1 << 24),
+        Values::Below(bound) => mix(n) % bound.max(1),
     }
 }
 
@@ -196,9 +199,11 @@ fn sum_of(alloc: Global, kind: &str, count: u64) -> Result<u64, OutOfMemory> {
         "encode-labels" => sum_encoded(alloc, &cube(), 2097152, 4194308, Values::Labels, count),
         "encode-noise" => sum_encoded(alloc, &cube(), 2097152, 4194308, Values::Noise, count),
         "short-labels" => sum_short(alloc, Values::Labels, count),
-        "short" => sum_short(alloc, Values::Many, count),
+        "short-again" => sum_short(alloc, Values::Below(1 << 16), count),
+        "short" => sum_short(alloc, Values::Below(1 << 24), count),
         "long-labels" => sum_long(alloc, Values::Labels, count),
-        _ => sum_long(alloc, Values::Many, count),
+        "long-again" => sum_long(alloc, Values::Below(1 << 20), count),
+        _ => sum_long(alloc, Values::Below(1 << 24), count),
     }
 }
 

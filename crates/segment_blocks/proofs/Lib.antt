@@ -33,6 +33,7 @@ pub mod Shapes
 pub mod Singles
 pub mod Small
 pub mod Sound
+pub mod Spots
 pub mod Tables
 pub mod Tabulated
 pub mod Values

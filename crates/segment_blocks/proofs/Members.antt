@@ -16,13 +16,6 @@ indexed_places s raw c k t = right (not (is_single s)) (places s raw c k) t
         no : IsTrue false → ⊥
         no e = cc
 
-pub not_indexed : (s : SegSizes) (raw : List ℕ) (c k : ℕ) → IsTrue (is_single s) → IsTrue (indexed s raw c k) → ⊥
-not_indexed s raw c k one t = no (is_single s) (places s raw c k) one t
-  where
-    no : (a b : Bool) → IsTrue a → IsTrue (not a && b) → ⊥
-    no true b h t = cc
-    no false b h t = cc
-
 pub indexed_is : (s : SegSizes) (raw : List ℕ) (c k : ℕ) → is_single s ≡ false → IsTrue (places s raw c k) → IsTrue (indexed s raw c k)
 indexed_is s raw c k f t = both (is_single s) (places s raw c k) f t
   where

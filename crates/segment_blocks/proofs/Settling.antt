@@ -202,7 +202,7 @@ set_here xs k x h = get_or-set_same xs k x 0 h
 pub set_below : (xs : List ℕ) (k x i : ℕ) → i < k → slice_index (set xs k x) i ≡ slice_index xs i
 set_below xs k x i h = get_or-set_other xs k i x 0 (λ e. omega arith)
 
-pub extends_set : (at lens : List ℕ) (k x n : ℕ) → Extends at (set at k x) lens (set lens k n) k
+extends_set : (at lens : List ℕ) (k x n : ℕ) → Extends at (set at k x) lens (set lens k n) k
 extends_set at lens k x n = record { at_kept = λ i l. set_below at k x i l; lens_kept = λ i l. set_below lens k n i l }
 
 pub extends_twice : (at lens : List ℕ) (k x y n : ℕ) → Extends at (set (set at k x) k y) lens (set lens k n) k

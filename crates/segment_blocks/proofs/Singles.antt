@@ -11,7 +11,7 @@ use Rattle.vol_spec.specs.SegBlocks.{block, block_count, block_voxels, blocks_on
 use Rattle.vol_spec.specs.SegSizes.{SegSizes}
 use Rattle.vol_spec.specs.SegWritten.{distinct, places, raw_value, same, table}
 use Rattle.segment_blocks.specs.Shape.{IsShape}
-use Rattle.segment_blocks.specs.Singles.{is_single}
+use Rattle.segment_blocks.specs.Singles.{is_single, numbered}
 use Rattle.segment_blocks.proofs.Equal.{same_is}
 use Rattle.segment_blocks.proofs.Offsets.{first_inside}
 use Rattle.segment_blocks.proofs.Owners.{first_passes, none_passes}
@@ -136,7 +136,7 @@ SaysNone s raw c k = (j : ℕ) → j < k → IsTrue (places s raw c j) → IsTru
 abbrev pub SaysBlock : SegSizes → List ℕ → ℕ → ℕ → ℕ → Type 0
 SaysBlock s raw c k j = (j < k) × IsTrue (places s raw c j) × IsTrue (same (table s raw c j) (table s raw c k))
 
-pub number_says : (s : SegSizes) (raw : List ℕ) (c k n : ℕ) → n ≡ coded (find (λ j. same (table s raw c j) (table s raw c k)) (range_with_len 0 k)) → ((n ≡ 0) × SaysNone s raw c k) ⊎ ((j : ℕ) × (n ≡ j + 1) × SaysBlock s raw c k j)
+pub number_says : (s : SegSizes) (raw : List ℕ) (c k n : ℕ) → n ≡ numbered s raw c k → ((n ≡ 0) × SaysNone s raw c k) ⊎ ((j : ℕ) × (n ≡ j + 1) × SaysBlock s raw c k j)
 number_says s raw c k n e = ⊎_elim
     (λ (f : (m : ℕ) × (0 ≤ m) × (m < 0 + k) × IsTrue (equal s raw c k m) × ((i : ℕ) → 0 ≤ i → i < m → IsTrue (equal s raw c k i) → ⊥)).
     let alike : table s raw c f.0 ≡ table s raw c k = same_is (table s raw c f.0) (table s raw c k) f.3 in

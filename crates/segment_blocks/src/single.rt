@@ -1,5 +1,5 @@
 //! Blocks of one voxel, whose tables have one value.
-ghost use Rattle.std.specs.Prelude.{◌≡◌, ◌+◌, ◌*◌, ◌<◌, ◌≤◌, ◌^◌, ◌==◌, ℕ, length, slice_index, take, IfOk, IsTrue, MatchOption};
+ghost use Rattle.std.specs.Prelude.{◌≡◌, ◌+◌, ◌*◌, ◌<◌, ◌≤◌, ◌^◌, ◌==◌, ℕ, length, slice_index, take, IfOk, IsTrue};
 ghost use Rattle.equal_values.specs.Earlier as equal;
 ghost use Rattle.equal_values.specs.Earlier.{coded};
 ghost use Rattle.equal_values.specs.Reserved.{most_of};
@@ -7,23 +7,22 @@ ghost use Rattle.vol_spec.specs.Raw.{digit};
 ghost use Rattle.vol_spec.specs.SegBlocks.{block_count, raw_len};
 ghost use Rattle.vol_spec.specs.SegShapes.{sizes_of};
 ghost use Rattle.vol_spec.specs.SegSizes.{width_of};
-ghost use Rattle.vol_spec.specs.SegWritten.{places, same, table};
-ghost use Rattle.segment_blocks.specs.Singles.{HasEarlier, HasPlaces, IsSingles, KnowsEarlier, SameSingles, is_single};
+ghost use Rattle.segment_blocks.specs.Singles.{HasEarlier, HasPlaces, HasSpots, IsSingles, KnowsSpots, SameSingles, is_single};
 
 use crate::locate::{count_blocks, count_voxels};
-use crate::word::read_value;
+use crate::word::{find_width, read_value};
 use equal_values::{Finder, find_earlier};
 use std::alloc::{AllocError, Global};
 use vol_base::OutOfMemory;
 use vol_spec::SegShape;
 
-/// The values of a channel whose blocks have one voxel each, and for each block the first one before it
-/// that has an equal value, and 1, or 0.
+/// The values of a channel whose blocks have one voxel each; what finding equal ones needs; and for each block where its
+/// table is, in bytes from the channel's start.
 #[derive(Drop)]
 pub(crate) struct Singles {
     pub values: Vec<u64>,
     pub finder: Finder,
-    pub earlier: Vec<u32>,
+    pub spots: Vec<u32>,
 }
 
 /// Whether each block has one voxel.
@@ -39,7 +38,7 @@ fn reserve_values(alloc: Global, blocks: usize) -> Result<Vec<u64>, AllocError>
     vec![in alloc; 0u64; blocks]
 }
 
-fn reserve_earlier(alloc: Global, blocks: usize) -> Result<Vec<u32>, AllocError>
+fn reserve_spots(alloc: Global, blocks: usize) -> Result<Vec<u32>, AllocError>
     ensures { IfOk result (λ v. length v.items ≡ blocks) }
 {
     vec![in alloc; 0u32; blocks]
@@ -65,7 +64,7 @@ pub(crate) fn reserve_singles(alloc: Global, shape: &SegShape) -> Result<Singles
     Ok(Singles {
         values: reserve_values(alloc, blocks).map_err(|_| OutOfMemory)?,
         finder: Finder::reserve(alloc, blocks)?,
-        earlier: reserve_earlier(alloc, blocks).map_err(|_| OutOfMemory)?,
+        spots: reserve_spots(alloc, blocks).map_err(|_| OutOfMemory)?,
     })
 }
 
@@ -101,14 +100,37 @@ fn find_in(
     find_earlier(&values[..count], finder, &mut earlier[..count]);
 }
 
-// The earlier blocks of a channel whose blocks have one voxel each.
+// Where the table of each block is, in bytes from the channel's start. There stands the place of the first block before
+// with an equal one, and 1, or 0: the table is where that one's is, or behind the headers (8 bytes for each block) and
+// the tables before it, which stand side by side.
+fn place_tables(_raw: &[u8], shape: &SegShape, _c: u32, blocks: usize, spots: &mut [u32])
+    requires blocks { blocks ≡ block_count (sizes_of shape.now) }
+    requires single { IsTrue (is_single (sizes_of shape.now)) }
+    requires room { blocks ≤ length spots.old }
+    requires earlier { HasEarlier (sizes_of shape.now) _raw.now _c spots.old }
+    ensures { HasSpots (sizes_of shape.now) _raw.now _c spots.new }
+{
+    let width = find_width(shape.wide) as u32;
+    let mut next = 8 * blocks as u32;
+    for k in 0..blocks {
+        let number = spots[k] as usize;
+        if number == 0 {
+            spots[k] = next;
+            next += width;
+        } else {
+            spots[k] = spots[number - 1];
+        }
+    }
+}
+
+// Where the tables of a channel are, whose blocks have one voxel each.
 fn find_each(raw: &[u8], shape: &SegShape, c: u32, blocks: usize, singles: &mut Singles)
     requires blocks { blocks ≡ block_count (sizes_of shape.now) }
     requires single { IsTrue (is_single (sizes_of shape.now)) }
     requires channel { c < shape.now.channels }
     requires raw { length raw.now ≡ raw_len (sizes_of shape.now) }
     requires room { HasPlaces (sizes_of shape.now) singles.old }
-    ensures earlier { HasEarlier (sizes_of shape.now) raw.now c singles.new.earlier.items }
+    ensures spots { HasSpots (sizes_of shape.now) raw.now c singles.new.spots.items }
     ensures same { SameSingles singles.old singles.new }
 {
     find_in(
@@ -118,36 +140,20 @@ fn find_each(raw: &[u8], shape: &SegShape, c: u32, blocks: usize, singles: &mut 
         blocks,
         &mut singles.values,
         &mut singles.finder,
-        &mut singles.earlier,
+        &mut singles.spots,
     );
+    place_tables(raw, shape, c, blocks, &mut singles.spots);
 }
 
-/// Finds the earlier blocks of a channel, where its blocks have one voxel each.
+/// Finds where the tables of a channel are, where its blocks have one voxel each.
 pub(crate) fn find_singles(raw: &[u8], shape: &SegShape, c: u32, singles: &mut Singles)
     requires channel { c < shape.now.channels }
     requires raw { length raw.now ≡ raw_len (sizes_of shape.now) }
     requires room { IsSingles (sizes_of shape.now) singles.old }
-    ensures earlier { KnowsEarlier (sizes_of shape.now) raw.now c singles.new.earlier.items }
+    ensures spots { KnowsSpots (sizes_of shape.now) raw.now c singles.new.spots.items }
     ensures same { SameSingles singles.old singles.new }
 {
     if test_single(shape) {
         find_each(raw, shape, c, count_blocks(shape), singles);
     }
-}
-
-/// The first block before k with the same table as k, if there is one, in a channel of such blocks.
-pub(crate) fn get_earlier(
-    _raw: &[u8],
-    _shape: &SegShape,
-    _c: u32,
-    earlier: &[u32],
-    k: usize,
-) -> Option<usize>
-    requires earlier { HasEarlier (sizes_of _shape.now) _raw.now _c earlier.now }
-    requires block { k < block_count (sizes_of _shape.now) }
-    requires room { block_count (sizes_of _shape.now) ≤ length earlier.now }
-    ensures { MatchOption result ((j : ℕ) → j < k → IsTrue (places (sizes_of _shape.now) _raw.now _c j) → IsTrue (same (table (sizes_of _shape.now) _raw.now _c j) (table (sizes_of _shape.now) _raw.now _c k)) → ⊥) (λ j. (j < k) × IsTrue (places (sizes_of _shape.now) _raw.now _c j) × IsTrue (same (table (sizes_of _shape.now) _raw.now _c j) (table (sizes_of _shape.now) _raw.now _c k))) }
-{
-    let number = earlier[k] as usize;
-    if number == 0 { None } else { Some(number - 1) }
 }

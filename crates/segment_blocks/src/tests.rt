@@ -26,7 +26,16 @@ struct Known {
 }
 
 // Spelled as this writer does. The words were found by hand or by another program.
-const SPELLED: [Known; 12] = [
+const SPELLED: [Known; 13] = [
+    // wide values in blocks of one voxel, the third as the first
+    Known {
+        size: [3, 1, 1],
+        block: [1, 1, 1],
+        channels: 1,
+        wide: true,
+        words: &[1, 6, 6, 8, 8, 6, 10, 7, 0, 7, 1],
+        values: &[7, (1 << 32) + 7, 7],
+    },
     // one bit
     Known {
         size: [2, 1, 1],

@@ -13,12 +13,12 @@ ghost use Rattle.vol_spec.specs.SegWritten.{channel_bytes, channel_start, packed
 ghost use Rattle.segment_blocks.specs.Reserved.{sizes_for};
 ghost use Rattle.segment_blocks.specs.Rooms.{IsRoom, SameRoom, Serves};
 ghost use Rattle.segment_blocks.specs.Shape.{padded};
-ghost use Rattle.segment_blocks.specs.Singles.{IsSingles, KnowsEarlier, SameSingles};
+ghost use Rattle.segment_blocks.specs.Singles.{IsSingles, KnowsSpots, SameSingles};
 ghost use Rattle.segment_blocks.specs.Stored.{Candidate, HasTables, IsBegun};
 
 use crate::append::{put_values, put_words};
 use crate::hashes::{Known, hash_table};
-use crate::known::{add_block, find_equal};
+use crate::known::{add_block, locate_table};
 use crate::locate::{count_blocks, find_block};
 use crate::pack::{find_bits, put_places};
 use crate::room::Room;
@@ -74,12 +74,12 @@ fn settle(
     shape: &SegShape,
     c: u32,
     k: usize,
-    earlier: &[u32],
+    spots: &[u32],
     room: &mut Room,
     out: &[u8],
     ends: Ends,
 ) -> usize
-    requires earlier { KnowsEarlier (sizes_of shape.now) raw.now c earlier.now }
+    requires spots { KnowsSpots (sizes_of shape.now) raw.now c spots.now }
     requires block { k < block_count (sizes_of shape.now) }
     requires channel { c < shape.now.channels }
     requires room { IsRoom (sizes_of shape.now) room.old }
@@ -94,6 +94,7 @@ fn settle(
     ensures headers { room.new.headers.items ≡ room.old.headers.items }
 {
     let hash = hash_table(&room.table[..ends.entries], room.heads.len());
+    // where the table stands now, to be compared with others
     room.at[k] = ends.indices as u32;
     room.lens[k] = ends.entries as u32;
     let known = Known {
@@ -103,15 +104,14 @@ fn settle(
         heads: &room.heads,
         next: &room.next,
     };
-    match find_equal(raw, shape, c, earlier, &known, hash, k) {
-        Some(j) => {
-            room.at[k] = room.at[j];
-            ends.indices
-        }
-        None => {
-            add_block(raw, shape, c, &mut room.heads, &mut room.next, hash, k);
-            ends.indices + find_width(shape.wide) * ends.entries
-        }
+    let spot = locate_table(raw, shape, c, spots, &known, hash, k);
+    room.at[k] = spot;
+    // a block is the first with its table where that stays behind its own indices
+    if spot as usize == ends.indices {
+        add_block(raw, shape, c, &mut room.heads, &mut room.next, hash, k);
+        ends.indices + find_width(shape.wide) * ends.entries
+    } else {
+        ends.indices
     }
 }
 
@@ -132,12 +132,12 @@ fn encode_block(
     shape: &SegShape,
     c: u32,
     k: usize,
-    earlier: &[u32],
+    spots: &[u32],
     room: &mut Room,
     out: &mut [u8],
     at: usize,
 ) -> usize
-    requires earlier { KnowsEarlier (sizes_of shape.now) raw.now c earlier.now }
+    requires spots { KnowsSpots (sizes_of shape.now) raw.now c spots.now }
     requires block { k < block_count (sizes_of shape.now) }
     requires channel { c < shape.now.channels }
     requires raw { length raw.now ≡ raw_len (sizes_of shape.now) }
@@ -151,7 +151,7 @@ fn encode_block(
     ensures same { SameRoom room.old room.new }
 {
     let ends = write_block(raw, shape, c, k, &mut room.voxels, &mut room.table, out, at);
-    let next = settle(raw, shape, c, k, earlier, room, out, ends);
+    let next = settle(raw, shape, c, k, spots, room, out, ends);
     let table = room.at[k] / 4;
     let bits = find_bits(ends.entries);
     put_header(&mut room.headers, k, table, bits, (at / 4) as u32);
@@ -191,7 +191,7 @@ fn encode_blocks(
     clear_heads(&mut room.heads);
     let mut at = 8 * blocks;
     for k in 0..blocks {
-        at = encode_block(raw, shape, c, k, &singles.earlier, room, out, at);
+        at = encode_block(raw, shape, c, k, &singles.spots, room, out, at);
     }
     at
 }

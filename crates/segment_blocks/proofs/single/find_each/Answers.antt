@@ -27,12 +27,12 @@ find_in-requires-clause-raw c =
     let end : width_of s.wide * (c.args.c * c.args.blocks + c.args.blocks) ≡ width_of s.wide * (c.args.c * block_count s + block_count s) = ap (λ q. width_of s.wide * (c.args.c * q + q)) c.requires.blocks in
     omega (arith, room, c.requires.raw, end)
 
-pub returns-clause-earlier : goal.returns-clause-earlier
-returns-clause-earlier c =
+pub place_tables-requires-clause-earlier : goal.place_tables-requires-clause-earlier
+place_tables-requires-clause-earlier c =
     let s = sizes_of c.args.shape.now in
     let b : ℕ = c.args.blocks in
     let new : List ℕ = c.find_in.new.earlier in
-    let whole : take c.args.singles.now.earlier.len (new ++ drop (length new) c.args.singles.now.earlier.items) ≡ new = take_at new _ _ (omega (arith, c.find_in.auto.earlier, c.deref_mut-2.ensures.len)) in
-    λ k l. ap (λ q. slice_index q k) whole ∙ c.find_in.ensures.earlier k (omega (arith, l, c.requires.blocks))
+    let whole : take c.args.singles.now.spots.len (new ++ drop (length new) c.args.singles.now.spots.items) ≡ new = take_at new _ _ (omega (arith, c.find_in.auto.earlier, c.deref_mut-2.ensures.len)) in
+    λ k l. ap (λ q. slice_index q k) (c.deref_mut-3.ensures.value ∙ whole) ∙ c.find_in.ensures.earlier k (omega (arith, l, c.requires.blocks))
     ∙ ap coded (earlier_is s c.args.raw.now c.args.c (take b c.find_in.new.values) k (limits c.args.shape.now) c.requires.single l
     (λ j m. c.find_in.ensures.values j (omega (arith, m, c.requires.blocks)) ∙ ap (λ q. digit c.args.raw.now (width_of s.wide) (c.args.c * q + j)) c.requires.blocks))
