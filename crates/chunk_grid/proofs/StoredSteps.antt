@@ -14,9 +14,13 @@ use Rattle.vol_base.specs.Boxes.{at, end, num, Covers}
 use Rattle.vol_base.specs.Outside.{Objects, any_under, is_under}
 use Rattle.vol_spec.specs.Bytes.{AreBytes}
 use Rattle.vol_spec.specs.CellNames.{folder_of, cell_name}
-use Rattle.vol_spec.specs.Chunks.{judged, chunk_of, chunk_in, fault_of, fault_in, value_of, value_in}
+use Rattle.vol_spec.specs.Chunks.{chunk_in, fault_of, fault_in, value_in}
+use Rattle.vol_spec.specs.Chunks as form
+use Rattle.vol_spec.specs.RawChunks.{judged, chunk_of, value_of}
+use Rattle.vol_spec.specs.declared.encoding.Encoding.TheVariants.{Raw}
+use Rattle.vol_spec.proofs.Plain.{chunk_in-plain, value_of-raw}
 use Rattle.vol_spec.specs.Grid.{whole, cells_on, IsCell, cell_box, cell_at, meets, numbers_on}
-use Rattle.vol_spec.specs.LastWrite.{covers_on, covers, last, newest}
+use Rattle.vol_spec.specs.LastWrite.{Before, covers_on, covers, last, newest}
 use Rattle.vol_spec.specs.Raw.{digit, raw_at, raw_fault, raw_len}
 use Rattle.vol_spec.specs.StoredCells.{AreInOrder, met, met_cells, written_raw, chunks_of, object_list, put_in}
 use Rattle.vol_spec.specs.declared.scale.Scale.{Scale}
@@ -69,31 +73,17 @@ objects_are : (dataset : List ℕ) (s : Scale) (bytes : List ℕ → List ℕ) (
 objects_are dataset s bytes [] = refl
 objects_are dataset s bytes (cell ∷ cells) = ap (λ os. (cell_name dataset s cell, bytes cell) ∷ os) (objects_are dataset s bytes cells)
 
-pub object_list-chunks_of : (dataset : List ℕ) (s : Scale) (writes : List (Box3 × List ℕ)) → object_list dataset s (chunks_of s writes) ≡ cell_objects dataset s (written_raw s writes) (met_cells s writes)
+pub object_list-chunks_of : (dataset : List ℕ) (s : Scale) (before : Before) (writes : List (Box3 × List ℕ)) → object_list dataset s (chunks_of s before writes) ≡ cell_objects dataset s (written_raw s before writes) (met_cells s writes)
 unfolding chunks_of
-object_list-chunks_of dataset s writes = objects_are dataset s (written_raw s writes) (met_cells s writes)
+object_list-chunks_of dataset s before writes = objects_are dataset s (written_raw s before writes) (met_cells s writes)
 
-Contains-met_cells : (s : Scale) (writes : List (Box3 × List ℕ)) (cell : List ℕ) → IsCell s cell → met s writes cell ≡ true → Contains (met_cells s writes) cell
+pub Contains-met_cells : (s : Scale) (writes : List (Box3 × List ℕ)) (cell : List ℕ) → IsCell s cell → met s writes cell ≡ true → Contains (met_cells s writes) cell
 unfolding met_cells
 Contains-met_cells s writes cell is e = Contains-filter (met s writes) (numbers_on (cells_on s)) cell (Contains-numbers_on s cell is) e
 
-met-listed : (s : Scale) (writes : List (Box3 × List ℕ)) (cell : List ℕ) → Contains (met_cells s writes) cell → met s writes cell ≡ true
+pub met-listed : (s : Scale) (writes : List (Box3 × List ℕ)) (cell : List ℕ) → Contains (met_cells s writes) cell → met s writes cell ≡ true
 unfolding met_cells
 met-listed s writes cell c = All-contains (λ cell. met s writes cell ≡ true) (filter (met s writes) (numbers_on (cells_on s))) cell (filter_passes (met s writes) (numbers_on (cells_on s))) c
-
-either : (b : Bool) (o : Option (List ℕ)) (raw : List ℕ) → (b ≡ true → o ≡ Some raw) → (b ≡ false → o ≡ None) → o ≡ (if b then Some raw else None)
-either true o raw f g = f refl
-either false o raw f g = g refl
-
--- a cell has an object where some write meets it, and else none
-pub stored_object : (m : Objects) (dataset : List ℕ) (s : Scale) (writes : List (Box3 × List ℕ)) (cell : List ℕ) → any_under m (folder_of dataset s) ≡ false → IsCell s cell
-    → fin.get (put_in m (object_list dataset s (chunks_of s writes))) (cell_name dataset s cell) ≡ (if met s writes cell then Some (written_raw s writes cell) else None)
-stored_object m dataset s writes cell none is =
-    ap (λ os. fin.get (put_in m os) (cell_name dataset s cell)) (object_list-chunks_of dataset s writes)
-    ∙ either (met s writes cell) (fin.get (put_in m (cell_objects dataset s (written_raw s writes) (met_cells s writes))) (cell_name dataset s cell)) (written_raw s writes cell)
-    (λ e. get-listed m dataset s (written_raw s writes) (met_cells s writes) cell (AreInOrder-met_cells s writes) (Contains-met_cells s writes cell is e))
-    (λ e. get-unlisted m dataset s (written_raw s writes) (met_cells s writes) cell (AreInOrder-met_cells s writes) is (λ c. let met_too = met-listed s writes cell c in cc)
-    ∙ get-absent_cell m dataset s cell none)
 
 -- no object outside the folder is another
 pub stored_others : (m : Objects) (dataset : List ℕ) (s : Scale) (chunks : List (List ℕ × List ℕ)) (name : List ℕ) → is_under (folder_of dataset s) name ≡ false
@@ -106,38 +96,7 @@ stored_others m dataset s chunks name outside =
     let same : is_under (folder_of dataset s) (cell_name dataset s (get_or chunks k d).0) ≡ is_under (folder_of dataset s) name = ap (is_under (folder_of dataset s)) e in
     cc))
 
--- a chunk of the right length has no fault
-whole_length : (m n : ℕ) → m ≡ n → (m == n) ≡ true
-whole_length m n e = grind (arith, nat_tests)
-
-passes : (bytes : List ℕ) (b : Bool) (fault : ChunkFault) → b ≡ true → judged (if b then None else Some fault) bytes ≡ Ok (Some bytes)
-passes bytes true fault e = refl
-passes bytes false fault e = absurd (cc e)
-
-no_fault : (b : Box3) (channels w : ℕ) (bytes : List ℕ) → length bytes ≡ raw_len b channels w → judged (raw_fault b channels w bytes) bytes ≡ Ok (Some bytes)
-no_fault b channels w bytes len = passes bytes (length bytes == raw_len b channels w) _ (whole_length (length bytes) (raw_len b channels w) len)
-
-whole_chunk : (b : Box3) (channels w : ℕ) (bytes : List ℕ) → length bytes ≡ raw_len b channels w → chunk_of b channels w (Some bytes) ≡ Ok (Some bytes)
-whole_chunk b channels w bytes len =
-    ap (λ front. judged (raw_fault b channels w front) front) (take_all (raw_len b channels w + 1) bytes (omega arith))
-    ∙ no_fault b channels w bytes len
-
-told_chunk : (t : Bool) (b : Box3) (channels w : ℕ) (bytes : List ℕ) → length bytes ≡ raw_len b channels w → chunk_of b channels w (if t then Some bytes else None) ≡ Ok (if t then Some bytes else None)
-told_chunk true b channels w bytes len = whole_chunk b channels w bytes len
-told_chunk false b channels w bytes len = refl
-
-pub stored_chunk : (m : Objects) (dataset : List ℕ) (s : Scale) (writes : List (Box3 × List ℕ)) (cell : List ℕ) → any_under m (folder_of dataset s) ≡ false → IsCell s cell
-    → chunk_in (put_in m (object_list dataset s (chunks_of s writes))) dataset s cell ≡ Ok (if met s writes cell then Some (written_raw s writes cell) else None)
-unfolding chunk_in
-stored_chunk m dataset s writes cell none is =
-    ap (chunk_of (cell_box s cell) s.channels s.width) (stored_object m dataset s writes cell none is)
-    ∙ told_chunk (met s writes cell) (cell_box s cell) s.channels s.width (written_raw s writes cell) (length-written_raw s writes cell)
-
-pub stored_sound : (m : Objects) (dataset : List ℕ) (s : Scale) (writes : List (Box3 × List ℕ)) (cell : List ℕ) → any_under m (folder_of dataset s) ≡ false → IsCell s cell
-    → fault_in (put_in m (object_list dataset s (chunks_of s writes))) dataset s cell ≡ None
-stored_sound m dataset s writes cell none is = ap fault_of (stored_chunk m dataset s writes cell none is)
-
--- a position in no write has the value 0
+-- a position in no write has what was there
 covers_on-true : (b p e : ℤ) → b ≤ℤ p → p <ℤ e → (int_le b p && int_lt p e) ≡ true
 covers_on-true b p e low high = and_from _ _ (int_le-true b p low) (int_lt-true p e high)
 
@@ -159,11 +118,11 @@ Covers-from b p e =
     (covers_on-from (at b.begin 1) (at p 1) (end b 1) second.0)
     (covers_on-from (at b.begin 2) (at p 2) (end b 2) third.0)
 
-newest_none : (w : ℕ) (writes : List (Box3 × List ℕ)) (p : List ℤ) (c : ℕ) → All (λ write. covers write.0 p ≡ false) writes → newest w writes p c ≡ 0
-newest_none w [] p c out = refl
-newest_none w (write ∷ older) p c out =
-    ap (λ b. if b then digit write.1 w (num write.0 p c) else newest w older p c) (All-head (λ (write : Box3 × List ℕ). covers write.0 p ≡ false) write older out)
-    ∙ newest_none w older p c (All-tail (λ (write : Box3 × List ℕ). covers write.0 p ≡ false) write older out)
+newest_none : (w : ℕ) (before : Before) (writes : List (Box3 × List ℕ)) (p : List ℤ) (c : ℕ) → All (λ write. covers write.0 p ≡ false) writes → newest w before writes p c ≡ before p c
+newest_none w before [] p c out = refl
+newest_none w before (write ∷ older) p c out =
+    ap (λ b. if b then digit write.1 w (num write.0 p c) else newest w before older p c) (All-head (λ (write : Box3 × List ℕ). covers write.0 p ≡ false) write older out)
+    ∙ newest_none w before older p c (All-tail (λ (write : Box3 × List ℕ). covers write.0 p ≡ false) write older out)
 
 unmet : (s : Scale) (writes : List (Box3 × List ℕ)) (p : List ℤ) → Covers (whole s) p → met s writes (cell_at s p) ≡ false → All (λ write. covers write.0 p ≡ false) writes
 unmet s writes p inside none k d l =
@@ -172,24 +131,9 @@ unmet s writes p inside none k d l =
     let some : met s writes (cell_at s p) ≡ true = list_any_at (λ (write : Box3 × List ℕ). meets s write.0 (cell_at s p)) writes k d l meets_it in
     cc)
 
-last_unmet : (s : Scale) (writes : List (Box3 × List ℕ)) (p : List ℤ) (c : ℕ) → Covers (whole s) p → met s writes (cell_at s p) ≡ false → last s.width writes p c ≡ 0
-last_unmet s writes p c inside none =
-    newest_none s.width (reverse writes) p c (All-reverse (λ (write : Box3 × List ℕ). covers write.0 p ≡ false) writes (unmet s writes p inside none))
-
-told_value : (t : Bool) (b : Box3) (w : ℕ) (bytes : List ℕ) (p : List ℤ) (c v : ℕ) → (t ≡ true → raw_at b w bytes p c ≡ v) → (t ≡ false → v ≡ 0)
-    → value_of b w (Ok (if t then Some bytes else None)) p c ≡ Ok v
-told_value true b w bytes p c v f g = ap Ok (f refl)
-told_value false b w bytes p c v f g = ap Ok (sym (g refl))
-
--- the value of each voxel of the scale is that of the last write that covers it, and else 0
-pub stored_value : (m : Objects) (dataset : List ℕ) (s : Scale) (writes : List (Box3 × List ℕ)) (p : List ℤ) (c : ℕ) → All (λ write. AreBytes write.1) writes
-    → any_under m (folder_of dataset s) ≡ false → Covers (whole s) p → c < s.channels
-    → value_in (put_in m (object_list dataset s (chunks_of s writes))) dataset s p c ≡ Ok (last s.width writes p c)
-stored_value m dataset s writes p c small none inside h =
-    ap (λ chunk. value_of (cell_box s (cell_at s p)) s.width chunk p c) (stored_chunk m dataset s writes (cell_at s p) none (cell_at-IsCell s p inside))
-    ∙ told_value (met s writes (cell_at s p)) (cell_box s (cell_at s p)) s.width (written_raw s writes (cell_at s p)) p c (last s.width writes p c)
-    (λ e. raw_at-written_raw s writes (cell_at s p) p c small (cell_at-Covers s p inside) h)
-    (last_unmet s writes p c inside)
+pub last_unmet : (s : Scale) (before : Before) (writes : List (Box3 × List ℕ)) (p : List ℤ) (c : ℕ) → Covers (whole s) p → met s writes (cell_at s p) ≡ false → last s.width before writes p c ≡ before p c
+last_unmet s before writes p c inside none =
+    newest_none s.width before (reverse writes) p c (All-reverse (λ (write : Box3 × List ℕ). covers write.0 p ≡ false) writes (unmet s writes p inside none))
 
 -- a position of a cell has the value that the writes that meet the cell give, as they stand
 filter-reverse : {X : Type 0} (p : X → Bool) (xs : List X) → filter p (reverse xs) ≡ reverse (filter p xs)
@@ -210,20 +154,20 @@ kept_or_out true false m n k f e = absurd (cc (f refl))
 kept_or_out false true m n k f e = e
 kept_or_out false false m n k f e = e
 
-newest_kept : (w : ℕ) (test : Box3 × List ℕ → Bool) (writes : List (Box3 × List ℕ)) (p : List ℤ) (c : ℕ) → ((write : Box3 × List ℕ) → covers write.0 p ≡ true → test write ≡ true)
-    → newest w (filter test writes) p c ≡ newest w writes p c
-newest_kept w test [] p c kept = refl
-newest_kept w test (write ∷ older) p c kept =
+newest_kept : (w : ℕ) (before : Before) (test : Box3 × List ℕ → Bool) (writes : List (Box3 × List ℕ)) (p : List ℤ) (c : ℕ) → ((write : Box3 × List ℕ) → covers write.0 p ≡ true → test write ≡ true)
+    → newest w before (filter test writes) p c ≡ newest w before writes p c
+newest_kept w before test [] p c kept = refl
+newest_kept w before test (write ∷ older) p c kept =
     in_front (test write)
-    ∙ kept_or_out (covers write.0 p) (test write) (digit write.1 w (num write.0 p c)) (newest w (filter test older) p c) (newest w older p c) (kept write) (newest_kept w test older p c kept)
+    ∙ kept_or_out (covers write.0 p) (test write) (digit write.1 w (num write.0 p c)) (newest w before (filter test older) p c) (newest w before older p c) (kept write) (newest_kept w before test older p c kept)
   where
-    in_front : (t : Bool) → newest w (cond t (write ∷ filter test older) (filter test older)) p c
-        ≡ (if t then (if covers write.0 p then digit write.1 w (num write.0 p c) else newest w (filter test older) p c) else newest w (filter test older) p c)
+    in_front : (t : Bool) → newest w before (cond t (write ∷ filter test older) (filter test older)) p c
+        ≡ (if t then (if covers write.0 p then digit write.1 w (num write.0 p c) else newest w before (filter test older) p c) else newest w before (filter test older) p c)
     in_front true = refl
     in_front false = refl
 
-pub last-met : (s : Scale) (writes : List (Box3 × List ℕ)) (cell : List ℕ) (p : List ℤ) (c : ℕ) → Covers (cell_box s cell) p
-    → last s.width (filter (λ write. meets s write.0 cell) writes) p c ≡ last s.width writes p c
-last-met s writes cell p c own =
-    ap (λ ws. newest s.width ws p c) (sym (filter-reverse (λ (write : Box3 × List ℕ). meets s write.0 cell) writes))
-    ∙ newest_kept s.width (λ write. meets s write.0 cell) (reverse writes) p c (λ write e. meets-true s write.0 cell (p, own, Covers-from write.0 p e))
+pub last-met : (s : Scale) (before : Before) (writes : List (Box3 × List ℕ)) (cell : List ℕ) (p : List ℤ) (c : ℕ) → Covers (cell_box s cell) p
+    → last s.width before (filter (λ write. meets s write.0 cell) writes) p c ≡ last s.width before writes p c
+last-met s before writes cell p c own =
+    ap (λ ws. newest s.width before ws p c) (sym (filter-reverse (λ (write : Box3 × List ℕ). meets s write.0 cell) writes))
+    ∙ newest_kept s.width before (λ write. meets s write.0 cell) (reverse writes) p c (λ write e. meets-true s write.0 cell (p, own, Covers-from write.0 p e))

@@ -11,8 +11,13 @@ use Rattle.vol_base.specs.declared.boxes.Box3.{Box3}
 use Rattle.vol_base.specs.declared.faults.Fault.{Fault}
 use Rattle.vol_base.specs.Boxes.{Covers, num}
 use Rattle.vol_base.specs.Outside.{Objects}
-use Rattle.vol_spec.specs.Chunks.{chunk_in, fault_of, value_of}
-use Rattle.vol_spec.specs.Cut.{faulty, first_fault, first_some}
+use Rattle.vol_spec.specs.Chunks.{chunk_in, fault_of}
+use Rattle.vol_spec.specs.Chunks as form
+use Rattle.vol_spec.specs.RawChunks.{value_of}
+use Rattle.vol_spec.specs.declared.encoding.Encoding.TheVariants.{Raw}
+use Rattle.vol_spec.proofs.Plain.{value_of-raw}
+use Rattle.vol_spec.specs.Cut.{faulty, first_fault}
+use Rattle.vol_spec.specs.BoxValues.{first_some}
 use Rattle.vol_spec.specs.Grid.{cell_at, cell_box, cells_in}
 use Rattle.vol_spec.specs.Raw.{digit, number}
 use Rattle.vol_spec.specs.declared.scale.Scale.{Scale}
@@ -40,10 +45,10 @@ IsHome s part cell = (p : List ℤ) → Covers part p → Covers (cell_box s cel
 
 -- one cell more
 pub read_more : (m : Objects) (dataset : List ℕ) (s : Scale) (part : Box3) (cells : List (List ℕ)) (cell : List ℕ) (out new : List ℕ)
-    → IsHome s part cell → ReadSoFar m dataset s part cells out
+    → s.encoding ≡ Raw → IsHome s part cell → ReadSoFar m dataset s part cells out
     → (fault_of (chunk_in m dataset s cell) ≡ None) × Took (cell_box s cell) part s.channels s.width (chunk_in m dataset s cell) out new
     → ReadSoFar m dataset s part (cells ++ cell ∷ []) new
-read_more m dataset s part cells cell out new home was one = record {
+read_more m dataset s part cells cell out new raw home was one = record {
   sound =
       let none : faulty m dataset s cell ≡ None = ap (option_map (λ fault. (cell, fault))) one.0 in
       ap first_some (map-append (faulty m dataset s) cells (cell ∷ []))
@@ -51,7 +56,8 @@ read_more m dataset s part cells cell out new home was one = record {
       ∙ ap (λ x. first_some (x ∷ [])) none;
   values = λ p c cov con lc.
       ⊎_elim (λ (same : cell ≡ cell_at s p).
-      subst (λ k. value_of (cell_box s k) s.width (chunk_in m dataset s k) p c ≡ Ok (digit new s.width (num part p c))) same
+      value_of-raw s raw (cell_at s p) (chunk_in m dataset s (cell_at s p)) p c
+      ∙ subst (λ k. value_of (cell_box s k) s.width (chunk_in m dataset s k) p c ≡ Ok (digit new s.width (num part p c))) same
       (one.1.taken p c ((home p cov).1 same) cov lc))
       (λ (other : cell ≡ cell_at s p → ⊥).
       let old : Contains cells (cell_at s p) = ⊎_elim (λ (in_cells : Contains cells (cell_at s p)). in_cells) (λ (e : cell ≡ cell_at s p). absurd (other e)) (Contains-push_cases cells cell (cell_at s p) con) in

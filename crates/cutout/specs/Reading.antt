@@ -3,9 +3,11 @@ use Rattle.std.specs.Prelude.{◌≡◌, ℕ, ◌<◌, ℤ, Bool, true, false, L
 use Rattle.vol_base.specs.declared.boxes.Box3.{Box3}
 use Rattle.vol_base.specs.declared.faults.Fault.{Fault}
 use Rattle.vol_base.specs.Boxes.{Covers, num, value}
-use Rattle.vol_spec.specs.Chunks.{fault_of, value_in, value_of}
+use Rattle.vol_spec.specs.Chunks.{fault_of, value_in}
+use Rattle.vol_spec.specs.RawChunks.{value_of}
 use Rattle.vol_base.specs.Outside.{Objects}
-use Rattle.vol_spec.specs.Cut.{faulty, first_fault, first_some}
+use Rattle.vol_spec.specs.Cut.{faulty, first_fault}
+use Rattle.vol_spec.specs.BoxValues.{first_some}
 use Rattle.vol_spec.specs.Grid.{cell_at}
 use Rattle.vol_spec.specs.Raw.{digit}
 use Rattle.vol_spec.specs.declared.scale.Scale.{Scale}

@@ -2,7 +2,9 @@
 ghost use Rattle.std.specs.Prelude.{◌≡◌, ◌+◌, ◌<◌, ◌≤◌, ◌^◌, length, take, IfSome, None, Some};
 ghost use Rattle.vol_base.specs.Causes.{Rose};
 ghost use Rattle.std.specs.FinMap as map;
-ghost use Rattle.vol_spec.specs.Chunks.{chunk_in, chunk_of};
+ghost use Rattle.vol_spec.specs.Chunks.{chunk_in};
+ghost use Rattle.vol_spec.specs.RawChunks.{chunk_of};
+ghost use Rattle.vol_spec.specs.declared.encoding.Encoding.TheVariants.{Raw};
 ghost use Rattle.vol_spec.specs.Grid.{cell_box as box_of, Inside, IsCell};
 ghost use Rattle.vol_spec.specs.Limits.{first_bytes};
 ghost use Rattle.vol_spec.specs.Raw.{raw_len};
@@ -122,6 +124,8 @@ fn read_one<S: Source>(
     out: &mut [u8],
 ) -> Result<(), CellFault>
     requires dataset { length dataset.now ≤ 200 }
+    requires unsharded { scale.now.sharding ≡ None }
+    requires raw { scale.now.encoding ≡ Raw }
     requires cell { IsCell scale.now cell }
     requires room { length chunk.old ≡ first_bytes scale.now.width scale.now.channels scale.now.size scale.now.chunk + 1 }
     requires len { length out.old ≡ raw_len part.now scale.now.channels scale.now.width }
@@ -168,6 +172,8 @@ pub fn read_cells<S: Source>(
     out: &mut [u8],
 ) -> Result<(), ReadFault>
     requires dataset { length dataset.now ≤ 200 }
+    requires unsharded { scale.now.sharding ≡ None }
+    requires raw { scale.now.encoding ≡ Raw }
     requires inside { Inside scale.now part.now }
     requires room { length chunk.old ≡ first_bytes scale.now.width scale.now.channels scale.now.size scale.now.chunk + 1 }
     requires len { length out.old ≡ raw_len part.now scale.now.channels scale.now.width }

@@ -1,6 +1,7 @@
 //! Boxes read from small stores, worked out by hand.
 
-ghost use Rattle.std.specs.Prelude.{◌≤◌, length};
+ghost use Rattle.std.specs.Prelude.{◌≡◌, ◌≤◌, None, length};
+ghost use Rattle.vol_spec.specs.declared.encoding.Encoding.TheVariants.{Raw};
 
 use crate::{ReadFault, read_cells};
 use chunk_grid::{byte_len, inside};
@@ -22,6 +23,8 @@ fn name(rt: &impl Abort, text: &[u8]) -> Name
 // Three cells in a row, the last one narrower.
 fn row_scale(key: Name) -> Scale
     requires { length key ≤ 200 }
+    ensures unsharded { result.sharding ≡ None }
+    ensures raw { result.encoding ≡ Raw }
 {
     Scale {
         key,

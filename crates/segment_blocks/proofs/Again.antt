@@ -1,7 +1,7 @@
 -- What is written is read again.
 use Rattle.std.proofs.Common.{◌≡◌, ℕ, zero, suc, ◌+◌, ◌-◌, ◌*◌, ◌/◌, ◌%◌, ◌^◌, ◌<◌, ◌≤◌, List, [], ◌∷◌, ◌++◌, length, get_or, arith, refl, ap, ◌∙◌, sym, append_assoc}
 use Rattle.byteorder.specs.Endian.{little_bytes}
-use Rattle.vol_spec.specs.Cut.{bytes_of}
+use Rattle.vol_spec.specs.BoxValues.{bytes_of}
 use Rattle.std.specs.Prelude.{flat_map}
 use Rattle.std.specs.Int.{bytes_low_first, byte_at}
 use Rattle.std.specs.List.{range_with_len}

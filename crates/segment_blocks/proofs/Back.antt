@@ -5,7 +5,7 @@ use Rattle.std.specs.List.{range_with_len}
 use Rattle.std.proofs.lemmas.List.{drop_at, take_at}
 use Rattle.std.proofs.Math.Nat.{mul-le-mul_right}
 use Rattle.std.proofs.Math.Seq.{drop-drop}
-use Rattle.vol_spec.specs.Cut.{bytes_of}
+use Rattle.vol_spec.specs.BoxValues.{bytes_of}
 use Rattle.vol_spec.specs.Raw.{number}
 use Rattle.vol_spec.specs.SegSizes.{SegSizes}
 use Rattle.vol_spec.specs.SegBlocks.{block_count, entry_words, width}

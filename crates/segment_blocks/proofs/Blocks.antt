@@ -15,7 +15,7 @@ use Rattle.segment_blocks.specs.Shape.{place, InBlock, IsShape}
 use Rattle.vol_base.specs.Boxes.{value}
 use Rattle.vol_spec.specs.SegChunks.{words, start, bits, table_at, values_at, index, entry, entry_at}
 use Rattle.vol_spec.specs.SegFaults.{is_allowed, when, bits_fault, values_fault, table_fault}
-use Rattle.vol_spec.specs.Cut.{first_some}
+use Rattle.vol_spec.specs.BoxValues.{first_some}
 use Rattle.segment_blocks.specs.Row.{index_in}
 use Rattle.segment_blocks.specs.Located.{IsBlock}
 use Rattle.segment_blocks.specs.Filled.{Filled, Voxel, Lies, Done, IsOut, InPlanes, spot, want, number_of, HasFor}

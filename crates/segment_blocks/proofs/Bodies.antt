@@ -4,7 +4,7 @@ use Rattle.std.specs.Prelude.{flat_map, if◌then◌else◌}
 use Rattle.std.specs.List.{range_with_len}
 use Rattle.std.proofs.lemmas.Grind.{flat_map-append}
 use Rattle.std.proofs.lemmas.List.{drop_at, get_or-set_other, get_or-set_same, length-set, take_at, take_all}
-use Rattle.vol_spec.specs.Cut.{bytes_of}
+use Rattle.vol_spec.specs.BoxValues.{bytes_of}
 use Rattle.vol_spec.specs.SegSizes.{SegSizes, width_of}
 use Rattle.vol_spec.specs.SegBlocks.{block_count}
 use Rattle.vol_spec.specs.SegWritten.{block_bits, header, packed_bytes, packed_len, places, table, table_bytes, table_len, table_place, values_place}

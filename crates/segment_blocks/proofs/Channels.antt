@@ -5,7 +5,7 @@ use Rattle.std.specs.List.{range_with_len}
 use Rattle.std.proofs.lemmas.Grind.{flat_map-append}
 use Rattle.std.proofs.lemmas.List.{drop_all, get_or-set_other, get_or-set_same}
 use Rattle.std.proofs.Math.Nat.{mul-le-mul_right}
-use Rattle.vol_spec.specs.Cut.{bytes_of}
+use Rattle.vol_spec.specs.BoxValues.{bytes_of}
 use Rattle.vol_spec.specs.SegSizes.{SegSizes}
 use Rattle.vol_spec.specs.SegBlocks.{block_count}
 use Rattle.vol_spec.specs.SegWritten.{channel_bytes, channel_start, seg_bytes, values_place}

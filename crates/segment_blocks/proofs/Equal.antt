@@ -3,7 +3,7 @@ use Rattle.std.proofs.Common.{◌≡◌, ℕ, suc, ◌^◌, ◌<◌, List, [], �
 use Rattle.std.specs.Prelude.{flat_map, ◌==◌, ◌&&◌}
 use Rattle.std.proofs.lemmas.Bool.Decides.{nat_tests}
 use Rattle.std.proofs.lemmas.List.{drop_at, take_at}
-use Rattle.vol_spec.specs.Cut.{bytes_of}
+use Rattle.vol_spec.specs.BoxValues.{bytes_of}
 use Rattle.vol_spec.specs.Raw.{number}
 use Rattle.vol_spec.specs.SegWritten.{same}
 use Rattle.segment_blocks.proofs.Again.{length_bytes, number_of_bytes}

@@ -5,7 +5,7 @@ use Rattle.std.specs.List.{range_with_len}
 use Rattle.std.proofs.Common.{inl, inr, cond}
 use Rattle.std.proofs.lemmas.Bool.{cases_eq}
 use Rattle.vol_base.specs.declared.faults.ChunkFault.{ChunkFault}
-use Rattle.vol_spec.specs.Cut.{first_some}
+use Rattle.vol_spec.specs.BoxValues.{first_some}
 use Rattle.vol_spec.proofs.Firsts.{first_some-append, first_some-front}
 
 -- places that have lists of their own: none has a fault, or the first that has

@@ -4,7 +4,7 @@ use Rattle.std.specs.Prelude.{map, flat_map, not}
 use Rattle.std.specs.List.{range_with_len}
 use Rattle.std.proofs.lemmas.Bool.{cases_eq}
 use Rattle.vol_base.specs.declared.faults.ChunkFault.{ChunkFault}
-use Rattle.vol_spec.specs.Cut.{first_some}
+use Rattle.vol_spec.specs.BoxValues.{first_some}
 use Rattle.vol_spec.specs.SegBlocks.{block_count, voxels_in}
 use Rattle.vol_spec.specs.SegChunks.{bits}
 use Rattle.vol_spec.specs.SegFaults.{bits_fault, block_faults, channel_fault, channel_faults, is_allowed, length_fault, seg_fault, table_fault, values_fault, when}

@@ -11,7 +11,7 @@ use Rattle.std.proofs.Math.ListN.{get_or-eq_default}
 use Rattle.std.proofs.Math.Nat.{mod-eq_of_lt, mul-le-mul_left, mul-le-mul_right, pow-le-pow_right}
 use Rattle.vol_base.specs.declared.faults.ChunkFault.{ChunkFault}
 use Rattle.vol_base.specs.declared.faults.ChunkFault.TheVariants.{SegBits, SegChannel, SegLength, SegTable, SegValues}
-use Rattle.vol_spec.specs.Cut.{bytes_of, first_some}
+use Rattle.vol_spec.specs.BoxValues.{bytes_of, first_some}
 use Rattle.vol_spec.specs.Raw.{digit, number}
 use Rattle.vol_spec.specs.SegSizes.{SegSizes}
 use Rattle.vol_spec.specs.SegBlocks.{InChunk, block_count, block_of, block_voxels, entry_words, in_chunk, num, number_in, packed_words, voxels_in, width}

@@ -1,6 +1,6 @@
 -- The tables of a channel's first blocks, where their bytes are.
 use Rattle.std.specs.Prelude.{◌≡◌, ◌&&◌, not, Bool, ℕ, ◌+◌, ◌*◌, ◌<◌, ◌≤◌, ◌^◌, ◌++◌, List, length, slice_index, take, drop, flat_map}
-use Rattle.vol_spec.specs.Cut.{bytes_of}
+use Rattle.vol_spec.specs.BoxValues.{bytes_of}
 use Rattle.vol_spec.specs.SegSizes.{SegSizes}
 use Rattle.vol_spec.specs.SegSizes.{width_of}
 use Rattle.vol_spec.specs.SegBlocks.{block_count}

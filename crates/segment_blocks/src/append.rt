@@ -1,6 +1,6 @@
 //! What is written behind what is written.
 ghost use Rattle.std.specs.Prelude.{◌≡◌, ◌+◌, ◌*◌, ◌<◌, ◌≤◌, ◌^◌, ◌++◌, ℕ, length, slice_index, take, flat_map, if◌then◌else◌};
-ghost use Rattle.vol_spec.specs.Cut.{bytes_of};
+ghost use Rattle.vol_spec.specs.BoxValues.{bytes_of};
 ghost use Rattle.vol_spec.specs.SegSizes.{width_of};
 
 use crate::word::find_width;

@@ -2,7 +2,7 @@
 ghost use Rattle.std.specs.Prelude.{◌≡◌, ◌+◌, ◌*◌, ◌/◌, ◌%◌, ◌<◌, ◌≤◌, ◌^◌, [], ◌∷◌, length, drop, not, nat_lt, ◌==◌, ◌&&◌};
 ghost use Rattle.vol_spec.specs.SegChunks.{word, words, start, bits, table_at, values_at};
 ghost use Rattle.vol_spec.specs.SegFaults.{is_allowed, when};
-ghost use Rattle.vol_spec.specs.Cut.{first_some};
+ghost use Rattle.vol_spec.specs.BoxValues.{first_some};
 ghost use Rattle.std.specs.Result.{result_err};
 ghost use Rattle.vol_spec.specs.SegBlocks.{packed_words};
 

@@ -6,7 +6,7 @@ ghost use Rattle.vol_spec.specs.SegBlocks.{packed_words};
 ghost use Rattle.vol_spec.specs.SegWritten.{bits_for, packed};
 ghost use Rattle.segment_blocks.specs.Voxels.{place_in};
 ghost use Rattle.std.specs.List.{Contains};
-ghost use Rattle.vol_spec.specs.Cut.{bytes_of};
+ghost use Rattle.vol_spec.specs.BoxValues.{bytes_of};
 
 use crate::header::count_words;
 use crate::table::{find_place, find_spot};

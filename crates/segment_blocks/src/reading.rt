@@ -3,7 +3,7 @@ ghost use Rattle.std.specs.Prelude.{◌≡◌, ◌+◌, ◌*◌, ◌/◌, ◌%�
 ghost use Rattle.vol_spec.specs.SegShapes.{sizes_of};
 ghost use Rattle.vol_spec.specs.SegChunks.{word, words, start, seg_at};
 ghost use Rattle.std.specs.Result.{result_err};
-ghost use Rattle.vol_spec.specs.Cut.{first_some};
+ghost use Rattle.vol_spec.specs.BoxValues.{first_some};
 ghost use Rattle.vol_spec.specs.SegFaults.{block_faults, channel_faults, seg_fault};
 ghost use Rattle.segment_blocks.specs.Filled.{Filled};
 ghost use Rattle.vol_spec.specs.SegBlocks.{InChunk, block_count, num, raw_len, width};

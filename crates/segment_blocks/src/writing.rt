@@ -1,7 +1,7 @@
 //! A chunk's bytes out of its values.
 ghost use Rattle.std.specs.Prelude.{◌≡◌, ◌+◌, ◌*◌, ◌/◌, ◌<◌, ◌≤◌, ◌^◌, ◌++◌, ℕ, length, slice_index, slice_set, take, drop, flat_map, None};
 ghost use Rattle.std.specs.List.{range_with_len};
-ghost use Rattle.vol_spec.specs.Cut.{bytes_of};
+ghost use Rattle.vol_spec.specs.BoxValues.{bytes_of};
 ghost use Rattle.vol_spec.specs.Raw.{digit};
 ghost use Rattle.vol_spec.specs.SegBlocks.{InChunk, block_count, block_voxels, num, raw_len, width};
 ghost use Rattle.vol_spec.specs.SegChunks.{seg_at};

@@ -1,7 +1,7 @@
 //! A scale's objects.
 ghost use Rattle.std.specs.Prelude.{◌≡◌, ◌-◌, ◌*◌, ◌≤◌, ◌<◌, ◌^◌, None, Some, IfOk, IfSome, OnOk, OnErr, length, map};
 ghost use Rattle.std.specs.List.{range_with_len};
-ghost use Rattle.vol_spec.specs.Cut.{first_some};
+ghost use Rattle.vol_spec.specs.BoxValues.{first_some};
 ghost use Rattle.vol_spec.specs.Limits.{first_bytes};
 ghost use Rattle.vol_spec.specs.StoredCells.{put_in};
 ghost use Rattle.vol_spec.specs.declared.encoding.Encoding.TheVariants.{Raw};

@@ -1,5 +1,5 @@
 -- Values within the bytes of a small box, and what a cell's object says.
-use Rattle.std.proofs.Common.{◌≡◌, ◌⊎◌, ⊎_elim, ℕ, ◌+◌, ◌*◌, ◌^◌, ◌<◌, ◌≤◌, ℤ, List, Option, arith, lit<, refl, sym}
+use Rattle.std.proofs.Common.{◌≡◌, ◌⊎◌, ⊎_elim, ℕ, ◌+◌, ◌*◌, ◌^◌, ◌<◌, ◌≤◌, ℤ, List, Option, arith, lit<, refl, sym, ap, ◌∙◌, None}
 use Rattle.std.proofs.Math.Logic.{∥∥₁_elim}
 use Rattle.std.proofs.Math.Nat.{le-mul_of_pos_right, pow-le-pow_right}
 use Rattle.std.proofs.Props.{props}
@@ -9,7 +9,11 @@ use Rattle.vol_base.specs.Outside.{Objects}
 use Rattle.vol_base.specs.declared.boxes.Box3.{Box3}
 use Rattle.vol_plain.specs.Objects.{IsSmall}
 use Rattle.vol_spec.specs.CellNames.{cell_name}
-use Rattle.vol_spec.specs.Chunks.{chunk_in, chunk_of, value_in, value_of}
+use Rattle.vol_spec.specs.Chunks.{chunk_in, value_in}
+use Rattle.vol_spec.specs.Chunks as form
+use Rattle.vol_spec.specs.RawChunks.{chunk_of, value_of}
+use Rattle.vol_spec.specs.declared.encoding.Encoding.TheVariants.{Raw}
+use Rattle.vol_spec.proofs.Plain.{chunk_in-plain, value_of-raw}
 use Rattle.vol_spec.specs.Grid.{cell_at, cell_box}
 use Rattle.vol_spec.specs.Limits.{IsWidth, first_bytes}
 use Rattle.vol_spec.specs.Raw.{raw_len}
@@ -48,13 +52,14 @@ few_voxels b channels w small some =
 pub reads_within : (b : Box3) (channels w : ℕ) (p : List ℤ) (c n len : ℕ) → Covers b p → c < channels → n ≡ num b p c → len ≡ raw_len b channels w → w * n + w ≤ len
 reads_within b channels w p c n len cov lc e f = rw (e, f) (voxel_fits b channels w p c cov lc)
 
-value_in-is : (m : Objects) (dataset : List ℕ) (s : Scale) (p : List ℤ) (c : ℕ)
+value_in-is : (m : Objects) (dataset : List ℕ) (s : Scale) (p : List ℤ) (c : ℕ) → s.encoding ≡ Raw → s.sharding ≡ None
     → value_in m dataset s p c ≡ value_of (cell_box s (cell_at s p)) s.width (chunk_of (cell_box s (cell_at s p)) s.channels s.width (map.get m (cell_name dataset s (cell_at s p)))) p c
-unfolding chunk_in
-value_in-is m dataset s p c = refl
+value_in-is m dataset s p c raw unsharded =
+    value_of-raw s raw (cell_at s p) (chunk_in m dataset s (cell_at s p)) p c
+    ∙ ap (λ seen. value_of (cell_box s (cell_at s p)) s.width seen p c) (chunk_in-plain s raw unsharded m dataset (cell_at s p))
 
 -- what the object of a voxel's cell says of it is its value
 pub told : (m : Objects) (dataset : List ℕ) (s : Scale) (p : List ℤ) (c : ℕ) (cell : List ℕ) (b : Box3) (name : List ℕ) (object : Option (List ℕ))
-    → cell ≡ cell_at s p → b ≡ cell_box s cell → name ≡ cell_name dataset s cell → object ≡ map.get m name
+    → s.encoding ≡ Raw → s.sharding ≡ None → cell ≡ cell_at s p → b ≡ cell_box s cell → name ≡ cell_name dataset s cell → object ≡ map.get m name
     → value_of b s.width (chunk_of b s.channels s.width object) p c ≡ value_in m dataset s p c
-told m dataset s p c cell b name object at_cell is named found = rw (found, named, is, at_cell) (sym (value_in-is m dataset s p c))
+told m dataset s p c cell b name object raw unsharded at_cell is named found = rw (found, named, is, at_cell) (sym (value_in-is m dataset s p c raw unsharded))

@@ -1,7 +1,9 @@
 //! The value of a voxel by what a store has.
-ghost use Rattle.std.specs.Prelude.{◌≡◌, ◌+◌, ◌*◌, ◌<◌, ◌≤◌, ◌^◌, length, take, Some};
+ghost use Rattle.std.specs.Prelude.{◌≡◌, ◌+◌, ◌*◌, ◌<◌, ◌≤◌, ◌^◌, length, take, None, Some};
 ghost use Rattle.vol_base.specs.Boxes.{Covers, value};
-ghost use Rattle.vol_spec.specs.Chunks.{chunk_of, value_in, value_of};
+ghost use Rattle.vol_spec.specs.Chunks.{value_in};
+ghost use Rattle.vol_spec.specs.RawChunks.{chunk_of, value_of};
+ghost use Rattle.vol_spec.specs.declared.encoding.Encoding.TheVariants.{Raw};
 ghost use Rattle.vol_spec.specs.Grid.{whole};
 ghost use Rattle.vol_spec.specs.Raw.{digit, raw_len};
 ghost use Rattle.vol_plain.specs.Objects.{IsSmall};
@@ -65,6 +67,8 @@ pub fn plain_value(
     c: u32,
 ) -> Result<u64, Fault>
     requires dataset { length dataset.now ≤ 200 }
+    requires unsharded { scale.now.sharding ≡ None }
+    requires raw { scale.now.encoding ≡ Raw }
     requires position { Covers (whole scale.now) p }
     requires channel { c < scale.now.channels }
     ensures { result ≡ value_in store.now.objects dataset.now scale.now p c }

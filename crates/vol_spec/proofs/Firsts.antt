@@ -1,6 +1,6 @@
 -- The first fault of two lists.
 use Rattle.std.proofs.Common.{◌≡◌, List, [], ◌∷◌, ◌++◌, Option, Some, None, refl}
-use Rattle.vol_spec.specs.Cut.{first_some}
+use Rattle.vol_spec.specs.BoxValues.{first_some}
 
 -- where the first list has none, it is that of the second
 pub first_some-append : {A : Type 0} (xs ys : List (Option A)) → first_some xs ≡ None → first_some (xs ++ ys) ≡ first_some ys

@@ -10,9 +10,9 @@ use Rattle.std.proofs.Math.Nat.{mul-le-mul_left}
 use Rattle.vol_base.specs.declared.boxes.Box3.{Box3}
 use Rattle.vol_base.specs.Boxes.{at, on_axes, size, num, voxels, value, from_begin, Covers, IsSome}
 use Rattle.vol_spec.specs.Bytes.{AreBytes}
-use Rattle.vol_spec.specs.Cut.{position_of, channel_of, bytes_of}
+use Rattle.vol_spec.specs.BoxValues.{position_of, channel_of, bytes_of}
 use Rattle.vol_spec.specs.Grid.{cell_box}
-use Rattle.vol_spec.specs.LastWrite.{covers, last, newest}
+use Rattle.vol_spec.specs.LastWrite.{AreValues, Before, covers, last, newest, zeros}
 use Rattle.vol_spec.specs.Raw.{number, digit, raw_at, raw_len}
 use Rattle.vol_spec.specs.StoredCells.{raw_bytes, written_raw}
 use Rattle.vol_spec.specs.declared.scale.Scale.{Scale}
@@ -168,9 +168,9 @@ is_raw_bytes b channels w f out some len small same =
     ∙ ap (λ k. bytes_of w (f (position_of b k) (channel_of b k))) (sym (zero_more i)))
 
 -- what writes give: one write more,
-pub last-more : (w : ℕ) (writes : List (Box3 × List ℕ)) (write : Box3 × List ℕ) (p : List ℤ) (c : ℕ)
-    → last w (writes ++ write ∷ []) p c ≡ (if covers write.0 p then digit write.1 w (num write.0 p c) else last w writes p c)
-last-more w writes write p c = ap (λ ws. newest w ws p c) (reverse-append writes (write ∷ []))
+pub last-more : (w : ℕ) (before : Before) (writes : List (Box3 × List ℕ)) (write : Box3 × List ℕ) (p : List ℤ) (c : ℕ)
+    → last w before (writes ++ write ∷ []) p c ≡ (if covers write.0 p then digit write.1 w (num write.0 p c) else last w before writes p c)
+last-more w before writes write p c = ap (λ ws. newest w before ws p c) (reverse-append writes (write ∷ []))
 
 -- and bounds
 pub All-reverse : {X : Type 0} (P : X → Type 0) (xs : List X) → All P xs → All P (reverse xs)
@@ -182,36 +182,40 @@ chosen-lt : (b : Bool) (m n k : ℕ) → m < k → n < k → (if b then m else n
 chosen-lt true m n k h l = h
 chosen-lt false m n k h l = l
 
-newest-lt : (w : ℕ) (writes : List (Box3 × List ℕ)) (p : List ℤ) (c : ℕ) → All (λ write. AreBytes write.1) writes → newest w writes p c < 256 ^ w
-newest-lt w [] p c small = some_numbers w
-newest-lt w (write ∷ older) p c small =
-    chosen-lt (covers write.0 p) (digit write.1 w (num write.0 p c)) (newest w older p c) (256 ^ w)
-    (digit-lt write.1 w (num write.0 p c) (All-head (λ (write : Box3 × List ℕ). AreBytes write.1) write older small))
-    (newest-lt w older p c (All-tail (λ (write : Box3 × List ℕ). AreBytes write.1) write older small))
+pub zeros_are : (w : ℕ) → AreValues w zeros
+zeros_are w = record { fit = λ p c. some_numbers w; by_axes = λ p c. refl }
 
-pub last-lt : (w : ℕ) (writes : List (Box3 × List ℕ)) (p : List ℤ) (c : ℕ) → All (λ write. AreBytes write.1) writes → last w writes p c < 256 ^ w
-last-lt w writes p c small = newest-lt w (reverse writes) p c (All-reverse (λ (write : Box3 × List ℕ). AreBytes write.1) writes small)
+module _ (w : ℕ) (before : Before) (are : AreValues w before) where
+  newest-lt : (writes : List (Box3 × List ℕ)) (p : List ℤ) (c : ℕ) → All (λ write. AreBytes write.1) writes → newest w before writes p c < 256 ^ w
+  newest-lt [] p c small = are.fit p c
+  newest-lt (write ∷ older) p c small =
+      chosen-lt (covers write.0 p) (digit write.1 w (num write.0 p c)) (newest w before older p c) (256 ^ w)
+      (digit-lt write.1 w (num write.0 p c) (All-head (λ (write : Box3 × List ℕ). AreBytes write.1) write older small))
+      (newest-lt older p c (All-tail (λ (write : Box3 × List ℕ). AreBytes write.1) write older small))
 
-newest-on_axes : (w : ℕ) (writes : List (Box3 × List ℕ)) (p : List ℤ) (c : ℕ) → newest w writes (on_axes (at p)) c ≡ newest w writes p c
-newest-on_axes w [] p c = refl
-newest-on_axes w (write ∷ older) p c = ap (λ k. if covers write.0 p then digit write.1 w (num write.0 p c) else k) (newest-on_axes w older p c)
+  pub last-lt : (writes : List (Box3 × List ℕ)) (p : List ℤ) (c : ℕ) → All (λ write. AreBytes write.1) writes → last w before writes p c < 256 ^ w
+  last-lt writes p c small = newest-lt (reverse writes) p c (All-reverse (λ (write : Box3 × List ℕ). AreBytes write.1) writes small)
 
-pub last-on_axes : (w : ℕ) (writes : List (Box3 × List ℕ)) (p : List ℤ) (c : ℕ) → last w writes (on_axes (at p)) c ≡ last w writes p c
-last-on_axes w writes p c = newest-on_axes w (reverse writes) p c
+  newest-on_axes : (writes : List (Box3 × List ℕ)) (p : List ℤ) (c : ℕ) → newest w before writes (on_axes (at p)) c ≡ newest w before writes p c
+  newest-on_axes [] p c = are.by_axes p c
+  newest-on_axes (write ∷ older) p c = ap (λ k. if covers write.0 p then digit write.1 w (num write.0 p c) else k) (newest-on_axes older p c)
+
+  pub last-on_axes : (writes : List (Box3 × List ℕ)) (p : List ℤ) (c : ℕ) → last w before writes (on_axes (at p)) c ≡ last w before writes p c
+  last-on_axes writes p c = newest-on_axes (reverse writes) p c
 
 -- the bytes of a cell after writes
-pub length-written_raw : (s : Scale) (writes : List (Box3 × List ℕ)) (cell : List ℕ) → length (written_raw s writes cell) ≡ raw_len (cell_box s cell) s.channels s.width
+pub length-written_raw : (s : Scale) (before : Before) (writes : List (Box3 × List ℕ)) (cell : List ℕ) → length (written_raw s before writes cell) ≡ raw_len (cell_box s cell) s.channels s.width
 unfolding written_raw
-length-written_raw s writes cell = length-raw_bytes (cell_box s cell) s.channels s.width (last s.width writes)
+length-written_raw s before writes cell = length-raw_bytes (cell_box s cell) s.channels s.width (last s.width before writes)
 
-pub is_written_raw : (s : Scale) (writes : List (Box3 × List ℕ)) (cell out : List ℕ) → IsSome (cell_box s cell) → length out ≡ raw_len (cell_box s cell) s.channels s.width → AreBytes out
-    → ((p : List ℤ) (c : ℕ) → Covers (cell_box s cell) p → c < s.channels → digit out s.width (num (cell_box s cell) p c) ≡ last s.width writes p c) → out ≡ written_raw s writes cell
+pub is_written_raw : (s : Scale) (before : Before) (writes : List (Box3 × List ℕ)) (cell out : List ℕ) → IsSome (cell_box s cell) → length out ≡ raw_len (cell_box s cell) s.channels s.width → AreBytes out
+    → ((p : List ℤ) (c : ℕ) → Covers (cell_box s cell) p → c < s.channels → digit out s.width (num (cell_box s cell) p c) ≡ last s.width before writes p c) → out ≡ written_raw s before writes cell
 unfolding written_raw
-is_written_raw s writes cell out some len small same = is_raw_bytes (cell_box s cell) s.channels s.width (last s.width writes) out some len small same
+is_written_raw s before writes cell out some len small same = is_raw_bytes (cell_box s cell) s.channels s.width (last s.width before writes) out some len small same
 
-pub raw_at-written_raw : (s : Scale) (writes : List (Box3 × List ℕ)) (cell : List ℕ) (p : List ℤ) (c : ℕ) → All (λ write. AreBytes write.1) writes → Covers (cell_box s cell) p → c < s.channels
-    → raw_at (cell_box s cell) s.width (written_raw s writes cell) p c ≡ last s.width writes p c
+pub raw_at-written_raw : (s : Scale) (before : Before) (writes : List (Box3 × List ℕ)) (cell : List ℕ) (p : List ℤ) (c : ℕ) → AreValues s.width before → All (λ write. AreBytes write.1) writes → Covers (cell_box s cell) p → c < s.channels
+    → raw_at (cell_box s cell) s.width (written_raw s before writes cell) p c ≡ last s.width before writes p c
 unfolding written_raw
-raw_at-written_raw s writes cell p c small covered h =
-    digit-raw_bytes (cell_box s cell) s.channels s.width (last s.width writes) p c covered h (last-lt s.width writes (on_axes (at p)) c small)
-    ∙ last-on_axes s.width writes p c
+raw_at-written_raw s before writes cell p c are small covered h =
+    digit-raw_bytes (cell_box s cell) s.channels s.width (last s.width before writes) p c covered h (last-lt s.width before are writes (on_axes (at p)) c small)
+    ∙ last-on_axes s.width before are writes p c

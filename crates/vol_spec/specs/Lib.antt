@@ -1,8 +1,11 @@
+pub mod BoxValues
 pub mod Bytes
 pub mod CellNames
 pub mod Chunks
 pub mod Codes
+pub mod Costs
 pub mod Cut
+pub mod Encodings
 pub mod Entries
 pub mod FoundChunks
 pub mod Grid
@@ -12,6 +15,7 @@ pub mod LastWrite
 pub mod Limits
 pub mod Places
 pub mod Raw
+pub mod RawChunks
 pub mod Rows
 pub mod SegBlocks
 pub mod SegChunks
@@ -21,5 +25,9 @@ pub mod SegSizes
 pub mod SegWritten
 pub mod ShardNames
 pub mod Shards
+pub mod StoredBytes
 pub mod StoredCells
+pub mod StoredLists
 pub mod StoredShards
+pub mod Types
+pub mod Verdicts

@@ -4,7 +4,7 @@ use Rattle.std.specs.Prelude.{ℕ, ◌+◌, ◌*◌, ◌%◌, Bool, ◌&&◌, �
 use Rattle.std.specs.List.{range_with_len, list_any}
 use Rattle.vol_base.specs.declared.faults.ChunkFault.{ChunkFault}
 use Rattle.vol_base.specs.declared.faults.ChunkFault.TheVariants.{SegLength, SegChannel, SegBits, SegValues, SegTable}
-use Rattle.vol_spec.specs.Cut.{first_some}
+use Rattle.vol_spec.specs.BoxValues.{first_some}
 use Rattle.vol_spec.specs.SegBlocks.{block_count, block_voxels, packed_words, voxels_in}
 use Rattle.vol_spec.specs.SegChunks.{words, start, bits, values_at, index, entry_at}
 use Rattle.vol_spec.specs.SegSizes.{SegSizes}

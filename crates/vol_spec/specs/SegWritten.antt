@@ -3,7 +3,7 @@
 -- profile.
 use Rattle.std.specs.Prelude.{ℕ, ◌+◌, ◌*◌, ◌^◌, Bool, true, false, ◌&&◌, nat_lt, nat_le, ◌==◌, List, [], ◌∷◌, ◌++◌, length, map, flat_map, find, position, unwrap_or, sum_by, if◌then◌else◌}
 use Rattle.std.specs.List.{range_with_len}
-use Rattle.vol_spec.specs.Cut.{bytes_of}
+use Rattle.vol_spec.specs.BoxValues.{bytes_of}
 use Rattle.vol_spec.specs.Raw.{digit}
 use Rattle.vol_spec.specs.SegBlocks.{block_count, block_voxels, entry_words, width, packed_words, voxels_in, in_chunk, x_of, y_of, z_of, num}
 use Rattle.vol_spec.specs.SegSizes.{SegSizes}

@@ -7,9 +7,10 @@ use Rattle.vol_base.specs.declared.boxes.Box3.{Box3}
 use Rattle.vol_base.specs.Boxes.{voxels}
 use Rattle.vol_base.specs.Outside.{Objects}
 use Rattle.vol_spec.specs.CellNames.{cell_name}
-use Rattle.vol_spec.specs.Cut.{bytes_of, channel_of, position_of}
+use Rattle.vol_spec.specs.BoxValues.{bytes_of, channel_of, position_of}
 use Rattle.vol_spec.specs.Grid.{IsCell, cell_box, cells_on, meets, numbers_on}
-use Rattle.vol_spec.specs.LastWrite.{last}
+use Rattle.vol_spec.specs.LastWrite.{Before, last}
+use Rattle.vol_spec.specs.Types.{Bytes, Cell, Chunks, Writes}
 use Rattle.vol_spec.specs.declared.scale.Scale.{Scale}
 
 -- the number of a cell in the grid: x fastest, then y, then z
@@ -37,13 +38,13 @@ met_cells s writes = filter (met s writes) (numbers_on (cells_on s))
 abbrev pub raw_bytes : Box3 → ℕ → ℕ → (List ℤ → ℕ → ℕ) → List ℕ
 raw_bytes b channels w f = flat_map (λ n. bytes_of w (f (position_of b n) (channel_of b n))) (range_with_len 0 (voxels b * channels))
 
--- the bytes of a cell's values: of each voxel and channel the value that the last covering write gives, else 0
-unfoldable pub written_raw : Scale → List (Box3 × List ℕ) → List ℕ → List ℕ
-written_raw s writes cell = raw_bytes (cell_box s cell) s.channels s.width (last s.width writes)
+-- the bytes of a cell's values after writes, over what was there
+unfoldable pub written_raw : Scale → Before → Writes → Cell → Bytes
+written_raw s before writes cell = raw_bytes (cell_box s cell) s.channels s.width (last s.width before writes)
 
 -- the chunks of writes: each cell that some write meets
-unfoldable pub chunks_of : Scale → List (Box3 × List ℕ) → List (List ℕ × List ℕ)
-chunks_of s writes = map (λ cell. (cell, written_raw s writes cell)) (met_cells s writes)
+unfoldable pub chunks_of : Scale → Before → Writes → Chunks
+chunks_of s before writes = map (λ cell. (cell, written_raw s before writes cell)) (met_cells s writes)
 
 -- the objects of chunks, as a list of names and bytes
 abbrev pub object_list : List ℕ → Scale → List (List ℕ × List ℕ) → List (List ℕ × List ℕ)

@@ -48,7 +48,3 @@ objects_by dataset s (Some sharding) chunks = objects_in dataset s sharding (pla
 -- the objects of a sharded scale, by the shard's number: one for each shard that has a chunk
 abbrev pub shard_objects : List ℕ → Scale → List (List ℕ × List ℕ) → List (List ℕ × List ℕ)
 shard_objects dataset s chunks = objects_by dataset s s.sharding chunks
-
--- the same as a map from names to bytes
-unfoldable pub stored_shards : List ℕ → Scale → List (List ℕ × List ℕ) → Objects
-stored_shards dataset s chunks = fin.from_entries (shard_objects dataset s chunks)

@@ -1,7 +1,7 @@
 pub mod AnswerSteps
 pub mod InfoSteps
+pub mod MemorySteps
 pub mod PlanSteps
-pub mod RunSteps
 pub mod ShowSteps
 pub mod StoreSteps
 pub mod WriteShows

@@ -7,9 +7,11 @@ use Rattle.std.proofs.lemmas.Bool.{cases_lt}
 use Rattle.vol_base.specs.Outside.{Objects}
 use Rattle.vol_base.specs.declared.faults.Fault.{Fault}
 use Rattle.vol_spec.specs.CellNames.{cell_name}
-use Rattle.vol_spec.specs.Cut.{first_some}
+use Rattle.vol_spec.specs.LastWrite.{zeros}
+use Rattle.vol_spec.specs.BoxValues.{first_some}
 use Rattle.vol_spec.specs.Grid.{cells_on, meets, numbers_on}
-use Rattle.vol_spec.specs.StoredCells.{chunks_of, met_cells, object_list, put_in, written_raw}
+use Rattle.vol_spec.specs.StoredCells.{chunks_of, met_cells, put_in, written_raw}
+use Rattle.vol_spec.specs.StoredLists.{stored_list}
 use Rattle.vol_spec.specs.declared.scale.Scale.{Scale}
 use Rattle.chunk_grid.proofs.StoredSteps.{object_list-chunks_of}
 use Rattle.shard_writer.specs.Writing.{job_objects, PutsFront, WritesAll}
@@ -19,6 +21,8 @@ use Rattle.shard_writer.specs.declared.written.Written.{Written}
 use Rattle.write_plan.specs.Plans.{no_fault, pairs, Planned, raw_of}
 use Rattle.write_plan.specs.declared.plan.PlanRefusal.TheVariants as refusals
 use Rattle.write_plan.specs.WriteLists.{BoxWrite}
+use Rattle.vol_spec.proofs.Plain.{stored_list-plain}
+use Rattle.vol_tool.specs.Answers.{IsServed}
 use Rattle.vol_tool.specs.Storing.{PutsWrites}
 use Rattle.vol_tool.specs.declared.refusal.Refusal.TheVariants.{StoreFault, NoMemory}
 
@@ -35,13 +39,14 @@ by_place h all (x ∷ xs) d a same =
     ap (λ y. y ∷ map (λ n. h (get_or all n d)) (range_with_len (a + 1) (length xs))) first ∙ ap (λ ys. h x ∷ ys) rest
 
 -- the objects of a plan's jobs are those of its writes' chunks
-pub plan_objects : (plan : Planned) (m : Objects) (dataset : List ℕ) (s : Scale) → plan.scale ≡ s
-    → job_objects dataset s (met_cells plan.scale plan.writes) (raw_of plan m) ≡ object_list dataset s (chunks_of s plan.writes)
-plan_objects plan m dataset s e =
-    by_place (λ cell. (cell_name dataset s cell, written_raw plan.scale plan.writes cell)) (met_cells plan.scale plan.writes) (met_cells plan.scale plan.writes) [] 0
+pub plan_objects : (plan : Planned) (m : Objects) (dataset : List ℕ) (s : Scale) → IsServed s → plan.scale ≡ s
+    → job_objects dataset s (met_cells plan.scale plan.writes) (raw_of plan m) ≡ stored_list dataset s (chunks_of s zeros plan.writes)
+plan_objects plan m dataset s served e =
+    by_place (λ cell. (cell_name dataset s cell, written_raw plan.scale zeros plan.writes cell)) (met_cells plan.scale plan.writes) (met_cells plan.scale plan.writes) [] 0
     (λ i l. let z : 0 + i ≡ i = omega arith in ap (λ k. get_or (met_cells plan.scale plan.writes) k []) z)
-    ∙ ap (λ x. map (λ cell. (cell_name dataset s cell, written_raw x plan.writes cell)) (met_cells x plan.writes)) e
-    ∙ sym (object_list-chunks_of dataset s plan.writes)
+    ∙ ap (λ x. map (λ cell. (cell_name dataset s cell, written_raw x zeros plan.writes cell)) (met_cells x plan.writes)) e
+    ∙ sym (object_list-chunks_of dataset s zeros plan.writes)
+    ∙ sym (stored_list-plain s served.raw served.unsharded dataset (chunks_of s zeros plan.writes))
 
 -- no more cells are met than there are pairs of a write and a cell that it meets
 first_or : {X : Type 0} (b c : Bool) (x : X) (xs ys zs : List X) → length xs ≤ length ys + length zs
@@ -72,32 +77,32 @@ unfolding met_cells
 few_cells s ws = any_few (λ w. meets s w.0) ws (numbers_on (cells_on s))
 
 -- what putting a plan's objects answers
-pub put_done : (written : Written) (o now : Option Objects) (plan : Planned) (dataset : List ℕ) (s : Scale) → plan.scale ≡ s → pairs s plan.writes ≤ 2 ^ 22
+pub put_done : (written : Written) (o now : Option Objects) (plan : Planned) (dataset : List ℕ) (s : Scale) → IsServed s → plan.scale ≡ s → pairs s plan.writes ≤ 2 ^ 22
     → written.objects ≡ length (met_cells plan.scale plan.writes) → written.cells ≡ length (met_cells plan.scale plan.writes)
     → IfSome o (λ m. now ≡ Some (put_in m (job_objects dataset s (met_cells plan.scale plan.writes) (raw_of plan m))))
     → IfSome o (λ m. PutsWrites (Ok written) m now dataset s plan.writes)
-put_done written None now plan dataset s e few objects cells put = tt
-put_done written (Some m) now plan dataset s e few objects cells put =
+put_done written None now plan dataset s served e few objects cells put = tt
+put_done written (Some m) now plan dataset s served e few objects cells put =
     let same : length (met_cells plan.scale plan.writes) ≡ length (met_cells s plan.writes) = ap (λ x. length (met_cells x plan.writes)) e in
-    (put ∙ ap (λ xs. Some (put_in m xs)) (plan_objects plan m dataset s e), few, record { objects = objects ∙ same; cells = cells ∙ same })
+    (put ∙ ap (λ xs. Some (put_in m xs)) (plan_objects plan m dataset s served e), few, record { objects = objects ∙ same; cells = cells ∙ same })
 
-front_done : (o now : Option Objects) (plan : Planned) (dataset : List ℕ) (s : Scale) → plan.scale ≡ s
+front_done : (o now : Option Objects) (plan : Planned) (dataset : List ℕ) (s : Scale) → IsServed s → plan.scale ≡ s
     → IfSome o (λ m. PutsFront (job_objects dataset s (met_cells plan.scale plan.writes) (raw_of plan m)) m now)
-    → IfSome o (λ m. PutsFront (object_list dataset s (chunks_of s plan.writes)) m now)
-front_done None now plan dataset s e front = tt
-front_done (Some m) now plan dataset s e front = subst (λ xs. PutsFront xs m now) (plan_objects plan m dataset s e) front
+    → IfSome o (λ m. PutsFront (stored_list dataset s (chunks_of s zeros plan.writes)) m now)
+front_done None now plan dataset s served e front = tt
+front_done (Some m) now plan dataset s served e front = subst (λ xs. PutsFront xs m now) (plan_objects plan m dataset s served e) front
 
-pub store_failed : (o now : Option Objects) (plan : Planned) (dataset : List ℕ) (s : Scale) → plan.scale ≡ s → pairs s plan.writes ≤ 2 ^ 22
+pub store_failed : (o now : Option Objects) (plan : Planned) (dataset : List ℕ) (s : Scale) → IsServed s → plan.scale ≡ s → pairs s plan.writes ≤ 2 ^ 22
     → IfSome o (λ m. PutsFront (job_objects dataset s (met_cells plan.scale plan.writes) (raw_of plan m)) m now)
     → IfSome o (λ m. PutsWrites (Err StoreFault) m now dataset s plan.writes)
-store_failed None now plan dataset s e few front = tt
-store_failed (Some m) now plan dataset s e few front = (few, front_done (Some m) now plan dataset s e front)
+store_failed None now plan dataset s served e few front = tt
+store_failed (Some m) now plan dataset s served e few front = (few, front_done (Some m) now plan dataset s served e front)
 
-pub memory_failed : (o now : Option Objects) (plan : Planned) (dataset : List ℕ) (s : Scale) → plan.scale ≡ s → pairs s plan.writes ≤ 2 ^ 22
+pub memory_failed : (o now : Option Objects) (plan : Planned) (dataset : List ℕ) (s : Scale) → IsServed s → plan.scale ≡ s → pairs s plan.writes ≤ 2 ^ 22
     → IfSome o (λ m. PutsFront (job_objects dataset s (met_cells plan.scale plan.writes) (raw_of plan m)) m now)
     → IfSome o (λ m. PutsWrites (Err NoMemory) m now dataset s plan.writes)
-memory_failed None now plan dataset s e few front = tt
-memory_failed (Some m) now plan dataset s e few front = inr (few, front_done (Some m) now plan dataset s e front)
+memory_failed None now plan dataset s served e few front = tt
+memory_failed (Some m) now plan dataset s served e few front = inr (few, front_done (Some m) now plan dataset s served e front)
 
 -- no job of a plan has a fault
 no_first : (plan : Planned) (m : Objects) (n a : ℕ) → first_some (map (no_fault plan m) (range_with_len a n)) ≡ None

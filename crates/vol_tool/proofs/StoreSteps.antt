@@ -1,16 +1,24 @@
 -- What writing a stream answers.
-use Rattle.std.proofs.Common.{◌≡◌, ℕ, zero, suc, List, [], ◌∷◌, ◌++◌, length, Option, Some, None, IfSome, Result, Ok, Err, refl, subst, ap, inl, inr, ◌∙◌}
+use Rattle.std.proofs.Common.{◌≡◌, ℕ, zero, suc, List, [], ◌∷◌, ◌++◌, length, Option, Some, None, IfSome, Result, Ok, Err, refl, subst, ap, inl, inr, ◌∙◌, ◌≤◌, ◌^◌, arith, sym, lit≤}
 use Rattle.std.specs.Prelude.{◌&&◌, ◌==◌, All, Bool, true, false, IsOkAnd, codes, slice_index}
 use Rattle.vol_base.specs.Outside.{any_under, is_under, Objects}
 use Rattle.vol_spec.specs.Bytes.{AreBytes}
+use Rattle.vol_spec.specs.LastWrite.{zeros}
 use Rattle.vol_spec.specs.CellNames.{folder_of}
-use Rattle.vol_spec.specs.StoredCells.{chunks_of, object_list, put_in}
+use Rattle.vol_spec.specs.StoredCells.{chunks_of, put_in}
+use Rattle.vol_spec.specs.StoredLists.{stored_list}
 use Rattle.vol_spec.specs.declared.scale.Scale.{Scale}
-use Rattle.chunk_grid.proofs.StoredSteps.{stored_others, stored_sound, stored_value}
+use Rattle.chunk_laws.proofs.Law.{stored_outside}
+use Rattle.chunk_laws.proofs.Headline.{written_cut, written_faultless}
+use Rattle.vol_spec.specs.Limits.{padded_of}
+use Rattle.vol_spec.specs.StoredCells.{met_cells}
+use Rattle.vol_spec.specs.declared.encoding.Encoding.{Encoding}
+use Rattle.vol_tool.proofs.PlanSteps.{few_cells}
 use Rattle.shard_writer.specs.declared.written.Written.{Written}
+use Rattle.write_plan.specs.Plans.{pairs}
 use Rattle.write_plan.specs.Stream.{writes_of}
 use Rattle.write_plan.specs.WriteLists.{BoxWrite}
-use Rattle.vol_tool.specs.Answers.{info_name, scale_from, stored_scale}
+use Rattle.vol_tool.specs.Answers.{info_name, scale_from, stored_scale, IsServed}
 use Rattle.vol_tool.specs.Storing.{Counts, FrontPut, HasStored, PutsWrites, ReadsStream, WritesAll, WritesScale}
 use Rattle.vol_tool.specs.declared.refusal.NoScale.{NoScale as NoScaleType}
 use Rattle.vol_tool.specs.declared.refusal.Refusal.{Refusal}
@@ -35,9 +43,9 @@ and_false false b e = refl
 info_apart : (dataset : List ℕ) (s : Scale) → is_under (folder_of dataset s) (info_name dataset) ≡ false
 info_apart dataset s = and_false _ _ (ap (λ c. c == 47) (behind dataset (codes "info") s.key) ∙ no_slash (length s.key))
 
-scale_kept : (m : Objects) (dataset key : List ℕ) (s : Scale) (chunks : List (List ℕ × List ℕ)) → stored_scale (put_in m (object_list dataset s chunks)) dataset key ≡ stored_scale m dataset key
+scale_kept : (m : Objects) (dataset key : List ℕ) (s : Scale) (chunks : List (List ℕ × List ℕ)) → stored_scale (put_in m (stored_list dataset s chunks)) dataset key ≡ stored_scale m dataset key
 unfolding stored_scale
-scale_kept m dataset key s chunks = ap (λ o. scale_from o key) (stored_others m dataset s chunks (info_name dataset) (info_apart dataset s))
+scale_kept m dataset key s chunks = ap (λ o. scale_from o key) (stored_outside m dataset s chunks (info_name dataset) (info_apart dataset s))
 
 -- a stream that isn't one of writes, or that can't be read
 pub stream_refused : (refusal : Refusal) (m : Objects) (now : Option Objects) (bytes : List ℕ) (left : Option (List ℕ)) (dataset key : List ℕ) (s : Scale) → now ≡ Some m → any_under m (folder_of dataset s) ≡ false
@@ -57,35 +65,41 @@ stream_refused OutFault m now bytes left dataset key s same empty read = absurd 
 ok_is : {T E : Type 0} (r : Result T E) (x : T) (Q : T → Type 0) → r ≡ Ok x → Q x → IsOkAnd r Q
 ok_is r x Q is h = rw is h
 
+few_met : (s : Scale) (writes : List BoxWrite) → pairs s writes ≤ 2 ^ 22 → length (met_cells s writes) ≤ 2 ^ 22
+few_met s writes h = let few = few_cells s writes in omega arith
+
+-- raw chunks can be written
+can_write : (s : Scale) → IsServed s → padded_of s.encoding s.channels s.size s.chunk ≤ 2 ^ 22
+can_write s served = subst (λ (e : Encoding). padded_of e s.channels s.size s.chunk ≤ 2 ^ 22) (sym served.raw) (lit≤ tt)
+
 -- writes that were read and written
 pub stream_written : (result : Result Written Refusal) (m : Objects) (now : Option Objects) (bytes : List ℕ) (left : Option (List ℕ)) (dataset key : List ℕ) (s : Scale) (writes : List BoxWrite)
-    → All (λ w. AreBytes w.1) writes → any_under m (folder_of dataset s) ≡ false → left ≡ Some [] → writes_of bytes s ≡ Ok writes
+    → IsServed s → All (λ w. AreBytes w.1) writes → any_under m (folder_of dataset s) ≡ false → left ≡ Some [] → writes_of bytes s ≡ Ok writes
     → PutsWrites result m now dataset s writes → WritesScale result m now bytes left dataset key s
-stream_written (Ok written) m now bytes left dataset key s writes small empty end read put =
+stream_written (Ok written) m now bytes left dataset key s writes served small empty end read put =
     ok_is (writes_of bytes s) writes (λ ws. HasStored m now left dataset key s ws × Counts written s ws) read (
       record {
         empty = empty;
         few = put.1;
         end = end;
         put = put.0;
-        same = scale_kept m dataset key s (chunks_of s writes);
-        values = λ p c cov lt. stored_value m dataset s writes p c small empty cov lt;
-        sound = λ cell is. stored_sound m dataset s writes cell empty is;
+        same = scale_kept m dataset key s (chunks_of s zeros writes);
+        back = λ b inside. (written_faultless s writes (few_met s writes put.1) (can_write s served) m dataset empty b, written_cut s writes (few_met s writes put.1) (can_write s served) m dataset empty b inside small);
       },
       put.2,
     )
-stream_written (Err (TooManyCells cells)) m now bytes left dataset key s writes small empty end read put = (empty, ok_is (writes_of bytes s) writes _ read put)
-stream_written (Err StoreFault) m now bytes left dataset key s writes small empty end read put = inr (empty, ok_is (writes_of bytes s) writes _ read put)
-stream_written (Err NoMemory) m now bytes left dataset key s writes small empty end read (inl same) = inl same
-stream_written (Err NoMemory) m now bytes left dataset key s writes small empty end read (inr put) = inr (empty, ok_is (writes_of bytes s) writes _ read put)
-stream_written (Err NotEmpty) m now bytes left dataset key s writes small empty end read put = absurd put
-stream_written (Err (Stream fault)) m now bytes left dataset key s writes small empty end read put = absurd put
-stream_written (Err FeedFault) m now bytes left dataset key s writes small empty end read put = absurd put
-stream_written (Err (NoScale why)) m now bytes left dataset key s writes small empty end read put = absurd put
-stream_written (Err (Outside part whole)) m now bytes left dataset key s writes small empty end read put = absurd put
-stream_written (Err (TooLarge n)) m now bytes left dataset key s writes small empty end read put = absurd put
-stream_written (Err (Damaged cell fault)) m now bytes left dataset key s writes small empty end read put = absurd put
-stream_written (Err OutFault) m now bytes left dataset key s writes small empty end read put = absurd put
+stream_written (Err (TooManyCells cells)) m now bytes left dataset key s writes served small empty end read put = (empty, ok_is (writes_of bytes s) writes _ read put)
+stream_written (Err StoreFault) m now bytes left dataset key s writes served small empty end read put = inr (empty, ok_is (writes_of bytes s) writes _ read put)
+stream_written (Err NoMemory) m now bytes left dataset key s writes served small empty end read (inl same) = inl same
+stream_written (Err NoMemory) m now bytes left dataset key s writes served small empty end read (inr put) = inr (empty, ok_is (writes_of bytes s) writes _ read put)
+stream_written (Err NotEmpty) m now bytes left dataset key s writes served small empty end read put = absurd put
+stream_written (Err (Stream fault)) m now bytes left dataset key s writes served small empty end read put = absurd put
+stream_written (Err FeedFault) m now bytes left dataset key s writes served small empty end read put = absurd put
+stream_written (Err (NoScale why)) m now bytes left dataset key s writes served small empty end read put = absurd put
+stream_written (Err (Outside part whole)) m now bytes left dataset key s writes served small empty end read put = absurd put
+stream_written (Err (TooLarge n)) m now bytes left dataset key s writes served small empty end read put = absurd put
+stream_written (Err (Damaged cell fault)) m now bytes left dataset key s writes served small empty end read put = absurd put
+stream_written (Err OutFault) m now bytes left dataset key s writes served small empty end read put = absurd put
 
 -- what writing a scale answers is what writing a key answers, where the key has the scale
 scale_writes : (result : Result Written Refusal) (told : Result Scale NoScaleType) (m : Objects) (now : Option Objects) (bytes : List ℕ) (left : Option (List ℕ)) (dataset key : List ℕ) (s : Scale)

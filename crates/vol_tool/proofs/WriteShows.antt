@@ -1,9 +1,11 @@
 -- What a write shows, by how it ended.
-use Rattle.std.proofs.Common.{◌≡◌, ◌≢◌, ◌⊎◌, ◌∙◌, ℕ, ◌<◌, ◌≤◌, ◌^◌, List, length, Option, Some, None, IfSome, Result, Ok, Err, refl, sym, subst, ap, inl, inr, arith}
+use Rattle.std.proofs.Common.{◌≡◌, ◌⊎◌, ◌∙◌, ℕ, ◌<◌, ◌≤◌, ◌^◌, List, length, Option, Some, None, IfSome, Result, Ok, Err, refl, sym, subst, ap, inl, inr, arith}
 use Rattle.std.specs.Prelude.{IsOkAnd}
 use Rattle.std.proofs.lemmas.List.{take_all}
 use Rattle.vol_base.specs.Outside.{Draft, Objects}
-use Rattle.vol_spec.specs.StoredCells.{chunks_of, met_cells, object_list, put_in}
+use Rattle.vol_spec.specs.StoredCells.{chunks_of, met_cells, put_in}
+use Rattle.vol_spec.specs.StoredLists.{stored_list}
+use Rattle.vol_spec.specs.LastWrite.{zeros}
 use Rattle.vol_spec.specs.declared.scale.Scale.{Scale}
 use Rattle.shard_writer.specs.Writing.{PutsFront}
 use Rattle.shard_writer.specs.declared.written.Written.{Written}
@@ -11,21 +13,16 @@ use Rattle.write_plan.specs.Plans.{pairs}
 use Rattle.write_plan.specs.Stream.{writes_of}
 use Rattle.write_plan.specs.WriteLists.{BoxWrite}
 use Rattle.write_plan.specs.declared.fault.PlanFault.{PlanFault}
-use Rattle.vol_tool.specs.Answers.{stored_scale, Writes}
+use Rattle.vol_tool.specs.Answers.{stored_scale}
 use Rattle.tool_lines.specs.Effects.{Gains, GainsFront}
-use Rattle.tool_lines.specs.Lines.{cells_line, info_line, memory_line, stream_line, written_line}
+use Rattle.tool_lines.specs.Lines.{cells_line, info_line, stream_line, written_line}
 use Rattle.vol_tool.specs.Refusals.{info_text, line_of, status_of}
 use Rattle.vol_tool.specs.Statuses.{Outlets, Tells}
 use Rattle.vol_tool.specs.Storing.{count_line, Counts, FrontPut, HasStored, KeepsStore, Prints, RefusesWrite, WritesAll, WriteShows, WritesScale}
 use Rattle.vol_tool.specs.declared.refusal.Refusal.{Refusal}
 use Rattle.vol_tool.specs.declared.refusal.Refusal.TheVariants.{NoScale, Outside, TooLarge, Damaged, NotEmpty, Stream, TooManyCells, StoreFault, FeedFault, OutFault, NoMemory}
 use Rattle.vol_tool.specs.declared.status.Status.{Status}
-use Rattle.vol_tool.specs.declared.status.Status.TheVariants.{NoMemory as MemoryStatus}
-use Rattle.vol_tool.proofs.ShowSteps.{err_and, never, ok_and}
-
--- what was told of a refusal
-abbrev pub Told : Refusal → Status → List ℕ → Outlets → Type 0
-Told refusal status dataset o = ((status ≡ status_of refusal) × Tells o (line_of dataset refusal)) ⊎ ((status ≡ MemoryStatus) × (refusal ≢ OutFault) × Tells o memory_line)
+use Rattle.vol_tool.proofs.ShowSteps.{err_and, never, ok_and, Told}
 
 -- a refusal with its line
 shows_line : (refusal : Refusal) (m : Objects) (now : Option Objects) (bytes : List ℕ) (left : Option (List ℕ)) (dataset key : List ℕ) (o : Outlets)
@@ -100,7 +97,7 @@ all_put m now bytes left dataset key written writes =
       scale_put : (m : Objects) (now : Option Objects) (bytes : List ℕ) (left : Option (List ℕ)) (dataset key : List ℕ) (s : Scale) (written : Written) (r : Result (List BoxWrite) PlanFault) → r ≡ writes_of bytes s
           → IsOkAnd r (λ ws. HasStored m now left dataset key s ws × Counts written s ws) → FrontPut m now bytes dataset s
       scale_put m now bytes left dataset key s written (Ok ws) is h =
-          (h.0.empty, subst (λ q. IsOkAnd q (λ writes. (pairs s writes ≤ 2 ^ 22) × PutsFront (object_list dataset s (chunks_of s writes)) m now)) is (h.0.few, front_all m now (object_list dataset s (chunks_of s ws)) h.0.put))
+          (h.0.empty, subst (λ q. IsOkAnd q (λ writes. (pairs s writes ≤ 2 ^ 22) × PutsFront (stored_list dataset s (chunks_of s zeros writes)) m now)) is (h.0.few, front_all m now (stored_list dataset s (chunks_of s zeros ws)) h.0.put))
       scale_put m now bytes left dataset key s written (Err fault) is h = absurd h
 
 pub unprinted : (refusal : Refusal) (status : Status) (written : Written) (m : Objects) (now : Option Objects) (bytes : List ℕ) (left : Option (List ℕ)) (dataset key : List ℕ) (o : Outlets)
@@ -124,33 +121,6 @@ unprinted (Stream fault) status written m now bytes left dataset key o writes pr
 unprinted (TooManyCells cells) status written m now bytes left dataset key o writes prints told = absurd prints
 unprinted StoreFault status written m now bytes left dataset key o writes prints told = absurd prints
 unprinted FeedFault status written m now bytes left dataset key o writes prints told = absurd prints
-
--- the output, which only the line is written to
-pub out_kept : (refusal : Refusal) (old : Option (List ℕ)) → Writes (Err refusal) old old
-out_kept (NoScale why) old = refl
-out_kept (Outside part whole) old = refl
-out_kept (TooLarge n) old = refl
-out_kept (Damaged cell fault) old = refl
-out_kept NotEmpty old = refl
-out_kept (Stream fault) old = refl
-out_kept (TooManyCells cells) old = refl
-out_kept StoreFault old = refl
-out_kept FeedFault old = refl
-out_kept OutFault old = tt
-out_kept NoMemory old = refl
-
-pub out_printed : (refusal : Refusal) (old new : Option (List ℕ)) (line : List ℕ) → Prints (Err refusal) old new line → Writes (Err refusal) old new
-out_printed OutFault old new line prints = tt
-out_printed NoMemory old new line prints = prints
-out_printed (NoScale why) old new line prints = absurd prints
-out_printed (Outside part whole) old new line prints = absurd prints
-out_printed (TooLarge n) old new line prints = absurd prints
-out_printed (Damaged cell fault) old new line prints = absurd prints
-out_printed NotEmpty old new line prints = absurd prints
-out_printed (Stream fault) old new line prints = absurd prints
-out_printed (TooManyCells cells) old new line prints = absurd prints
-out_printed StoreFault old new line prints = absurd prints
-out_printed FeedFault old new line prints = absurd prints
 
 -- the same where objects and feed may be untold
 pub refused_told : (refusal : Refusal) (status : Status) (told now : Option Objects) (before after : Option Draft) (fed left : Option (List ℕ)) (dataset key : List ℕ) (o : Outlets)

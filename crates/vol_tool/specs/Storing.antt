@@ -1,12 +1,13 @@
 -- What `write` answers over the objects that a store tells and the stream that a feed tells.
-use Rattle.std.specs.Prelude.{◌≡◌, ◌⊎◌, Bool, true, false, ℕ, ℤ, ◌≤◌, ◌<◌, ◌^◌, List, [], length, Option, Some, None, Result, Ok, Err, ⊤, IsOkAnd, IsErrAnd}
-use Rattle.vol_base.specs.Boxes.{Covers}
+use Rattle.std.specs.Prelude.{◌≡◌, ◌⊎◌, Bool, true, false, ℕ, ◌≤◌, ◌<◌, ◌^◌, List, [], length, Option, Some, None, Result, Ok, Err, ⊤, IsOkAnd, IsErrAnd}
+use Rattle.vol_base.specs.declared.boxes.Box3.{Box3}
 use Rattle.vol_base.specs.Outside.{any_under, Draft, Objects}
 use Rattle.vol_spec.specs.CellNames.{folder_of}
-use Rattle.vol_spec.specs.Chunks.{fault_in, value_in}
-use Rattle.vol_spec.specs.Grid.{IsCell, whole}
-use Rattle.vol_spec.specs.LastWrite.{last}
-use Rattle.vol_spec.specs.StoredCells.{chunks_of, met_cells, object_list, put_in}
+use Rattle.vol_spec.specs.Cut.{cut, first_fault}
+use Rattle.vol_spec.specs.Grid.{Inside}
+use Rattle.vol_spec.specs.LastWrite.{last, zeros}
+use Rattle.vol_spec.specs.StoredCells.{chunks_of, met_cells, put_in, raw_bytes}
+use Rattle.vol_spec.specs.StoredLists.{stored_list}
 use Rattle.vol_spec.specs.declared.scale.Scale.{Scale}
 use Rattle.shard_writer.specs.Writing.{PutsFront}
 use Rattle.shard_writer.specs.declared.written.Written.{Written}
@@ -15,9 +16,9 @@ use Rattle.write_plan.specs.Stream.{writes_of}
 use Rattle.write_plan.specs.WriteLists.{BoxWrite}
 use Rattle.write_plan.specs.declared.fault.PlanFault.{PlanFault}
 use Rattle.tool_lines.specs.Effects.{Gains, GainsFront}
-use Rattle.tool_lines.specs.Lines.{cells_line, folder_line, info_line, stream_line, written_line}
+use Rattle.tool_lines.specs.Lines.{cells_line, feed_line, folder_line, info_line, memory_line, output_line, store_line, stream_line, written_line}
 use Rattle.vol_tool.specs.Refusals.{info_text}
-use Rattle.vol_tool.specs.Statuses.{Outlets, Tells}
+use Rattle.vol_tool.specs.Statuses.{Outlets, Silent, Tells, TellsRefusal}
 use Rattle.vol_tool.specs.Answers.{stored_scale}
 use Rattle.vol_tool.specs.declared.refusal.NoScale.{NoScale}
 use Rattle.vol_tool.specs.declared.refusal.Refusal.{Refusal}
@@ -25,21 +26,26 @@ use Rattle.vol_tool.specs.declared.refusal.Refusal.TheVariants.{NoScale as Witho
 use Rattle.vol_tool.specs.declared.status.Status.{Status}
 use Rattle.vol_tool.specs.declared.status.Status.TheVariants.{Ok as Done, Usage, InfoRefused, RequestRefused, Damaged, StoreFault, FeedFault, OutFault, NoMemory, DoorFault}
 
+-- a box reads back as the writes: no cell that meets it has a fault, and its cutout is the bytes of the last write that covers
+-- each voxel and channel, else 0, none missing
+abbrev pub ReadsBack : Objects → List ℕ → Scale → List BoxWrite → Box3 → Type 0
+ReadsBack now dataset s writes b =
+    (first_fault now dataset s b ≡ None) × (cut now dataset s b ≡ raw_bytes b s.channels s.width (last s.width zeros writes))
+
 -- what stands after a write: the folder was empty, the feed was read to its end, the objects of the writes were put in and nothing else
--- was changed; so the scale is as before, each voxel and channel has the value of the last covering write, else 0, and no cell has a fault
+-- was changed; so the scale is as before, and each box inside it reads back as the writes
 pub record HasStored (m : Objects) (now : Option Objects) (left : Option (List ℕ)) (dataset key : List ℕ) (s : Scale) (writes : List BoxWrite) : Type 0 where
   pub empty : any_under m (folder_of dataset s) ≡ false
   pub few : pairs s writes ≤ 2 ^ 22
   pub end : left ≡ Some []
-  pub put : now ≡ Some (put_in m (object_list dataset s (chunks_of s writes)))
-  pub same : stored_scale (put_in m (object_list dataset s (chunks_of s writes))) dataset key ≡ stored_scale m dataset key
-  pub values : (p : List ℤ) (c : ℕ) → Covers (whole s) p → c < s.channels → value_in (put_in m (object_list dataset s (chunks_of s writes))) dataset s p c ≡ Ok (last s.width writes p c)
-  pub sound : (cell : List ℕ) → IsCell s cell → fault_in (put_in m (object_list dataset s (chunks_of s writes))) dataset s cell ≡ None
+  pub put : now ≡ Some (put_in m (stored_list dataset s (chunks_of s zeros writes)))
+  pub same : stored_scale (put_in m (stored_list dataset s (chunks_of s zeros writes))) dataset key ≡ stored_scale m dataset key
+  pub back : (b : Box3) → Inside s b → ReadsBack (put_in m (stored_list dataset s (chunks_of s zeros writes))) dataset s writes b
 
 -- a front of the objects of writes that can be stored: the folder was empty, and there are not too many cells
 abbrev pub FrontPut : Objects → Option Objects → List ℕ → List ℕ → Scale → Type 0
 FrontPut m now bytes dataset s =
-    (any_under m (folder_of dataset s) ≡ false) × IsOkAnd (writes_of bytes s) (λ writes. (pairs s writes ≤ 2 ^ 22) × PutsFront (object_list dataset s (chunks_of s writes)) m now)
+    (any_under m (folder_of dataset s) ≡ false) × IsOkAnd (writes_of bytes s) (λ writes. (pairs s writes ≤ 2 ^ 22) × PutsFront (stored_list dataset s (chunks_of s zeros writes)) m now)
 
 -- a number of objects and of cells that is that of the cells that the writes meet
 pub record Counts (written : Written) (s : Scale) (writes : List BoxWrite) : Type 0 where
@@ -63,10 +69,10 @@ ReadsStream (Err other) read = ⊥
 
 -- what writing the objects of writes answers, and what stands after it
 abbrev pub PutsWrites : Result Written Refusal → Objects → Option Objects → List ℕ → Scale → List BoxWrite → Type 0
-PutsWrites (Ok written) m now dataset s writes = (now ≡ Some (put_in m (object_list dataset s (chunks_of s writes)))) × (pairs s writes ≤ 2 ^ 22) × Counts written s writes
+PutsWrites (Ok written) m now dataset s writes = (now ≡ Some (put_in m (stored_list dataset s (chunks_of s zeros writes)))) × (pairs s writes ≤ 2 ^ 22) × Counts written s writes
 PutsWrites (Err (TooManyCells cells)) m now dataset s writes = (cells ≡ pairs s writes) × (2 ^ 22 < pairs s writes)
-PutsWrites (Err StoreRefused) m now dataset s writes = (pairs s writes ≤ 2 ^ 22) × PutsFront (object_list dataset s (chunks_of s writes)) m now
-PutsWrites (Err MemoryRefused) m now dataset s writes = (now ≡ Some m) ⊎ ((pairs s writes ≤ 2 ^ 22) × PutsFront (object_list dataset s (chunks_of s writes)) m now)
+PutsWrites (Err StoreRefused) m now dataset s writes = (pairs s writes ≤ 2 ^ 22) × PutsFront (stored_list dataset s (chunks_of s zeros writes)) m now
+PutsWrites (Err MemoryRefused) m now dataset s writes = (now ≡ Some m) ⊎ ((pairs s writes ≤ 2 ^ 22) × PutsFront (stored_list dataset s (chunks_of s zeros writes)) m now)
 PutsWrites (Err other) m now dataset s writes = ⊥
 
 -- what printing a line answers, and what the outlet gains
@@ -139,3 +145,19 @@ WriteShows DoorFault m now bytes left dataset key o = ⊥
 abbrev pub CanWrite : Objects → List ℕ → List ℕ → List ℕ → Type 0
 CanWrite m bytes dataset key =
     IsOkAnd (stored_scale m dataset key) (λ s. (any_under m (folder_of dataset s) ≡ false) × IsOkAnd (writes_of bytes s) (λ writes. pairs s writes ≤ 2 ^ 22))
+
+-- what `write` leaves, also where nothing is told: its line at success, a front of it where the output failed; else the output
+-- gains nothing, and a line of the status is told
+abbrev pub WriteLeaves : Status → List ℕ → Outlets → Type 0
+WriteLeaves Done dataset o =
+    (o.err_new ≡ o.err_old) × (objects : ℕ) × (cells : ℕ) × Gains o.out_old o.out_new (written_line objects cells)
+WriteLeaves InfoRefused dataset o = Silent o × TellsRefusal o dataset InfoRefused
+WriteLeaves RequestRefused dataset o = Silent o × TellsRefusal o dataset RequestRefused
+WriteLeaves Damaged dataset o = Silent o × TellsRefusal o dataset Damaged
+WriteLeaves StoreFault dataset o = Silent o × Tells o store_line
+WriteLeaves FeedFault dataset o = Silent o × Tells o feed_line
+WriteLeaves OutFault dataset o =
+    Tells o output_line × (objects : ℕ) × (cells : ℕ) × GainsFront o.out_old o.out_new (written_line objects cells)
+WriteLeaves NoMemory dataset o = Silent o × Tells o memory_line
+WriteLeaves Usage dataset o = ⊥
+WriteLeaves DoorFault dataset o = ⊥

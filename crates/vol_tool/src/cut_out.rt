@@ -4,7 +4,7 @@ ghost use Rattle.vol_base.specs.Causes.{Rose};
 ghost use Rattle.vol_spec.specs.Bytes.{AreBytes};
 ghost use Rattle.vol_spec.specs.Limits.{first_bytes};
 ghost use Rattle.vol_spec.specs.Raw.{raw_len};
-ghost use Rattle.vol_tool.specs.Answers.{Cuts, CutsScale, HasCut, IsRequest, JudgesPart, stored_scale, Writes};
+ghost use Rattle.vol_tool.specs.Answers.{Cuts, CutsScale, HasCut, IsRequest, JudgesPart, stored_scale, Writes, IsServed};
 
 use crate::buffers::make_buffer;
 use crate::info::read_scale;
@@ -53,6 +53,7 @@ fn read_values<S: Source>(
     out: &mut [u8],
 ) -> Result<(), Refusal>
     requires dataset { length dataset.now ≤ 200 }
+    requires served { IsServed scale.now }
     requires part { IsRequest scale.now part.now }
     requires room { length chunk.old ≡ first_bytes scale.now.width scale.now.channels scale.now.size scale.now.chunk + 1 }
     requires len { length out.old ≡ raw_len part.now scale.now.channels scale.now.width }
@@ -85,6 +86,7 @@ fn cut_into<S: Source, O: Outlet>(
     values: &mut [u8],
 ) -> Result<(), Refusal>
     requires dataset { length dataset.now ≤ 200 }
+    requires served { IsServed scale.now }
     requires part { IsRequest scale.now part.now }
     requires room { length chunk.old ≡ first_bytes scale.now.width scale.now.channels scale.now.size scale.now.chunk + 1 }
     requires len { length values.old ≡ raw_len part.now scale.now.channels scale.now.width }
@@ -117,6 +119,7 @@ fn cut_scale<S: Source, O: Outlet>(
     part: &Box3,
 ) -> Result<(), Refusal>
     requires dataset { length dataset.now ≤ 200 }
+    requires served { IsServed scale.now }
     ensures cuts { IfSome (S.objects store.old) (λ m. CutsScale result m dataset.now scale.now part.now (O.written out.old) (O.written out.new)) }
     ensures objects { S.objects store.new ≡ S.objects store.old }
     ensures draft { S.draft store.new ≡ S.draft store.old }

@@ -29,7 +29,7 @@ fn is_served_scale(scale: &Scale) -> bool
     matches!(&scale.encoding, Encoding::Raw) && scale.sharding.is_none()
 }
 
-fn serve_scale(scale: Scale) -> Result<Scale, Refusal>
+pub(crate) fn serve_scale(scale: Scale) -> Result<Scale, Refusal>
     ensures served { ReadsScale result (served_only scale) }
     ensures form { IfOk result IsServed }
     ensures store { result ≡ Err Refusal.StoreFault → ⊥ }

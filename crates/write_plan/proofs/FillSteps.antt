@@ -9,7 +9,7 @@ use Rattle.vol_base.specs.declared.boxes.Box3.{Box3}
 use Rattle.vol_base.specs.Boxes.{num, value, IsSome, Within}
 use Rattle.vol_spec.specs.Bytes.{AreBytes}
 use Rattle.vol_spec.specs.Grid.{cell_box, meets}
-use Rattle.vol_spec.specs.LastWrite.{covers, last}
+use Rattle.vol_spec.specs.LastWrite.{covers, last, zeros}
 use Rattle.vol_spec.specs.Raw.{digit, number, raw_len}
 use Rattle.vol_spec.specs.StoredCells.{written_raw}
 use Rattle.vol_spec.specs.declared.scale.Scale.{Scale}
@@ -41,10 +41,10 @@ chosen false a b x f g = g refl
 pub shows_more : (cell : Box3) (channels width : ℕ) (ws : List BoxWrite) (w : BoxWrite) (old new : List ℕ) → Shows cell channels width ws old → Applied w cell channels width old new
     → Shows cell channels width (ws ++ w ∷ []) new
 shows_more cell channels width ws w old new was h p c cov lc =
-    chosen (covers w.0 p) (digit w.1 width (num w.0 p c)) (last width ws p c) (digit new width (num cell p c))
+    chosen (covers w.0 p) (digit w.1 width (num w.0 p c)) (last width zeros ws p c) (digit new width (num cell p c))
     (λ t. h.taken p c cov (Covers-from w.0 p t) lc)
     (λ t. h.kept p c cov (λ in_write. let e = covers-true w.0 p in_write in cc (t, e)) lc ∙ was p c cov lc)
-    ∙ sym (last-more width ws w p c)
+    ∙ sym (last-more width zeros ws w p c)
 
 pub run_more : (ws : List Write) (run : List Pair) (i : ℕ) (none : Pair) (w : Write) (d : BoxWrite) → i < length run → (get_or run i none).write < length ws → w ≡ get_or ws (get_or run i none).write w
     → writes_of_run (writes_in ws) d (take (i + 1) run) ≡ writes_of_run (writes_in ws) d (take i run) ++ write_in w ∷ []
@@ -71,10 +71,10 @@ shows_none cell channels width raw h p c cov lc = number-zero (value width raw (
 
 -- what shows the writes that meet a cell is what all of them give it
 pub written_is : (s : Scale) (ws : List BoxWrite) (cell : List ℕ) (run : List BoxWrite) (out : List ℕ) → IsSome (cell_box s cell) → run ≡ filter (λ w. meets s w.0 cell) ws
-    → length out ≡ raw_len (cell_box s cell) s.channels s.width → AreBytes out → Shows (cell_box s cell) s.channels s.width run out → out ≡ written_raw s ws cell
+    → length out ≡ raw_len (cell_box s cell) s.channels s.width → AreBytes out → Shows (cell_box s cell) s.channels s.width run out → out ≡ written_raw s zeros ws cell
 written_is s ws cell run out some is len small shows =
-    is_written_raw s ws cell out some len small
-    (λ p c cov lc. shows p c cov lc ∙ ap (λ vs. last s.width vs p c) is ∙ last-met s ws cell p c cov)
+    is_written_raw s zeros ws cell out some len small
+    (λ p c cov lc. shows p c cov lc ∙ ap (λ vs. last s.width zeros vs p c) is ∙ last-met s zeros ws cell p c cov)
 
 -- the cell's own bytes are all there are
 pub fits_values : (s : Scale) (ws : List BoxWrite) → All (IsWriteOf s) ws → total ws ≤ 2 ^ 30 → All (λ w. HoldsValues w.0 s.channels s.width (length w.1)) ws

@@ -7,7 +7,8 @@ use Rattle.std.proofs.lemmas.List.{get_or-map, length-map}
 use Rattle.std.proofs.lemmas.List.Elements.{All-contains_itself, All-filter, Contains-get_or, filter_passes}
 use Rattle.vol_base.specs.declared.boxes.Box3.{Box3}
 use Rattle.vol_base.specs.Outside.{Objects}
-use Rattle.vol_spec.specs.Cut.{first_some}
+use Rattle.vol_spec.specs.BoxValues.{first_some}
+use Rattle.vol_spec.specs.LastWrite.{zeros}
 use Rattle.vol_spec.specs.Grid.{cell_box, IsCell, meets}
 use Rattle.vol_spec.specs.Raw.{raw_len}
 use Rattle.vol_spec.specs.StoredCells.{AreInOrder, cell_number, cell_of, met, met_cells, written_raw}
@@ -105,11 +106,11 @@ pub record IsRoom (s : Scale) (cell : List ℕ) (n : ℕ) : Type 0 where
   pub in_grid : IsCell s cell
   pub len : n ≡ raw_len (cell_box s cell) s.channels s.width
 
-room_at : (s : Scale) (ws : List BoxWrite) (job n : ℕ) (b : Bool) → b ≡ nat_lt job (length (met_cells s ws)) → IsSomeAnd (if b then Some (written_raw s ws (cell_of (met_cells s ws) job)) else None) (λ bytes. length bytes ≡ n)
+room_at : (s : Scale) (ws : List BoxWrite) (job n : ℕ) (b : Bool) → b ≡ nat_lt job (length (met_cells s ws)) → IsSomeAnd (if b then Some (written_raw s zeros ws (cell_of (met_cells s ws) job)) else None) (λ bytes. length bytes ≡ n)
     → IsRoom s (cell_of (met_cells s ws) job) n
 room_at s ws job n true e h =
     let low : job < length (met_cells s ws) = below_from job (length (met_cells s ws)) (sym e) in
-    record { in_grid = (AreInOrder-met_cells s ws).each job [] low; len = sym h ∙ length-written_raw s ws (cell_of (met_cells s ws) job) }
+    record { in_grid = (AreInOrder-met_cells s ws).each job [] low; len = sym h ∙ length-written_raw s zeros ws (cell_of (met_cells s ws) job) }
 room_at s ws job n false e h = absurd h
 
 pub room : (plan : Planned) (s : Scale) (ws : List BoxWrite) (jobs : List (List ℕ)) (cell : List ℕ) (job n : ℕ) → plan ≡ record { scale = s; writes = ws } → jobs ≡ met_cells s ws → cell ≡ cell_of jobs job
@@ -132,8 +133,8 @@ below_true : (a b : ℕ) → a < b → nat_lt a b ≡ true
 below_true a b h = grind (arith, nat_tests)
 
 ready_at : (s : Scale) (ws : List BoxWrite) (job n : ℕ) (b : Bool) → b ≡ true → n ≡ raw_len (cell_box s (cell_of (met_cells s ws) job)) s.channels s.width
-    → IsSomeAnd (if b then Some (written_raw s ws (cell_of (met_cells s ws) job)) else None) (λ bytes. length bytes ≡ n)
-ready_at s ws job n true e len = length-written_raw s ws (cell_of (met_cells s ws) job) ∙ sym len
+    → IsSomeAnd (if b then Some (written_raw s zeros ws (cell_of (met_cells s ws) job)) else None) (λ bytes. length bytes ≡ n)
+ready_at s ws job n true e len = length-written_raw s zeros ws (cell_of (met_cells s ws) job) ∙ sym len
 ready_at s ws job n false e len = absurd (cc e)
 
 pub job_room : (plan : Planned) (jobs : List (List ℕ)) (cell : List ℕ) (job n : ℕ) → jobs ≡ met_cells plan.scale plan.writes → cell ≡ cell_of jobs job → job < length (met_cells plan.scale plan.writes)

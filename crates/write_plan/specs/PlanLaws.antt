@@ -2,6 +2,7 @@
 use Rattle.std.proofs.Common.{◌≡◌, ℕ, List, length, Some, IfSome, Bool, true, false, nat_lt}
 use Rattle.std.specs.Prelude.{None, if◌then◌else◌}
 use Rattle.vol_spec.specs.Grid.{cell_box}
+use Rattle.vol_spec.specs.LastWrite.{zeros}
 use Rattle.vol_spec.specs.Raw.{raw_len}
 use Rattle.vol_spec.specs.StoredCells.{AreInOrder, cell_of, met_cells, written_raw}
 use Rattle.vol_spec.specs.declared.scale.Scale.{Scale}
@@ -21,4 +22,4 @@ some_fits false bytes n e = tt
 
 pub ready_fits : (plan : Planned) (job : ℕ)
     → IfSome (ready_of plan job) (λ bytes. length bytes ≡ raw_len (cell_box plan.scale (cell_of (met_cells plan.scale plan.writes) job)) plan.scale.channels plan.scale.width)
-ready_fits plan job = some_fits (nat_lt job (length (met_cells plan.scale plan.writes))) (written_raw plan.scale plan.writes (cell_of (met_cells plan.scale plan.writes) job)) _ (length-written_raw plan.scale plan.writes (cell_of (met_cells plan.scale plan.writes) job))
+ready_fits plan job = some_fits (nat_lt job (length (met_cells plan.scale plan.writes))) (written_raw plan.scale zeros plan.writes (cell_of (met_cells plan.scale plan.writes) job)) _ (length-written_raw plan.scale zeros plan.writes (cell_of (met_cells plan.scale plan.writes) job))

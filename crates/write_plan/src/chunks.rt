@@ -5,7 +5,7 @@ ghost use Rattle.std.specs.List.{range_with_len};
 ghost use Rattle.vol_base.specs.Outside.{Objects};
 ghost use Rattle.vol_base.specs.declared.faults.Fault.{Fault};
 ghost use Rattle.vol_spec.specs.CellNames.{cell_name};
-ghost use Rattle.vol_spec.specs.Cut.{first_some};
+ghost use Rattle.vol_spec.specs.BoxValues.{first_some};
 ghost use Rattle.vol_spec.specs.Grid.{cell_box};
 ghost use Rattle.vol_spec.specs.Raw.{raw_len};
 ghost use Rattle.vol_spec.specs.StoredCells.{AreInOrder, cell_of};

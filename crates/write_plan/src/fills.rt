@@ -1,6 +1,7 @@
 //! Writes put into the values of a cell.
 ghost use Rattle.std.specs.Prelude.{◌≡◌, ◌≤◌, ◌<◌, ◌^◌, [], length, All};
 ghost use Rattle.vol_spec.specs.Grid.{cell_box as box_of, IsCell};
+ghost use Rattle.vol_spec.specs.LastWrite.{zeros};
 ghost use Rattle.vol_spec.specs.Raw.{raw_len};
 ghost use Rattle.vol_spec.specs.StoredCells.{written_raw};
 ghost use Rattle.write_plan.specs.Fills.{Applied, HoldsValues, Shows};
@@ -65,7 +66,7 @@ pub(crate) fn fill_cell(
     requires small { total (writes_in writes.now) ≤ 2 ^ 30 }
     requires pairs { ArePairs scale.now (writes_in writes.now) pairs.now }
     requires len { length raw.old ≡ raw_len (box_of scale.now cell) scale.now.channels scale.now.width }
-    ensures { raw.new ≡ written_raw scale.now (writes_in writes.now) cell }
+    ensures { raw.new ≡ written_raw scale.now zeros (writes_in writes.now) cell }
 {
     let run = find_run(pairs, find_number(scale, cell));
     let part = cell_box(scale, cell);

@@ -98,7 +98,7 @@ impl From<OutOfMemory> for PlanRefusal {
 impl Chunks for Plan {
     ghost use Rattle.std.specs.Prelude.{◌≡◌, ◌-◌, ◌≤◌, ℕ, Some, None, IsOk, IsSome, OnOk, IfSome, refl, length, map};
     ghost use Rattle.std.specs.List.{range_with_len};
-    ghost use Rattle.vol_spec.specs.Cut.{first_some};
+    ghost use Rattle.vol_spec.specs.BoxValues.{first_some};
     ghost use Rattle.vol_spec.specs.StoredCells.{met_cells};
     ghost use Rattle.write_plan.specs.Jobs.{HasPrepareCause, Prepares};
     ghost use Rattle.write_plan.specs.Plans.{no_fault, raw_of, ready_of};

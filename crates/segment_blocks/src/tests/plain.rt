@@ -1,7 +1,7 @@
 //! A chunk judged and read the plain slow way: each bit by itself, each voxel from the first word on.
 //! Each function's contract is the definition of what it finds.
 ghost use Rattle.std.specs.Prelude.{◌≡◌, ◌+◌, ◌*◌, ◌<◌, ◌≤◌, ◌^◌, ℕ, None, map, slice_index, take, drop, if◌then◌else◌};
-ghost use Rattle.vol_spec.specs.Cut.{first_some};
+ghost use Rattle.vol_spec.specs.BoxValues.{first_some};
 ghost use Rattle.vol_spec.specs.Raw.{number};
 ghost use Rattle.vol_spec.specs.SegBlocks.{InChunk, block, block_count, block_of, block_voxels, blocks_on, entry_words, in_chunk, num, number_in, size, voxels_in, width, x_of, y_of, z_of};
 ghost use Rattle.vol_spec.specs.SegChunks.{bits, entry_at, field, index, seg_at, start, table_at, values_at, word, words};

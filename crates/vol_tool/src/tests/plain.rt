@@ -1,7 +1,9 @@
 //! Cutouts against the plain program, value by value.
-ghost use Rattle.std.specs.Prelude.{◌≤◌, length};
+ghost use Rattle.std.specs.Prelude.{◌≡◌, ◌≤◌, length, true};
+ghost use Rattle.vol_tool.specs.Answers.{IsServed, is_served};
 
 use super::{call, no_feed, outlet_of, put};
+use crate::info::serve_scale;
 use chunk_grid::{byte_len, whole};
 use info_doc::{Scale, scale_of};
 use std::alloc::{AllocError, Global};
@@ -176,7 +178,8 @@ fn compare(
     part: &Box3,
     bytes: &[u8],
 )
-    requires { length dataset.now ≤ 200 }
+    requires dataset { length dataset.now ≤ 200 }
+    requires served { IsServed scale.now }
 {
     assert_eq!(rt;
         bytes.len() as u128,
@@ -201,7 +204,8 @@ fn check_part<R: Threads + Wait + Abort + Sync>(
     text: &str,
     stored: usize,
 ) -> Result<(), Fail>
-    requires { length dataset.now ≤ 200 }
+    requires dataset { length dataset.now ≤ 200 }
+    requires served { IsServed scale.now }
 {
     let part = Box3::parse(text)?;
     let words = format!(in alloc; "cutout d s {text}")?;
@@ -226,6 +230,9 @@ fn check_case<R: Threads + Wait + Abort + Sync>(
     assert!(rt; dataset.as_bytes().len() == 1 && key.as_bytes().len() == 1);
     let info = info_of(alloc, case)?;
     let scale = scale_of(alloc, info.as_bytes(), &key)?;
+    let Ok(scale) = serve_scale(scale) else {
+        return Err("served")?;
+    };
     let mut store = MemoryStore::new(alloc, Vec::new(alloc));
     put(alloc, &mut store, "d/info", info.as_bytes())?;
     for (name, first, len) in case.chunks {

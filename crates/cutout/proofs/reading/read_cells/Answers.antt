@@ -26,7 +26,7 @@ loop-cell-preserved g c =
     record {
       left = one_on c.loop-cell.yielded c.loop-cell.cell-iterator c.next.new.self (cells_in c.args.scale.now c.args.part.now) c.in-Some.cell next c.loop-cell.invariant.left;
       read = λ m told.
-          read_more m c.args.dataset.now c.args.scale.now c.args.part.now c.loop-cell.yielded c.in-Some.cell c.loop-cell.out c.read_one.new.out home (c.loop-cell.invariant.read m told)
+          read_more m c.args.dataset.now c.args.scale.now c.args.part.now c.loop-cell.yielded c.in-Some.cell c.loop-cell.out c.read_one.new.out c.requires.raw home (c.loop-cell.invariant.read m told)
           (from_told _ _ m (c.loop-cell.invariant.objects ∙ told) c.in-Ok.ensures.read);
       objects = c.read_one.ensures.objects ∙ c.loop-cell.invariant.objects;
       draft = c.read_one.ensures.draft ∙ c.loop-cell.invariant.draft;

@@ -33,4 +33,4 @@ read_cell-requires-clause-cell g c =
     omega (arith, len.is, len.first, len.small)
 
 pub returns-clause-read : goal.returns-clause-read
-returns-clause-read g c = read_by _ _ c.args.dataset.now c.args.scale.now c.args.cell c.cell_box-b.result c.object_name-name.result c.args.part.now _ _ c.cell_box-b.ensures.positions c.object_name-name.ensures c.read_cell.ensures.read
+returns-clause-read g c = read_by _ _ c.args.dataset.now c.args.scale.now c.args.cell c.cell_box-b.result c.object_name-name.result c.args.part.now _ _ c.requires.raw c.requires.unsharded c.cell_box-b.ensures.positions c.object_name-name.ensures c.read_cell.ensures.read

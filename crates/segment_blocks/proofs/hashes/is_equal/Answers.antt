@@ -1,6 +1,6 @@
 use Rattle.std.proofs.Common.{arith, ◌≡◌, ◌⊎◌, ◌*◌, ℕ, List, length, slice_index, take, drop, ap, ◌∙◌, sym, subst, refl, inl, inr, ⊎_elim, Bool, true, false, IsTrue}
 use Rattle.std.specs.Prelude.{flat_map}
-use Rattle.vol_spec.specs.Cut.{bytes_of}
+use Rattle.vol_spec.specs.BoxValues.{bytes_of}
 use Rattle.vol_spec.specs.SegSizes.{width_of}
 use Rattle.vol_spec.specs.SegWritten.{same, table}
 use Rattle.vol_spec.specs.SegShapes.{sizes_of}

@@ -1,5 +1,5 @@
 use Rattle.std.proofs.Common.{arith, ◌≡◌, ◌∙◌, ap, sym, length}
-use Rattle.vol_spec.specs.Cut.{bytes_of}
+use Rattle.vol_spec.specs.BoxValues.{bytes_of}
 use Rattle.vol_spec.specs.Raw.{number}
 use Rattle.segment_blocks.proofs.Again.{bytes_of_number}
 use Rattle.segment_blocks.proofs.pack.fill_places.Goals as goal

@@ -3,7 +3,7 @@ use Rattle.std.proofs.lemmas.Bool.{cases_lt}
 use Rattle.std.specs.Prelude.{flat_map}
 use Rattle.std.specs.List.{range_with_len}
 use Rattle.vol_base.specs.declared.faults.ChunkFault.TheVariants.{SegLength}
-use Rattle.vol_spec.specs.Cut.{first_some}
+use Rattle.vol_spec.specs.BoxValues.{first_some}
 use Rattle.vol_spec.specs.SegFaults.{when, channel_faults, length_fault, seg_fault}
 use Rattle.vol_spec.specs.SegShapes.{sizes_of}
 use Rattle.segment_blocks.specs.Filled.{Filled}

@@ -1,6 +1,6 @@
 use Rattle.std.proofs.Common.{arith, ◌≡◌, ◌*◌, ◌∙◌, ap, sym, drop, length, [], ◌∷◌, None}
 use Rattle.std.specs.Prelude.{map}
-use Rattle.vol_spec.specs.Cut.{first_some}
+use Rattle.vol_spec.specs.BoxValues.{first_some}
 use Rattle.vol_spec.specs.SegFaults.{bits_fault, values_fault, table_fault}
 use Rattle.vol_spec.specs.SegBlocks.{voxels_in}
 use Rattle.vol_spec.specs.SegShapes.{sizes_of}

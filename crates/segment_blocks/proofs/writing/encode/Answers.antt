@@ -2,7 +2,7 @@ use Rattle.std.proofs.Common.{arith, ◌≡◌, ◌*◌, ◌<◌, ◌≤◌, ◌
 use Rattle.std.specs.Prelude.{flat_map}
 use Rattle.std.specs.List.{range_with_len}
 use Rattle.std.proofs.lemmas.List.{take_at}
-use Rattle.vol_spec.specs.Cut.{bytes_of}
+use Rattle.vol_spec.specs.BoxValues.{bytes_of}
 use Rattle.vol_spec.specs.SegShapes.{sizes_of}
 use Rattle.vol_spec.specs.SegWritten.{channel_bytes, channel_start}
 use Rattle.segment_blocks.specs.Reserved.{sizes_for}

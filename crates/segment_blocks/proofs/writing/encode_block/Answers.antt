@@ -1,7 +1,7 @@
 use Rattle.std.proofs.Common.{append_assoc, arith, ◌≡◌, ◌+◌, ◌*◌, ◌/◌, ◌^◌, ◌<◌, ◌∙◌, ◌++◌, ap, sym, subst, ℕ, List, length, set, take, drop}
 use Rattle.std.specs.Prelude.{flat_map}
 use Rattle.std.proofs.lemmas.List.{get_or_default, take_at}
-use Rattle.vol_spec.specs.Cut.{bytes_of}
+use Rattle.vol_spec.specs.BoxValues.{bytes_of}
 use Rattle.vol_spec.specs.SegShapes.{sizes_of}
 use Rattle.vol_spec.specs.SegSizes.{width_of}
 use Rattle.vol_spec.specs.SegWritten.{bits_for, block_bits, owner, packed_bytes, table, table_place, values_place}

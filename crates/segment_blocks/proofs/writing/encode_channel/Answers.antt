@@ -1,7 +1,7 @@
 use Rattle.std.proofs.Common.{arith, ◌≡◌, ◌*◌, ◌∙◌, ◌++◌, ap, ℕ, List, length, length-take, take, drop}
 use Rattle.std.specs.Prelude.{flat_map}
 use Rattle.std.specs.List.{range_with_len}
-use Rattle.vol_spec.specs.Cut.{bytes_of}
+use Rattle.vol_spec.specs.BoxValues.{bytes_of}
 use Rattle.vol_spec.specs.SegWritten.{header, values_place}
 use Rattle.segment_blocks.specs.Stored.{body}
 use Rattle.segment_blocks.proofs.Bodies.{headers_bytes, over_front}

@@ -2,7 +2,7 @@ use Rattle.std.proofs.Common.{◌≡◌, ◌≤◌, ◌-◌, ◌+◌, ◌∙◌,
 use Rattle.std.specs.List.{range_with_len}
 use Rattle.vol_base.specs.Outside.{Objects}
 use Rattle.vol_spec.specs.CellNames.{cell_name}
-use Rattle.vol_spec.specs.Cut.{first_some}
+use Rattle.vol_spec.specs.BoxValues.{first_some}
 use Rattle.vol_spec.specs.StoredCells.{AreInOrder, cell_of, put_in}
 use Rattle.shard_writer.specs.Writing.{bytes_from, objects_from, WritesAll}
 use Rattle.vol_spec.proofs.Told.{from_told, in_told}

@@ -1,9 +1,31 @@
-use Rattle.std.proofs.Common.{ap, sym, ◌∙◌, Some}
-use Rattle.vol_tool.proofs.RunSteps.{value_written}
+use Rattle.std.proofs.Common.{map, string_bytes}
+use Rattle.command_line.specs.Words.{line}
+use Rattle.vol_tool.specs.Seen.{view}
+use Rattle.vol_tool.proofs.MemorySteps.{memory_answers, memory_causes, memory_headline, memory_keeps, memory_leaves, memory_succeeds}
 use Rattle.vol_tool.proofs.top.run.Goals as goal
 
-pub returns-in-Ok-Some-Write-clause-last_write : goal.returns-in-Ok-Some-Write-clause-last_write
-returns-in-Ok-Some-Write-clause-last_write g c dataset key workers m now bytes s writes line done told fed scale stream after p ch cov lt =
-    value_written c.in-Ok-Some-Write.dataset c.in-Ok-Some-Write.key dataset key c.in-Ok-Some-Write.field-0-0-2 workers c.run_write.result (g.S.Source.objects c.args.store.now) (g.S.Source.objects c.run_write.new.store)
-    (g.F.Feed.left c.args.feed.now) (g.F.Feed.left c.run_write.new.feed) _ m now bytes s writes p ch
-    (ap Some (sym c.in-Ok-Some-Write.field-0-0-is) ∙ sym c.in-Ok-Some-Write.field-0-is ∙ c.in-Ok-Some-Write.ensures.line ∙ line) c.run_write.ensures.shows done told fed scale stream after cov lt
+pub returns-in-Err-clause-answers : goal.returns-in-Err-clause-answers
+returns-in-Err-clause-answers g c =
+    memory_answers (line (map string_bytes c.args.words.now))
+    (view g.S.Source.objects g.S.Source.draft g.S.Source.faults g.F.Feed.left g.F.Feed.faults g.O.Outlet.written g.O.Outlet.faults g.E.Outlet.written g.E.Outlet.faults
+    g.D.Door.bound g.D.Door.accepted g.D.Door.served g.D.Door.faults c.args.store.now c.args.feed.now c.args.out.now c.args.err.now c.args._door.now)
+    (g.E.Outlet.written c.say.new.err) (g.E.Outlet.faults c.say.new.err)
+
+pub returns-in-Err-clause-succeeds : goal.returns-in-Err-clause-succeeds
+returns-in-Err-clause-succeeds g c =
+    memory_succeeds (line (map string_bytes c.args.words.now))
+    (view g.S.Source.objects g.S.Source.draft g.S.Source.faults g.F.Feed.left g.F.Feed.faults g.O.Outlet.written g.O.Outlet.faults g.E.Outlet.written g.E.Outlet.faults
+    g.D.Door.bound g.D.Door.accepted g.D.Door.served g.D.Door.faults c.args.store.now c.args.feed.now c.args.out.now c.args.err.now c.args._door.now)
+    (g.E.Outlet.written c.say.new.err) (g.E.Outlet.faults c.say.new.err)
+
+pub returns-in-Err-clause-headline : goal.returns-in-Err-clause-headline
+returns-in-Err-clause-headline g c = memory_headline _ _ (g.E.Outlet.written c.say.new.err) (g.E.Outlet.faults c.say.new.err)
+
+pub returns-in-Err-clause-leaves : goal.returns-in-Err-clause-leaves
+returns-in-Err-clause-leaves g c = memory_leaves _ _ (g.E.Outlet.written c.say.new.err) (g.E.Outlet.faults c.say.new.err) c.say.ensures.said
+
+pub returns-in-Err-clause-keeps : goal.returns-in-Err-clause-keeps
+returns-in-Err-clause-keeps g c = memory_keeps _ _ (g.E.Outlet.written c.say.new.err) (g.E.Outlet.faults c.say.new.err)
+
+pub returns-in-Err-clause-causes : goal.returns-in-Err-clause-causes
+returns-in-Err-clause-causes g c = memory_causes _ _ (g.E.Outlet.faults c.say.new.err) c.say.ensures.later

@@ -1,5 +1,6 @@
-use Rattle.vol_tool.proofs.ShowSteps.{leaves}
-use Rattle.vol_tool.proofs.WriteShows.{out_kept, out_printed, refused_told, unprinted_told}
+use Rattle.std.proofs.Common.{ap, Err, refl}
+use Rattle.vol_tool.proofs.ShowSteps.{print_left, write_left}
+use Rattle.vol_tool.proofs.WriteShows.{refused_told, unprinted_told}
 use Rattle.vol_tool.proofs.top.run_write.Goals as goal
 
 pub returns-in-Err-clause-shows : goal.returns-in-Err-clause-shows
@@ -13,9 +14,9 @@ returns-in-Err-print_written-clause-shows g c =
     (g.F.Feed.left c.args.feed.now) (g.F.Feed.left c.write_objects.new.feed) c.args.dataset.now c.args.key.now _ c.in-Ok.ensures.writes c.in-Err-print_written.ensures.prints c.report-in-Err-print_written.ensures.told
 
 pub returns-in-Err-clause-leaves : goal.returns-in-Err-clause-leaves
-returns-in-Err-clause-leaves g c = leaves c.in-Err.refusal c.report.result c.args.dataset.now _ (out_kept c.in-Err.refusal _) c.report.ensures.told
+returns-in-Err-clause-leaves g c = write_left c.in-Err.refusal c.report.result c.args.dataset.now _ (λ e. c.in-Err.ensures.output (ap Err e)) refl c.report.ensures.told
 
 pub returns-in-Err-print_written-clause-leaves : goal.returns-in-Err-print_written-clause-leaves
 returns-in-Err-print_written-clause-leaves g c =
-    leaves c.in-Err-print_written.refusal c.report-in-Err-print_written.result c.args.dataset.now _
-    (out_printed c.in-Err-print_written.refusal _ _ _ c.in-Err-print_written.ensures.prints) c.report-in-Err-print_written.ensures.told
+    print_left c.in-Err-print_written.refusal c.report-in-Err-print_written.result c.args.dataset.now _ c.in-Ok.written.objects c.in-Ok.written.cells
+    c.in-Err-print_written.ensures.prints c.report-in-Err-print_written.ensures.told

@@ -8,7 +8,7 @@ pub returns-in-Ok-read_stream-clause-writes : goal.returns-in-Ok-read_stream-cla
 returns-in-Ok-read_stream-clause-writes g c key =
     in_told _ _ (λ m told. in_told _ _ (λ bytes left.
     stream_written c.write_planned.result m (g.S.Source.objects c.write_planned.new.store) bytes (g.F.Feed.left c.read_stream.new.feed) c.args.dataset.now key c.args.scale.now c.in-Ok-read_stream.writes
-    c.in-Ok-read_stream.ensures.bytes (from_told _ _ m told c.in-Ok.ensures.judged) (c.in-Ok-read_stream.ensures.end ∙ ap (option_map (λ _. [])) left)
+    c.requires.served c.in-Ok-read_stream.ensures.bytes (from_told _ _ m told c.in-Ok.ensures.judged) (c.in-Ok-read_stream.ensures.end ∙ ap (option_map (λ _. [])) left)
     (from_told _ _ bytes left c.in-Ok-read_stream.ensures.read)
     (from_told _ _ m (c.judge_folder.ensures.objects ∙ told) c.write_planned.ensures.put)))
 

@@ -1,5 +1,5 @@
 use Rattle.std.proofs.Common.{◌≡◌, ◌<◌, ℕ, None}
-use Rattle.vol_spec.specs.Cut.{first_some}
+use Rattle.vol_spec.specs.BoxValues.{first_some}
 use Rattle.vol_spec.specs.SegFaults.{block_faults}
 use Rattle.vol_spec.specs.SegShapes.{sizes_of}
 use Rattle.segment_blocks.proofs.tests.plain.judge_channel.Given as goal

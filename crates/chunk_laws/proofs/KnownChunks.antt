@@ -1,0 +1,352 @@
+-- Known scales and objects: what they say of their cells, what is wrong with them, and what chunks are stored as.
+use Rattle.std.proofs.Common.{map, ◌≡◌, ℕ, ◌^◌, ◌≤◌, Bool, true, false, List, [], ◌∷◌, ◌++◌, length, slice_index, take, Option, Some, None, Ok, Err, refl, ap, subst, arith, lit≤, inl, inr}
+use Rattle.std.specs.Prelude.{ℤ, pos, neg_ℤ, ◌≤ℤ◌, Result, slice_index_or}
+use Rattle.std.specs.List.{range_with_len}
+use Rattle.std.proofs.lemmas.Int.{ints}
+use Rattle.vol_base.proofs.Axes.{by_axis}
+use Rattle.vol_base.specs.Grids.{AreSizes, pairs}
+use Rattle.vol_base.specs.declared.faults.ChunkFault.TheVariants.{ChunkLength}
+use Rattle.vol_base.specs.declared.faults.Fault.{Fault}
+use Rattle.vol_base.specs.declared.faults.Fault.TheVariants.{Chunk, Index, Shard}
+use Rattle.vol_base.specs.declared.faults.IndexFault.TheVariants.{BadId}
+use Rattle.vol_base.specs.declared.faults.ShardFault.TheVariants.{ShortIndex, BadLength, ShortMinishard, ChunkTooLong, ShortChunk}
+use Rattle.vol_spec.specs.Chunks.{judged, value_of}
+use Rattle.vol_spec.specs.Costs.{cost_by}
+use Rattle.vol_spec.specs.Encodings.{blocks_of, encoded}
+use Rattle.vol_spec.specs.Entries.{entry_bytes, entry_of}
+use Rattle.vol_spec.specs.FoundChunks.{found}
+use Rattle.vol_spec.specs.IndexBytes.{eight, numbers}
+use Rattle.vol_spec.specs.Limits.{AreBlocks, AreOffsets, IsSeg, cell_counts}
+use Rattle.vol_spec.specs.Places.{id_of}
+use Rattle.vol_spec.specs.Rows.{word}
+use Rattle.vol_spec.specs.SegChunks.{entry, field, word as seg_word}
+use Rattle.vol_spec.specs.SegFaults.{seg_fault}
+use Rattle.vol_spec.specs.SegBlocks.{in_chunk}
+use Rattle.vol_spec.specs.SegWritten.{channel_start, owner, seg_bytes, table, values_place}
+use Rattle.vol_spec.specs.Shards.{shard_bytes}
+use Rattle.vol_spec.specs.StoredBytes.{held, object_of}
+use Rattle.vol_spec.specs.StoredLists.{stored_list}
+use Rattle.vol_spec.specs.StoredShards.{objects_in}
+use Rattle.vol_spec.specs.Verdicts.{index_wrong}
+use Rattle.vol_spec.specs.Verdicts.Wrong.{Damaged, Misplaced}
+use Rattle.vol_spec.specs.declared.encoding.Encoding.{Encoding}
+use Rattle.vol_spec.specs.declared.encoding.Encoding.TheVariants.{Raw, Seg}
+use Rattle.vol_spec.specs.declared.scale.Scale.{Scale}
+use Rattle.vol_spec.specs.declared.sharding.HashKind.TheVariants.{Identity, Murmur}
+use Rattle.vol_spec.specs.Hashes.{loaded, stirred, mixed, all_mixed, hash8}
+use Rattle.vol_spec.specs.declared.sharding.Sharding.{Sharding}
+use Rattle.chunk_laws.proofs.PlacedSteps.{in_order-put}
+
+-- `d` and `s`
+abbrev dataset : List ℕ
+dataset = 100 ∷ []
+
+abbrev key : List ℕ
+key = 115 ∷ []
+
+abbrev ones : List ℕ
+ones = 1 ∷ 1 ∷ 1 ∷ []
+
+abbrev no_offset : List ℤ
+no_offset = pos 0 ∷ pos 0 ∷ pos 0 ∷ []
+
+ones_ok : AreSizes ones
+ones_ok = by_axis (λ axis. (1 ≤ slice_index ones axis) × (slice_index ones axis ≤ 2 ^ 40)) (lit≤ tt, lit≤ tt) (lit≤ tt, lit≤ tt) (lit≤ tt, lit≤ tt)
+
+pair_ok : AreSizes (2 ∷ 1 ∷ 1 ∷ [])
+pair_ok = by_axis (λ axis. (1 ≤ slice_index (2 ∷ 1 ∷ 1 ∷ []) axis) × (slice_index (2 ∷ 1 ∷ 1 ∷ []) axis ≤ 2 ^ 40)) (lit≤ tt, lit≤ tt) (lit≤ tt, lit≤ tt) (lit≤ tt, lit≤ tt)
+
+square_ok : AreSizes (2 ∷ 2 ∷ 1 ∷ [])
+square_ok = by_axis (λ axis. (1 ≤ slice_index (2 ∷ 2 ∷ 1 ∷ []) axis) × (slice_index (2 ∷ 2 ∷ 1 ∷ []) axis ≤ 2 ^ 40)) (lit≤ tt, lit≤ tt) (lit≤ tt, lit≤ tt) (lit≤ tt, lit≤ tt)
+
+zero_ok : (neg_ℤ (pos (2 ^ 40)) ≤ℤ pos 0) × (pos 0 ≤ℤ pos (2 ^ 40))
+zero_ok = (omega (arith, ints), omega (arith, ints))
+
+no_offset_ok : AreOffsets no_offset
+no_offset_ok = by_axis (λ axis. (neg_ℤ (pos (2 ^ 40)) ≤ℤ slice_index_or no_offset axis (pos 0)) × (slice_index_or no_offset axis (pos 0) ≤ℤ pos (2 ^ 40))) zero_ok zero_ok zero_ok
+
+abbrev is_raw : Encoding → Bool
+is_raw Raw = true
+is_raw (Seg block) = false
+
+not_seg : {A : Type 0} (block : List ℕ) → IsSeg Raw block → A
+not_seg block e = absurd (cc e)
+
+no_sharding : {A : Type 0} (x : Sharding) → None ≡ Some x → A
+no_sharding x e = absurd (cc e)
+
+two_codes : length (pairs (cell_counts (2 ∷ 1 ∷ 1 ∷ []) ones)) ≤ 64
+unfolding pairs
+two_codes = lit≤ tt
+
+ones_blocks : (block : List ℕ) → IsSeg (Seg ones) block → AreBlocks block
+ones_blocks block e = subst AreBlocks (ap blocks_of e) (by_axis (λ axis. (1 ≤ slice_index ones axis) × (slice_index ones axis ≤ 2 ^ 24)) (lit≤ tt, lit≤ tt) (lit≤ tt, lit≤ tt) (lit≤ tt, lit≤ tt))
+
+-- one chunk of 2 by 2 voxels, not sharded
+abbrev square : Scale
+square = record {
+  key = key;
+  width = 1;
+  channels = 1;
+  size = 2 ∷ 2 ∷ 1 ∷ [];
+  offset = no_offset;
+  chunk = 2 ∷ 2 ∷ 1 ∷ [];
+  encoding = Raw;
+  sharding = None;
+  key_ok = lit≤ tt;
+  width_ok = ∣ inl refl ∣₁;
+  some_channels = lit≤ tt;
+  channels_ok = lit≤ tt;
+  size_ok = square_ok;
+  offset_ok = no_offset_ok;
+  chunk_ok = square_ok;
+  first_ok = lit≤ tt;
+  wide_ok = λ block e. not_seg block e;
+  block_ok = λ block e. not_seg block e;
+  padded_ok = lit≤ tt;
+  codes_ok = λ x e. no_sharding x e;
+}
+
+-- two chunks of a voxel, in a shard of so many minishards
+abbrev sharded_by : Sharding → Scale
+sharded_by sharding = record {
+  key = key;
+  width = 1;
+  channels = 1;
+  size = 2 ∷ 1 ∷ 1 ∷ [];
+  offset = no_offset;
+  chunk = ones;
+  encoding = Raw;
+  sharding = Some sharding;
+  key_ok = lit≤ tt;
+  width_ok = ∣ inl refl ∣₁;
+  some_channels = lit≤ tt;
+  channels_ok = lit≤ tt;
+  size_ok = pair_ok;
+  offset_ok = no_offset_ok;
+  chunk_ok = ones_ok;
+  first_ok = lit≤ tt;
+  wide_ok = λ block e. not_seg block e;
+  block_ok = λ block e. not_seg block e;
+  padded_ok = lit≤ tt;
+  codes_ok = λ x e. two_codes;
+}
+
+abbrev plain : Sharding
+plain = record { preshift = 0; hash = Identity; minishard_bits = 0; shard_bits = 0; preshift_ok = lit≤ tt; minishard_ok = lit≤ tt; bits_ok = lit≤ tt }
+
+abbrev halved : Sharding
+halved = record { preshift = 0; hash = Identity; minishard_bits = 1; shard_bits = 0; preshift_ok = lit≤ tt; minishard_ok = lit≤ tt; bits_ok = lit≤ tt }
+
+-- two segmentations of a voxel of four bytes, in a shard
+abbrev segments : Scale
+segments = record {
+  key = key;
+  width = 4;
+  channels = 1;
+  size = 2 ∷ 1 ∷ 1 ∷ [];
+  offset = no_offset;
+  chunk = ones;
+  encoding = Seg ones;
+  sharding = Some plain;
+  key_ok = lit≤ tt;
+  width_ok = ∣ inr (inr (inl refl)) ∣₁;
+  some_channels = lit≤ tt;
+  channels_ok = lit≤ tt;
+  size_ok = pair_ok;
+  offset_ok = no_offset_ok;
+  chunk_ok = ones_ok;
+  first_ok = lit≤ tt;
+  wide_ok = λ block e. ∣ inl refl ∣₁;
+  block_ok = ones_blocks;
+  padded_ok = lit≤ tt;
+  codes_ok = λ x e. two_codes;
+}
+
+-- the cells
+abbrev first : List ℕ
+first = 0 ∷ 0 ∷ 0 ∷ []
+
+abbrev second : List ℕ
+second = 1 ∷ 0 ∷ 0 ∷ []
+
+-- what an object says of a cell
+abbrev says : Scale → List ℕ → List ℕ → Result (Option (List ℕ)) Fault
+says s cell object = judged s cell (held s cell (Some object))
+
+-- raw objects of other lengths than the values have
+exact : says square first (1 ∷ 2 ∷ 3 ∷ 4 ∷ []) ≡ Ok (Some (1 ∷ 2 ∷ 3 ∷ 4 ∷ []))
+exact = refl
+
+five_bytes : says square first (1 ∷ 2 ∷ 3 ∷ 4 ∷ 5 ∷ []) ≡ Err (Chunk (ChunkLength 5 4))
+five_bytes = refl
+
+nine_bytes : says square first (1 ∷ 2 ∷ 3 ∷ 4 ∷ 5 ∷ 6 ∷ 7 ∷ 8 ∷ 9 ∷ []) ≡ Err (Chunk (ChunkLength 5 4))
+nine_bytes = refl
+
+no_bytes : says square first [] ≡ Err (Chunk (ChunkLength 0 4))
+no_bytes = refl
+
+value_2 : value_of square first (says square first (1 ∷ 2 ∷ 3 ∷ 4 ∷ [])) (pos 0 ∷ pos 1 ∷ pos 0 ∷ []) 0 ≡ Ok 3
+value_2 = refl
+
+-- the shard of two minishards, with its first entry as it is given
+abbrev two_with : ℕ → ℕ → List ℕ
+two_with start end = numbers (start ∷ end ∷ 26 ∷ 50 ∷ []) ++ 10 ∷ numbers (0 ∷ 0 ∷ 1 ∷ []) ++ 11 ∷ numbers (1 ∷ 25 ∷ 1 ∷ [])
+
+abbrev one_with : ℕ → ℕ → ℕ → List ℕ
+one_with next start size = numbers (2 ∷ 50 ∷ []) ++ 10 ∷ 11 ∷ numbers (0 ∷ next ∷ start ∷ 0 ∷ size ∷ 1 ∷ [])
+
+both_there_0 : says (sharded_by halved) first (two_with 1 25) ≡ Ok (Some (10 ∷ []))
+unfolding found entry_of word eight pairs
+both_there_0 = refl
+
+both_there_1 : says (sharded_by halved) second (two_with 1 25) ≡ Ok (Some (11 ∷ []))
+unfolding found entry_of word eight pairs
+both_there_1 = refl
+
+bad_length : says (sharded_by halved) first (two_with 2 25) ≡ Err (Shard (BadLength 23))
+unfolding found entry_of word eight pairs
+bad_length = refl
+
+short_index : says (sharded_by halved) first (take 8 (two_with 1 25)) ≡ Err (Shard ShortIndex)
+unfolding found entry_of word eight pairs
+short_index = refl
+
+short_minishard : says (sharded_by halved) first (take 33 (two_with 1 25)) ≡ Err (Shard ShortMinishard)
+unfolding found entry_of word eight pairs
+short_minishard = refl
+
+same_id_0 : says (sharded_by plain) first (one_with 0 0 1) ≡ Ok (Some (10 ∷ []))
+unfolding found entry_of word eight pairs
+same_id_0 = refl
+
+same_id_1 : says (sharded_by plain) second (one_with 0 0 1) ≡ Err (Index (BadId 1))
+unfolding found entry_of word eight pairs
+same_id_1 = refl
+
+far_start : says (sharded_by plain) first (one_with 1 1000 1) ≡ Err (Shard ShortChunk)
+unfolding found entry_of word eight pairs
+far_start = refl
+
+long_chunk : says (sharded_by plain) first (one_with 1 0 2) ≡ Err (Shard (ChunkTooLong 2 1))
+unfolding found entry_of word eight pairs
+long_chunk = refl
+
+-- a row of another cell's id: the cell is absent, and the row is misplaced
+abbrev other_id : List ℕ
+other_id = numbers (1 ∷ 25 ∷ 26 ∷ 50 ∷ []) ++ 10 ∷ numbers (1 ∷ 0 ∷ 1 ∷ []) ++ 11 ∷ numbers (1 ∷ 25 ∷ 1 ∷ [])
+
+other_id_absent : says (sharded_by halved) first other_id ≡ Ok None
+unfolding found entry_of word eight pairs
+other_id_absent = refl
+
+other_id_misplaced : index_wrong (Some halved) (id_of (sharded_by halved) first) (Some other_id) ≡ Some (Misplaced 0 0 1)
+unfolding entry_of word eight pairs
+other_id_misplaced = refl
+
+nothing_wrong : index_wrong (Some halved) (id_of (sharded_by halved) first) (Some (two_with 1 25)) ≡ None
+unfolding entry_of word eight pairs
+nothing_wrong = refl
+
+-- rows past the wanted one are judged too
+later_row : index_wrong (Some plain) (id_of (sharded_by plain) first) (Some (one_with 0 0 1)) ≡ Some (Damaged (Index (BadId 1)))
+unfolding entry_of word eight pairs
+later_row = refl
+
+-- what a reader asks for: the entry, a row, a byte; or the entry alone
+cost_found : cost_by (Some halved) (sharded_by halved) first (Some (two_with 1 25)) ≡ 41
+unfolding found entry_of word eight pairs
+cost_found = refl
+
+cost_short : cost_by (Some halved) (sharded_by halved) first (Some (two_with 2 25)) ≡ 16
+unfolding found entry_of word eight pairs
+cost_short = refl
+
+cost_plain : cost_by None square first None ≡ 5
+cost_plain = refl
+
+-- what chunks are stored as
+abbrev shard_0 : List ℕ
+shard_0 = 100 ∷ 47 ∷ 115 ∷ 47 ∷ 48 ∷ 46 ∷ 115 ∷ 104 ∷ 97 ∷ 114 ∷ 100 ∷ []
+
+halved_stored : stored_list dataset (sharded_by halved) ((first, 10 ∷ []) ∷ (second, 11 ∷ []) ∷ []) ≡ (shard_0, two_with 1 25) ∷ []
+unfolding stored_list shard_bytes entry_bytes eight pairs
+halved_stored = ap (λ es. objects_in dataset (sharded_by halved) halved es (range_with_len 0 1)) (in_order-put ((0 ∷ 0 ∷ 0 ∷ [], 10 ∷ []) ∷ (0 ∷ 1 ∷ 1 ∷ [], 11 ∷ []) ∷ []))
+
+plain_stored : stored_list dataset (sharded_by plain) ((first, 10 ∷ []) ∷ (second, 11 ∷ []) ∷ []) ≡ (shard_0, one_with 1 0 1) ∷ []
+unfolding stored_list shard_bytes entry_bytes eight pairs
+plain_stored = ap (λ es. objects_in dataset (sharded_by plain) plain es (range_with_len 0 1)) (in_order-put ((0 ∷ 0 ∷ 0 ∷ [], 10 ∷ []) ∷ (0 ∷ 0 ∷ 1 ∷ [], 11 ∷ []) ∷ []))
+
+square_stored : stored_list dataset square ((first, 1 ∷ 2 ∷ 3 ∷ 4 ∷ []) ∷ []) ≡ (object_of dataset square first, 1 ∷ 2 ∷ 3 ∷ 4 ∷ []) ∷ []
+unfolding stored_list
+square_stored = refl
+
+-- a segmentation of the value 7: the words 1, 2, 2 and 7
+abbrev seven : List ℕ
+seven = 1 ∷ 0 ∷ 0 ∷ 0 ∷ 2 ∷ 0 ∷ 0 ∷ 0 ∷ 2 ∷ 0 ∷ 0 ∷ 0 ∷ 7 ∷ 0 ∷ 0 ∷ 0 ∷ []
+
+seven_encoded : encoded segments first (7 ∷ 0 ∷ 0 ∷ 0 ∷ []) ≡ seven
+unfolding seg_bytes channel_start values_place owner table in_chunk
+seven_encoded = refl
+
+abbrev segment_shard : List ℕ
+segment_shard = numbers (16 ∷ 40 ∷ []) ++ seven ++ numbers (0 ∷ 0 ∷ 16 ∷ [])
+
+segments_stored : stored_list dataset segments ((first, 7 ∷ 0 ∷ 0 ∷ 0 ∷ []) ∷ []) ≡ (shard_0, segment_shard) ∷ []
+unfolding stored_list shard_bytes entry_bytes eight pairs seg_bytes channel_start values_place owner table in_chunk
+segments_stored = ap (λ es. objects_in dataset segments plain es (range_with_len 0 1)) (in_order-put ((0 ∷ 0 ∷ 0 ∷ [], seven) ∷ []))
+
+segments_length : length segment_shard ≡ 56
+unfolding eight
+segments_length = refl
+
+segments_say : says segments first segment_shard ≡ Ok (Some seven)
+unfolding found entry_of word eight pairs seg_fault seg_word field in_chunk
+segments_say = refl
+
+segments_value : value_of segments first (says segments first segment_shard) (pos 0 ∷ pos 0 ∷ pos 0 ∷ []) 0 ≡ Ok 7
+unfolding found entry_of word eight pairs seg_fault seg_word field in_chunk entry
+segments_value = refl
+
+segments_absent : says segments second segment_shard ≡ Ok None
+unfolding found entry_of word eight pairs
+segments_absent = refl
+
+-- hashed ids: the second cell's shard comes first
+abbrev hashed : Sharding
+hashed = record { preshift = 0; hash = Murmur; minishard_bits = 3; shard_bits = 4; preshift_ok = lit≤ tt; minishard_ok = lit≤ tt; bits_ok = lit≤ tt }
+
+abbrev hashed_pairs : Sharding
+hashed_pairs = record { preshift = 1; hash = Murmur; minishard_bits = 3; shard_bits = 4; preshift_ok = lit≤ tt; minishard_ok = lit≤ tt; bits_ok = lit≤ tt }
+
+abbrev both_chunks : List (List ℕ × List ℕ)
+both_chunks = (first, 10 ∷ []) ∷ (second, 11 ∷ []) ∷ []
+
+abbrev shard_file_of : ℕ → List ℕ
+shard_file_of digit = 100 ∷ 47 ∷ 115 ∷ 47 ∷ digit ∷ 46 ∷ 115 ∷ 104 ∷ 97 ∷ 114 ∷ 100 ∷ []
+
+hashed_names : map (λ o. o.0) (stored_list dataset (sharded_by hashed) both_chunks) ≡ shard_file_of 51 ∷ shard_file_of 56 ∷ []
+unfolding stored_list pairs loaded stirred mixed all_mixed hash8
+hashed_names =
+    ap (λ es. map (λ o. o.0) (objects_in dataset (sharded_by hashed) hashed es (range_with_len 0 16))) (in_order-put ((8 ∷ 1 ∷ 0 ∷ [], 10 ∷ []) ∷ (3 ∷ 2 ∷ 1 ∷ [], 11 ∷ []) ∷ []))
+
+-- with a bit less both ids go together, into the second of eight minishards
+paired_stored : stored_list dataset (sharded_by hashed_pairs) both_chunks
+    ≡ (shard_file_of 56, numbers (0 ∷ 0 ∷ 2 ∷ 50 ∷ 0 ∷ 0 ∷ 0 ∷ 0 ∷ 0 ∷ 0 ∷ 0 ∷ 0 ∷ 0 ∷ 0 ∷ 0 ∷ 0 ∷ []) ++ 10 ∷ 11 ∷ numbers (0 ∷ 1 ∷ 0 ∷ 0 ∷ 1 ∷ 1 ∷ [])) ∷ []
+unfolding stored_list shard_bytes entry_bytes eight pairs loaded stirred mixed all_mixed hash8
+paired_stored = ap (λ es. objects_in dataset (sharded_by hashed_pairs) hashed_pairs es (range_with_len 0 16)) (in_order-put ((8 ∷ 1 ∷ 0 ∷ [], 10 ∷ []) ∷ (8 ∷ 1 ∷ 1 ∷ [], 11 ∷ []) ∷ []))
+
+-- a row has 24 bytes, not a minishard: two chunks in the first, one in the second
+rows_counted : shard_bytes 1 (record { minishard = 0; id = 0; bytes = 10 ∷ [] } ∷ record { minishard = 0; id = 2; bytes = 12 ∷ [] } ∷ record { minishard = 1; id = 1; bytes = 11 ∷ [] } ∷ [])
+    ≡ numbers (2 ∷ 50 ∷ 51 ∷ 75 ∷ []) ++ 10 ∷ 12 ∷ numbers (0 ∷ 2 ∷ 0 ∷ 0 ∷ 1 ∷ 1 ∷ []) ++ 11 ∷ numbers (1 ∷ 50 ∷ 1 ∷ [])
+unfolding shard_bytes entry_bytes eight
+rows_counted = refl
+
+-- a row of an id of another shard is misplaced too
+abbrev split : Sharding
+split = record { preshift = 0; hash = Identity; minishard_bits = 0; shard_bits = 1; preshift_ok = lit≤ tt; minishard_ok = lit≤ tt; bits_ok = lit≤ tt }
+
+other_shard : index_wrong (Some split) (id_of (sharded_by split) first) (Some (numbers (1 ∷ 25 ∷ []) ++ 10 ∷ numbers (1 ∷ 0 ∷ 1 ∷ []))) ≡ Some (Misplaced 0 0 1)
+unfolding entry_of word eight pairs
+other_shard = refl

@@ -1,0 +1,84 @@
+-- What a call of the program means: six facts, each by an equation for every command.
+use Rattle.std.specs.Prelude.{◌≡◌, ◌⊎◌, false, [], Option, None, Some, IfSome, IsOkAnd, IsSomeAnd}
+use Rattle.std.specs.Option.{option_map}
+use Rattle.vol_base.specs.Causes.{Rose}
+use Rattle.vol_base.specs.declared.boxes.Box3.{Box3}
+use Rattle.vol_spec.specs.Grid.{Inside}
+use Rattle.command_line.specs.declared.commands.Command.{Command}
+use Rattle.command_line.specs.declared.commands.Command.TheVariants.{Cutout, Write}
+use Rattle.shard_writer.specs.Writing.{Drops}
+use Rattle.write_plan.specs.Stream.{writes_of}
+use Rattle.vol_tool.specs.Answers.{stored_scale}
+use Rattle.vol_tool.specs.Seen.{Faults, IsLater, OnlyReads, outlets, Seen}
+use Rattle.vol_tool.specs.Statuses.{CanCut, CutoutLeaves, CutoutShows, UsageLeaves}
+use Rattle.vol_tool.specs.Storing.{CanWrite, puts, ReadsBack, WriteLeaves, WriteShows}
+use Rattle.vol_tool.specs.declared.status.Status.{Status}
+use Rattle.vol_tool.specs.declared.status.Status.TheVariants.{Ok, Usage, StoreFault, FeedFault, OutFault, NoMemory, DoorFault}
+
+-- What is answered, where what it hangs on is told.
+abbrev pub Answers : Option Command → Status → Seen → Seen → Type 0
+Answers None status before after = (status ≡ Usage) ⊎ (status ≡ NoMemory)
+Answers (Some (Cutout dataset key part)) status before after =
+    IfSome before.objects (λ m. CutoutShows status m dataset key part (outlets before after))
+Answers (Some (Write dataset key workers)) status before after =
+    IfSome before.objects (λ m. IfSome before.left (λ bytes.
+    WriteShows status m after.objects bytes after.left dataset key (outlets before after)))
+
+-- it succeeds, or wants memory
+abbrev pub EndsWell : Status → Type 0
+EndsWell status = (status ≡ Ok) ⊎ (status ≡ NoMemory)
+
+-- Where nothing stands against it and nothing that it uses fails, it succeeds or wants memory.
+abbrev pub Succeeds : Option Command → Status → Seen → Seen → Type 0
+Succeeds None status before after = Unit {0}
+Succeeds (Some (Cutout dataset key part)) status before after =
+    IfSome before.objects (λ m. CanCut m dataset key part
+    → ¬ Rose before.faults.store after.faults.store → ¬ Rose before.faults.out after.faults.out → EndsWell status)
+Succeeds (Some (Write dataset key workers)) status before after =
+    IfSome before.objects (λ m. IfSome before.left (λ bytes. CanWrite m bytes dataset key
+    → ¬ Rose before.faults.store after.faults.store → ¬ Rose before.faults.feed after.faults.feed
+    → ¬ Rose before.faults.out after.faults.out → EndsWell status))
+
+-- After a write that succeeds, each box inside the scale reads back: no cell of it has a fault, and its cutout is
+-- exactly the bytes of the last write at each voxel and channel, none missing.
+abbrev pub Headline : Option Command → Status → Seen → Seen → Type 0
+Headline None status before after = Unit {0}
+Headline (Some (Cutout dataset key part)) status before after = Unit {0}
+Headline (Some (Write dataset key workers)) status before after =
+    status ≡ Ok → IfSome before.objects (λ m. IfSome before.left (λ bytes.
+    IsOkAnd (stored_scale m dataset key) (λ s. IsOkAnd (writes_of bytes s) (λ writes.
+    IsSomeAnd after.objects (λ now. (b : Box3) → Inside s b → ReadsBack now dataset s writes b)))))
+
+-- What the two outlets gained, also where nothing is told, and so with which statuses a command can end.
+abbrev pub Leaves : Option Command → Status → Seen → Seen → Type 0
+Leaves None status before after = UsageLeaves status (outlets before after)
+Leaves (Some (Cutout dataset key part)) status before after = CutoutLeaves status dataset (outlets before after)
+Leaves (Some (Write dataset key workers)) status before after = WriteLeaves status dataset (outlets before after)
+
+-- What stays of the store, the feed and the door.
+abbrev pub Keeps : Option Command → Status → Seen → Seen → Type 0
+Keeps None status before after = OnlyReads before after × (after.left ≡ before.left) × (after.door ≡ before.door)
+Keeps (Some (Cutout dataset key part)) status before after =
+    OnlyReads before after × (after.left ≡ before.left) × (after.door ≡ before.door)
+-- no object stays half written that was begun in the call, and a write that succeeds reads its feed to the end
+Keeps (Some (Write dataset key workers)) status before after =
+    Drops before.draft after.draft × (puts status ≡ false → OnlyReads before after)
+    × (status ≡ Ok → after.left ≡ option_map (λ _. []) before.left) × (after.door ≡ before.door)
+
+-- no count falls, a fault comes only where its count rose, and at success nothing was told, so nothing failed to be
+pub record IsCaused (status : Status) (before after : Faults) : Type 0 where
+  pub later : IsLater before after
+  pub store : status ≡ StoreFault → Rose before.store after.store
+  pub feed : status ≡ FeedFault → Rose before.feed after.feed
+  pub out : status ≡ OutFault → Rose before.out after.out
+  pub door : status ≡ DoorFault → Rose before.door after.door
+  pub quiet : status ≡ Ok → after.err ≡ before.err
+
+-- Why it failed, and what it doesn't use.
+abbrev pub Causes : Option Command → Status → Faults → Faults → Type 0
+Causes None status before after =
+    IsCaused status before after × (after.store ≡ before.store) × (after.feed ≡ before.feed) × (after.out ≡ before.out)
+    × (after.door ≡ before.door)
+Causes (Some (Cutout dataset key part)) status before after =
+    IsCaused status before after × (after.feed ≡ before.feed) × (after.door ≡ before.door)
+Causes (Some (Write dataset key workers)) status before after = IsCaused status before after × (after.door ≡ before.door)
