@@ -4,7 +4,7 @@ use Rattle.std.proofs.Math.Nat.{div-div-eq-div-mul, div-one, pow-suc, pow-succ'}
 use Rattle.std.proofs.lemmas.Bool.Decides.{nat_tests}
 use Rattle.std.proofs.lemmas.Nat.{mod_below}
 use Rattle.vol_base.specs.Grids.{AreSizes, is_pair}
-use Rattle.vol_spec.specs.Codes.{IsCell, bit_of, code_of}
+use Rattle.vol_spec.specs.Codes.{IsInGrid, bit_of, code_of}
 use Rattle.morton_code.proofs.Steps.{below, code_from, code_from-more, code_from-0, same_cells}
 
 -- a number with a bit below it tells both
@@ -65,7 +65,7 @@ axis_tells size x y limit hx hy same = bits_tell 40 x y (omega arith) (omega ari
         let zy : y / 2 ^ i ≡ 0 = none_there y (2 ^ i) (omega arith) in
         ap (λ q. q % 2) (zx ∙ sym zy)
 
-pub code_of-tells : (size a b : List ℕ) → AreSizes size → IsCell size a → IsCell size b → code_of size a ≡ code_of size b → a ≡ b
+pub code_of-tells : (size a b : List ℕ) → AreSizes size → IsInGrid size a → IsInGrid size b → code_of size a ≡ code_of size b → a ≡ b
 code_of-tells size a b sizes ha hb e =
     let zero_same : code_from size a 0 ≡ code_from size b 0 = code_from-0 size a ∙ e ∙ sym (code_from-0 size b) in
     let bits = λ (i : ℕ) (h : i < 40). same_bits size a b i h (same_from size a b zero_same i (omega arith)) in

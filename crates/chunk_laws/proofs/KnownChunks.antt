@@ -18,8 +18,8 @@ use Rattle.vol_spec.specs.FoundChunks.{found}
 use Rattle.vol_spec.specs.IndexBytes.{eight, numbers}
 use Rattle.vol_spec.specs.Limits.{AreBlocks, AreOffsets, IsSeg, cell_counts}
 use Rattle.vol_spec.specs.Places.{id_of}
-use Rattle.vol_spec.specs.Rows.{word}
-use Rattle.vol_spec.specs.SegChunks.{entry, field, word as seg_word}
+use Rattle.vol_spec.specs.Rows.{number_at}
+use Rattle.vol_spec.specs.SegChunks.{entry, field, word}
 use Rattle.vol_spec.specs.SegFaults.{seg_fault}
 use Rattle.vol_spec.specs.SegBlocks.{in_chunk}
 use Rattle.vol_spec.specs.SegWritten.{channel_start, owner, seg_bytes, table, values_place}
@@ -198,39 +198,39 @@ abbrev one_with : ℕ → ℕ → ℕ → List ℕ
 one_with next start size = numbers (2 ∷ 50 ∷ []) ++ 10 ∷ 11 ∷ numbers (0 ∷ next ∷ start ∷ 0 ∷ size ∷ 1 ∷ [])
 
 both_there_0 : says (sharded_by halved) first (two_with 1 25) ≡ Ok (Some (10 ∷ []))
-unfolding found entry_of word eight pairs
+unfolding found entry_of number_at eight pairs
 both_there_0 = refl
 
 both_there_1 : says (sharded_by halved) second (two_with 1 25) ≡ Ok (Some (11 ∷ []))
-unfolding found entry_of word eight pairs
+unfolding found entry_of number_at eight pairs
 both_there_1 = refl
 
 bad_length : says (sharded_by halved) first (two_with 2 25) ≡ Err (Shard (BadLength 23))
-unfolding found entry_of word eight pairs
+unfolding found entry_of number_at eight pairs
 bad_length = refl
 
 short_index : says (sharded_by halved) first (take 8 (two_with 1 25)) ≡ Err (Shard ShortIndex)
-unfolding found entry_of word eight pairs
+unfolding found entry_of number_at eight pairs
 short_index = refl
 
 short_minishard : says (sharded_by halved) first (take 33 (two_with 1 25)) ≡ Err (Shard ShortMinishard)
-unfolding found entry_of word eight pairs
+unfolding found entry_of number_at eight pairs
 short_minishard = refl
 
 same_id_0 : says (sharded_by plain) first (one_with 0 0 1) ≡ Ok (Some (10 ∷ []))
-unfolding found entry_of word eight pairs
+unfolding found entry_of number_at eight pairs
 same_id_0 = refl
 
 same_id_1 : says (sharded_by plain) second (one_with 0 0 1) ≡ Err (Index (BadId 1))
-unfolding found entry_of word eight pairs
+unfolding found entry_of number_at eight pairs
 same_id_1 = refl
 
 far_start : says (sharded_by plain) first (one_with 1 1000 1) ≡ Err (Shard ShortChunk)
-unfolding found entry_of word eight pairs
+unfolding found entry_of number_at eight pairs
 far_start = refl
 
 long_chunk : says (sharded_by plain) first (one_with 1 0 2) ≡ Err (Shard (ChunkTooLong 2 1))
-unfolding found entry_of word eight pairs
+unfolding found entry_of number_at eight pairs
 long_chunk = refl
 
 -- a row of another cell's id: the cell is absent, and the row is misplaced
@@ -238,29 +238,29 @@ abbrev other_id : List ℕ
 other_id = numbers (1 ∷ 25 ∷ 26 ∷ 50 ∷ []) ++ 10 ∷ numbers (1 ∷ 0 ∷ 1 ∷ []) ++ 11 ∷ numbers (1 ∷ 25 ∷ 1 ∷ [])
 
 other_id_absent : says (sharded_by halved) first other_id ≡ Ok None
-unfolding found entry_of word eight pairs
+unfolding found entry_of number_at eight pairs
 other_id_absent = refl
 
 other_id_misplaced : index_wrong (Some halved) (id_of (sharded_by halved) first) (Some other_id) ≡ Some (Misplaced 0 0 1)
-unfolding entry_of word eight pairs
+unfolding entry_of number_at eight pairs
 other_id_misplaced = refl
 
 nothing_wrong : index_wrong (Some halved) (id_of (sharded_by halved) first) (Some (two_with 1 25)) ≡ None
-unfolding entry_of word eight pairs
+unfolding entry_of number_at eight pairs
 nothing_wrong = refl
 
 -- rows past the wanted one are judged too
 later_row : index_wrong (Some plain) (id_of (sharded_by plain) first) (Some (one_with 0 0 1)) ≡ Some (Damaged (Index (BadId 1)))
-unfolding entry_of word eight pairs
+unfolding entry_of number_at eight pairs
 later_row = refl
 
 -- what a reader asks for: the entry, a row, a byte; or the entry alone
 cost_found : cost_by (Some halved) (sharded_by halved) first (Some (two_with 1 25)) ≡ 41
-unfolding found entry_of word eight pairs
+unfolding found entry_of number_at eight pairs
 cost_found = refl
 
 cost_short : cost_by (Some halved) (sharded_by halved) first (Some (two_with 2 25)) ≡ 16
-unfolding found entry_of word eight pairs
+unfolding found entry_of number_at eight pairs
 cost_short = refl
 
 cost_plain : cost_by None square first None ≡ 5
@@ -302,15 +302,15 @@ unfolding eight
 segments_length = refl
 
 segments_say : says segments first segment_shard ≡ Ok (Some seven)
-unfolding found entry_of word eight pairs seg_fault seg_word field in_chunk
+unfolding found entry_of number_at eight pairs seg_fault word field in_chunk
 segments_say = refl
 
 segments_value : value_of segments first (says segments first segment_shard) (pos 0 ∷ pos 0 ∷ pos 0 ∷ []) 0 ≡ Ok 7
-unfolding found entry_of word eight pairs seg_fault seg_word field in_chunk entry
+unfolding found entry_of number_at eight pairs seg_fault word field in_chunk entry
 segments_value = refl
 
 segments_absent : says segments second segment_shard ≡ Ok None
-unfolding found entry_of word eight pairs
+unfolding found entry_of number_at eight pairs
 segments_absent = refl
 
 -- hashed ids: the second cell's shard comes first
@@ -348,5 +348,5 @@ abbrev split : Sharding
 split = record { preshift = 0; hash = Identity; minishard_bits = 0; shard_bits = 1; preshift_ok = lit≤ tt; minishard_ok = lit≤ tt; bits_ok = lit≤ tt }
 
 other_shard : index_wrong (Some split) (id_of (sharded_by split) first) (Some (numbers (1 ∷ 25 ∷ []) ++ 10 ∷ numbers (1 ∷ 0 ∷ 1 ∷ []))) ≡ Some (Misplaced 0 0 1)
-unfolding entry_of word eight pairs
+unfolding entry_of number_at eight pairs
 other_shard = refl

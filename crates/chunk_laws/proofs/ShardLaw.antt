@@ -14,7 +14,7 @@ use Rattle.std.proofs.Math.Pow.{pow_mono}
 use Rattle.vol_base.specs.Grids.{pairs}
 use Rattle.vol_base.specs.Outside.{Objects}
 use Rattle.vol_base.specs.declared.faults.Fault.{Fault}
-use Rattle.vol_spec.specs.Codes.{IsCell as IsCodeCell}
+use Rattle.vol_spec.specs.Codes.{IsInGrid}
 use Rattle.vol_spec.specs.Encodings.{cell_limit}
 use Rattle.vol_spec.specs.Entries.{base_of}
 use Rattle.vol_spec.specs.FoundChunks.{found, rows_in}
@@ -47,7 +47,7 @@ use Rattle.chunk_laws.proofs.PutShards.{get-kept_shard, get-put_shard}
 use Rattle.chunk_laws.proofs.ShardSteps.{IsTriple, Rises, before_short, chosen_in, chosen_rises, chunk_part, rises-next}
 
 -- two cells have two ids
-codes_cell : (s : Scale) (cell : List ℕ) → IsCell s cell → IsCodeCell (cell_counts s.size s.chunk) cell
+codes_cell : (s : Scale) (cell : List ℕ) → IsCell s cell → IsInGrid (cell_counts s.size s.chunk) cell
 codes_cell s cell h = record { axes = h.axes; below = h.below }
 
 pub id_of-tells : (s : Scale) (a b : List ℕ) → IsCell s a → IsCell s b → id_of s a ≡ id_of s b → a ≡ b

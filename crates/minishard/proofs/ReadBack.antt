@@ -8,26 +8,26 @@ use Rattle.std.proofs.lemmas.List.{append-nil, drop_at, get_or-map, length-map}
 use Rattle.std.proofs.lemmas.List.Sums.{sum_by_more}
 use Rattle.std.proofs.lemmas.Option.{get_or_from_slice_get, slice_get_within}
 use Rattle.byteorder.specs.Numbers.{little_number-reads_back}
-use Rattle.vol_spec.specs.Rows.{Columns, word, words, columns_of, judged_by, judged_row, id_at, start_at, find_in, stops, stops_at, wanted_row}
+use Rattle.vol_spec.specs.Rows.{Columns, number_at, numbers_at, columns_of, judged_by, judged_row, id_at, start_at, find_in, stops, stops_at, wanted_row}
 use Rattle.vol_spec.specs.IndexBytes.{ids, starts, ends, sizes, stored, eight, numbers, index_bytes, AreRows}
 use Rattle.minishard.specs.Numbers.{AreIds}
 use Rattle.vol_spec.specs.declared.row.Row.{Row}
 use Rattle.minishard.proofs.ColumnSteps.{length-eight, length-ids, length-starts, stored_id, stored_start, next_before}
 use Rattle.minishard.proofs.Steps.{stops_ok, goes_on, chosen_row, other_row}
 
-pub word_in : (pre post : List ℕ) (k n : ℕ) → length pre ≡ 8 * k → n < 2 ^ 64 → word (pre ++ (eight n ++ post)) k ≡ n
-unfolding word eight
+pub word_in : (pre post : List ℕ) (k n : ℕ) → length pre ≡ 8 * k → n < 2 ^ 64 → number_at (pre ++ (eight n ++ post)) k ≡ n
+unfolding number_at eight
 word_in pre post k n e h = rw (drop_at pre (eight n ++ post) (8 * k) e) (little_number-reads_back 8 n post h)
 
-pub words_in : (ns pre post : List ℕ) (k : ℕ) → length pre ≡ 8 * k → ((i : ℕ) → i < length ns → slice_index ns i < 2 ^ 64) → words (pre ++ numbers ns ++ post) k (length ns) ≡ ns
+pub words_in : (ns pre post : List ℕ) (k : ℕ) → length pre ≡ 8 * k → ((i : ℕ) → i < length ns → slice_index ns i < 2 ^ 64) → numbers_at (pre ++ numbers ns ++ post) k (length ns) ≡ ns
 words_in [] pre post k e fit = refl
 words_in (n ∷ ns) pre post k e fit =
     let first : pre ++ (eight n ++ numbers ns) ++ post ≡ pre ++ (eight n ++ (numbers ns ++ post)) = append_assoc pre (eight n ++ numbers ns) post ∙ ap (λ xs. pre ++ xs) (append_assoc (eight n) (numbers ns) post) in
     let next : pre ++ (eight n ++ numbers ns) ++ post ≡ (pre ++ eight n) ++ numbers ns ++ post = ap (λ xs. xs ++ post) (sym (append_assoc pre (eight n) (numbers ns))) in
-    let one : word (pre ++ (eight n ++ numbers ns) ++ post) k ≡ n = ap (λ xs. word xs k) first ∙ word_in pre (numbers ns ++ post) k n e (fit 0 (omega arith)) in
-    let rest : words (pre ++ (eight n ++ numbers ns) ++ post) (k + 1) (length ns) ≡ ns =
-    ap (λ xs. words xs (k + 1) (length ns)) next ∙ words_in ns (pre ++ eight n) post (k + 1) (omega (arith, length-append pre (eight n), length-eight n)) (λ i h. fit (suc i) (omega arith)) in
-    ap (λ m. m ∷ words (pre ++ (eight n ++ numbers ns) ++ post) (k + 1) (length ns)) one ∙ ap (λ ms. n ∷ ms) rest
+    let one : number_at (pre ++ (eight n ++ numbers ns) ++ post) k ≡ n = ap (λ xs. number_at xs k) first ∙ word_in pre (numbers ns ++ post) k n e (fit 0 (omega arith)) in
+    let rest : numbers_at (pre ++ (eight n ++ numbers ns) ++ post) (k + 1) (length ns) ≡ ns =
+    ap (λ xs. numbers_at xs (k + 1) (length ns)) next ∙ words_in ns (pre ++ eight n) post (k + 1) (omega (arith, length-append pre (eight n), length-eight n)) (λ i h. fit (suc i) (omega arith)) in
+    ap (λ m. m ∷ numbers_at (pre ++ (eight n ++ numbers ns) ++ post) (k + 1) (length ns)) one ∙ ap (λ ms. n ∷ ms) rest
 
 pub length-numbers : (ns : List ℕ) → length (numbers ns) ≡ 8 * length ns
 length-numbers [] = refl
@@ -44,17 +44,17 @@ columns_in c n a b d fa fb fd =
     let l1 = length-append (numbers c.ids) (numbers c.starts) in
     let long : length (index_bytes c) ≡ 24 * n = omega (arith, length-append (numbers c.ids ++ numbers c.starts) (numbers c.sizes)) in
     let rows : length (index_bytes c) / 24 ≡ n = omega arith in
-    let one : words (index_bytes c) 0 n ≡ c.ids =
-    ap (λ xs. words xs 0 n) (append_assoc (numbers c.ids) (numbers c.starts) (numbers c.sizes)) ∙ ap (words (numbers c.ids ++ (numbers c.starts ++ numbers c.sizes)) 0) (sym a)
+    let one : numbers_at (index_bytes c) 0 n ≡ c.ids =
+    ap (λ xs. numbers_at xs 0 n) (append_assoc (numbers c.ids) (numbers c.starts) (numbers c.sizes)) ∙ ap (numbers_at (numbers c.ids ++ (numbers c.starts ++ numbers c.sizes)) 0) (sym a)
     ∙ words_in c.ids [] (numbers c.starts ++ numbers c.sizes) 0 refl (λ i h. fa i (omega arith)) in
-    let two : words (index_bytes c) n n ≡ c.starts =
-    ap (words (index_bytes c) n) (sym b) ∙ words_in c.starts (numbers c.ids) (numbers c.sizes) n (omega arith) (λ i h. fb i (omega arith)) in
-    let three : words (index_bytes c) (2 * n) n ≡ c.sizes =
-    ap (λ xs. words xs (2 * n) n) (sym (append-nil (index_bytes c))) ∙ ap (words (index_bytes c ++ []) (2 * n)) (sym d)
+    let two : numbers_at (index_bytes c) n n ≡ c.starts =
+    ap (numbers_at (index_bytes c) n) (sym b) ∙ words_in c.starts (numbers c.ids) (numbers c.sizes) n (omega arith) (λ i h. fb i (omega arith)) in
+    let three : numbers_at (index_bytes c) (2 * n) n ≡ c.sizes =
+    ap (λ xs. numbers_at xs (2 * n) n) (sym (append-nil (index_bytes c))) ∙ ap (numbers_at (index_bytes c ++ []) (2 * n)) (sym d)
     ∙ words_in c.sizes (numbers c.ids ++ numbers c.starts) [] (2 * n) (omega arith) (λ i h. fd i (omega arith)) in
-    ap (λ k. let r : Columns = record { ids = words (index_bytes c) 0 k; starts = words (index_bytes c) k k; sizes = words (index_bytes c) (2 * k) k } in r) rows
-    ∙ ap (λ xs. let r : Columns = record { ids = xs; starts = words (index_bytes c) n n; sizes = words (index_bytes c) (2 * n) n } in r) one
-    ∙ ap (λ xs. let r : Columns = record { ids = c.ids; starts = xs; sizes = words (index_bytes c) (2 * n) n } in r) two
+    ap (λ k. let r : Columns = record { ids = numbers_at (index_bytes c) 0 k; starts = numbers_at (index_bytes c) k k; sizes = numbers_at (index_bytes c) (2 * k) k } in r) rows
+    ∙ ap (λ xs. let r : Columns = record { ids = xs; starts = numbers_at (index_bytes c) n n; sizes = numbers_at (index_bytes c) (2 * n) n } in r) one
+    ∙ ap (λ xs. let r : Columns = record { ids = c.ids; starts = xs; sizes = numbers_at (index_bytes c) (2 * n) n } in r) two
     ∙ ap (λ xs. let r : Columns = record { ids = c.ids; starts = c.starts; sizes = xs } in r) three
 
 pub size_end : (rows : List Row) (r : ℕ) → r < length rows → slice_index (starts rows) r + slice_index (sizes rows) r ≡ slice_index (ends rows) r

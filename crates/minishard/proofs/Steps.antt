@@ -8,7 +8,7 @@ use Rattle.std.proofs.lemmas.List.FromFn.{length-map-range_with_len, get_or-map-
 use Rattle.std.proofs.lemmas.Bool.{cases_lt}
 use Rattle.std.proofs.lemmas.Bool.Decides.{nat_tests}
 use Rattle.std.specs.Option.{option_map_or}
-use Rattle.vol_spec.specs.Rows.{stops, stops_at, wanted_row, find_in, word, words, columns_of, Columns, judged_by, judged_row, id_at, start_at}
+use Rattle.vol_spec.specs.Rows.{stops, stops_at, wanted_row, find_in, number_at, numbers_at, columns_of, Columns, judged_by, judged_row, id_at, start_at}
 use Rattle.minishard.specs.Walks.{Progress, IsWalked, IsStored}
 use Rattle.vol_spec.specs.declared.row.Row.{Row}
 use Rattle.vol_base.specs.declared.faults.IndexFault.{IndexFault}
@@ -61,12 +61,12 @@ pub found_none : (c : Columns) (wanted n : ℕ) → n ≡ length c.ids → ((k :
 found_none c wanted n e before =
     ap (λ o. option_map_or (λ k. wanted_row wanted (judged_row c k)) o (Ok None)) (none_in (stops c wanted) 0 (length c.ids) (λ k l b. before k (omega arith)))
 
-at_word : (bytes : List ℕ) (a n i j : ℕ) → i < n → a + i ≡ j → slice_get (words bytes a n) i ≡ Some (word bytes j)
+at_word : (bytes : List ℕ) (a n i j : ℕ) → i < n → a + i ≡ j → slice_get (numbers_at bytes a n) i ≡ Some (number_at bytes j)
 at_word bytes a n i j h e =
-    slice_get-get_or (words bytes a n) i 0 (omega (arith, length-map-range_with_len (word bytes) a n)) ∙ ap Some (get_or-map-range_with_len (word bytes) a n i j 0 h e)
+    slice_get-get_or (numbers_at bytes a n) i 0 (omega (arith, length-map-range_with_len (number_at bytes) a n)) ∙ ap Some (get_or-map-range_with_len (number_at bytes) a n i j 0 h e)
 
 -- what the bytes store of a row
-pub stored_of : (bytes : List ℕ) (n r : ℕ) → n ≡ length bytes / 24 → r < n → IsStored (columns_of bytes) r (word bytes r) (word bytes (n + r)) (word bytes (2 * n + r))
+pub stored_of : (bytes : List ℕ) (n r : ℕ) → n ≡ length bytes / 24 → r < n → IsStored (columns_of bytes) r (number_at bytes r) (number_at bytes (n + r)) (number_at bytes (2 * n + r))
 stored_of bytes n r e h = record {
   id = at_word bytes 0 (length bytes / 24) r r (omega arith) (omega arith);
   start = at_word bytes (length bytes / 24) (length bytes / 24) r (n + r) (omega arith) (omega arith);
@@ -74,7 +74,7 @@ stored_of bytes n r e h = record {
 }
 
 pub columns_rows : (bytes : List ℕ) → length (columns_of bytes).ids ≡ length bytes / 24
-columns_rows bytes = length-map-range_with_len (word bytes) 0 (length bytes / 24)
+columns_rows bytes = length-map-range_with_len (number_at bytes) 0 (length bytes / 24)
 
 -- of a row behind which a look-up goes on, and of one where it stops
 pub goes_on : (wanted id : ℕ) → id < wanted → nat_le wanted id ≡ false
@@ -84,7 +84,7 @@ pub stops_there : (wanted id : ℕ) → wanted ≤ id → nat_le wanted id ≡ t
 stops_there wanted id h = grind (arith, nat_tests)
 
 -- a row whose numbers were read
-pub stored_here : (bytes : List ℕ) (n r k d s z : ℕ) → n ≡ length bytes / 24 → r < n → k ≡ r → d ≡ word bytes r → s ≡ word bytes (n + r) → z ≡ word bytes (2 * n + r)
+pub stored_here : (bytes : List ℕ) (n r k d s z : ℕ) → n ≡ length bytes / 24 → r < n → k ≡ r → d ≡ number_at bytes r → s ≡ number_at bytes (n + r) → z ≡ number_at bytes (2 * n + r)
     → IsStored (columns_of bytes) k d s z
 stored_here bytes n r k d s z e h ek ed es ez =
     let at_r = stored_of bytes n r e h in

@@ -1,16 +1,16 @@
 //! A look-up in a whole index.
 ghost use Rattle.std.specs.Prelude.{◌≡◌, ◌+◌, ◌*◌, ◌/◌, ◌%◌, ◌<◌, ◌≤◌, ◌^◌, length, OnOk};
-ghost use Rattle.vol_spec.specs.Rows.{columns_of, find_in, word, judged_row};
+ghost use Rattle.vol_spec.specs.Rows.{columns_of, find_in, number_at, judged_row};
 ghost use Rattle.minishard.specs.Walks.{IsWalked};
 
 use crate::{Row, Walk};
 use byteorder::{ByteOrder, LittleEndian};
 use vol_base::IndexFault;
 
-#[tactic(auto, unfolding(vol_spec::specs::Rows::word))]
-fn read_word(bytes: &[u8], place: usize) -> u64
+#[tactic(auto, unfolding(vol_spec::specs::Rows::number_at))]
+fn read_number(bytes: &[u8], place: usize) -> u64
     requires { 8 * place + 8 ≤ length bytes.now }
-    ensures { result ≡ word bytes.now place }
+    ensures { result ≡ number_at bytes.now place }
 {
     LittleEndian::read_u64(&bytes[8 * place..])
 }
@@ -26,9 +26,9 @@ fn next_of(index: &[u8], row: usize, walk: &mut Walk) -> Result<Row, IndexFault>
     ensures rows { OnOk result (walk.new.rows ≡ row + 1) }
 {
     let rows = index.len() / 24;
-    let id = read_word(index, row);
-    let start = read_word(index, rows + row);
-    let size = read_word(index, 2 * rows + row);
+    let id = read_number(index, row);
+    let start = read_number(index, rows + row);
+    let size = read_number(index, 2 * rows + row);
     walk.next_row(id, start, size)
 }
 

@@ -5,7 +5,7 @@ use Rattle.std.proofs.lemmas.Grind.{pow_more}
 use Rattle.std.proofs.lemmas.Nat.{mod_below}
 use borrow.Author.Tests.{ltb-false}
 use Rattle.vol_base.specs.Grids.{is_pair, AreSizes}
-use Rattle.vol_spec.specs.Codes.{bit_of, code_of, IsCell}
+use Rattle.vol_spec.specs.Codes.{bit_of, code_of, IsInGrid}
 use Rattle.morton_code.proofs.Steps.{code_from, code_from-more, code_from-0, below, same_cells}
 use Rattle.vol_base.proofs.Axes.{by_axis}
 
@@ -34,11 +34,11 @@ bit_below : (cell : List ℕ) (p : ℕ × ℕ) → bit_of cell p < 2
 bit_below cell p = mod_below (slice_index cell p.1 / 2 ^ p.0) 2 (lit< tt)
 
 -- equal numbers from bit i on come from equal coordinates from bit i on
-same_from : (size a b : List ℕ) (i n : ℕ) → AreSizes size → IsCell size a → IsCell size b → i + n ≡ 40 → code_from size a i ≡ code_from size b i
+same_from : (size a b : List ℕ) (i n : ℕ) → AreSizes size → IsInGrid size a → IsInGrid size b → i + n ≡ 40 → code_from size a i ≡ code_from size b i
     → (axis : ℕ) → axis < 3 → slice_index a axis / 2 ^ i ≡ slice_index b axis / 2 ^ i
 same_from size a b i zero sizes is_a is_b e same axis h =
     let end : i ≡ 40 = omega arith in
-    let none : (cell : List ℕ) → IsCell size cell → slice_index cell axis / 2 ^ i ≡ 0 = λ cell is.
+    let none : (cell : List ℕ) → IsInGrid size cell → slice_index cell axis / 2 ^ i ≡ 0 = λ cell is.
     ap (λ k. slice_index cell axis / 2 ^ k) end ∙ div-eq_of_lt (omega (arith, is.below axis h, sizes axis h)) in
     none a is_a ∙ sym (none b is_b)
 same_from size a b i (suc n) sizes is_a is_b e same axis h =
@@ -53,7 +53,7 @@ same_from size a b i (suc n) sizes is_a is_b e same axis h =
     (joined _ _ _ i (is_a.below 2 (lit< tt)) (is_b.below 2 (lit< tt)) z.0 (above 2 (lit< tt)))
     axis h
 
-pub one_cell : (size a b : List ℕ) → AreSizes size → IsCell size a → IsCell size b → code_of size a ≡ code_of size b → a ≡ b
+pub one_cell : (size a b : List ℕ) → AreSizes size → IsInGrid size a → IsInGrid size b → code_of size a ≡ code_of size b → a ≡ b
 one_cell size a b sizes is_a is_b same =
     let all = same_from size a b 0 40 sizes is_a is_b refl (code_from-0 size a ∙ same ∙ sym (code_from-0 size b)) in
     let whole = λ (axis : ℕ) (h : axis < 3). let t : slice_index a axis ≡ slice_index b axis = omega (arith, all axis h) in t in

@@ -10,7 +10,7 @@ use Rattle.std.proofs.lemmas.Nat.{mod_below, mod-pow-add, leading_length}
 use Rattle.std.specs.Int.Count.{count_leading_zeros}
 use borrow.Author.Tests.{ltb-false}
 use Rattle.vol_base.specs.Grids.{is_pair, axes_of, pairs}
-use Rattle.vol_spec.specs.Codes.{bit_of, number, code_of, IsCell}
+use Rattle.vol_spec.specs.Codes.{bit_of, number, code_of, IsInGrid}
 use Rattle.morton_code.specs.declared.codes.Taken.{Taken}
 
 abbrev Pair : Type 0
@@ -113,7 +113,7 @@ same_cells a b len_a len_b x y z =
     triple a len_a ∙ e ∙ sym (triple b len_b)
 
 -- what the code of a cell was taken apart to, where no axis has further bits
-pub taken_all : (size cell : List ℕ) (top x y z : ℕ) → ((axis : ℕ) → axis < 3 → slice_index size axis ≤ 2 ^ top) → IsCell size cell
+pub taken_all : (size cell : List ℕ) (top x y z : ℕ) → ((axis : ℕ) → axis < 3 → slice_index size axis ≤ 2 ^ top) → IsInGrid size cell
     → x ≡ slice_index cell 0 % 2 ^ top → y ≡ slice_index cell 1 % 2 ^ top → z ≡ slice_index cell 2 % 2 ^ top
     → x ∷ y ∷ z ∷ [] ≡ cell
 taken_all size cell top x y z sizes is ex ey ez =
@@ -134,7 +134,7 @@ taken_small false rest got i h =
     omega arith
 
 -- one bit of the three axes is taken
-pub taken_step : (size cell : List ℕ) (i rest x y z : ℕ) (tx ty tz : Taken) → i < 40 → IsCell size cell
+pub taken_step : (size cell : List ℕ) (i rest x y z : ℕ) (tx ty tz : Taken) → i < 40 → IsInGrid size cell
     → (rest ≡ code_from size cell i) × (x ≡ slice_index cell 0 % 2 ^ i) × (y ≡ slice_index cell 1 % 2 ^ i) × (z ≡ slice_index cell 2 % 2 ^ i)
     → tx ≡ taken (is_pair size (i, 0)) rest x i → ty ≡ taken (is_pair size (i, 1)) tx.rest y i → tz ≡ taken (is_pair size (i, 2)) ty.rest z i
     → (tz.rest ≡ code_from size cell (i + 1)) × (tx.coordinate ≡ slice_index cell 0 % 2 ^ (i + 1)) × (ty.coordinate ≡ slice_index cell 1 % 2 ^ (i + 1)) × (tz.coordinate ≡ slice_index cell 2 % 2 ^ (i + 1))

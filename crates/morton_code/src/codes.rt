@@ -1,7 +1,7 @@
 //! The code of a cell, and the cell of a code.
 ghost use Rattle.std.specs.Prelude.{◌≡◌, ◌+◌, ◌*◌, ◌/◌, ◌%◌, ◌<◌, ◌≤◌, ◌^◌, ℕ, List, length, slice_index, nat_lt, IfSome, Some, if◌then◌else◌, IsTrue, ◌↔◌};
 ghost use Rattle.vol_base.specs.Grids.{pairs};
-ghost use Rattle.vol_spec.specs.Codes.{IsCell, code_of};
+ghost use Rattle.vol_spec.specs.Codes.{IsInGrid, code_of};
 
 use vol_base::Grid;
 
@@ -41,7 +41,7 @@ fn put_below(code: u64, size: u64, coordinate: u64, bit: u32) -> u64
 /// bit of the code where 2^bit is less than the grid's size on the axis. Codes of two cells differ.
 pub fn code(grid: &Grid, cell: [u64; 3]) -> u64
     requires bits { length (pairs grid.now.size) ≤ 64 }
-    requires cell { IsCell grid.now.size cell }
+    requires cell { IsInGrid grid.now.size cell }
     ensures { result ≡ code_of grid.now.size cell }
 {
     let [size_x, size_y, size_z] = grid.size;
@@ -79,7 +79,7 @@ fn take_lowest(rest: u64, size: u64, coordinate: u64, bit: u32) -> Taken
 }
 
 fn is_inside(grid: &Grid, cell: [u64; 3]) -> bool
-    ensures { IsTrue result ↔ IsCell grid.now.size cell }
+    ensures { IsTrue result ↔ IsInGrid grid.now.size cell }
 {
     cell[0] < grid.size[0] && cell[1] < grid.size[1] && cell[2] < grid.size[2]
 }
@@ -87,7 +87,7 @@ fn is_inside(grid: &Grid, cell: [u64; 3]) -> bool
 // Whether the cell is in the grid and has the code.
 fn has_code(grid: &Grid, cell: [u64; 3], wanted: u64) -> bool
     requires { length (pairs grid.now.size) ≤ 64 }
-    ensures { IsTrue result ↔ (IsCell grid.now.size cell × (code_of grid.now.size cell ≡ wanted)) }
+    ensures { IsTrue result ↔ (IsInGrid grid.now.size cell × (code_of grid.now.size cell ≡ wanted)) }
 {
     is_inside(grid, cell) && code(grid, cell) == wanted
 }
@@ -95,8 +95,8 @@ fn has_code(grid: &Grid, cell: [u64; 3], wanted: u64) -> bool
 /// The cell that has a code, or None where no cell of the grid has it.
 pub fn cell(grid: &Grid, code: u64) -> Option<[u64; 3]>
     requires bits { length (pairs grid.now.size) ≤ 64 }
-    ensures found { IfSome result (λ cell. IsCell grid.now.size cell × (code_of grid.now.size cell ≡ code)) }
-    ensures only { (cell : List ℕ) → IsCell grid.now.size cell → code_of grid.now.size cell ≡ code → result ≡ Some cell }
+    ensures found { IfSome result (λ cell. IsInGrid grid.now.size cell × (code_of grid.now.size cell ≡ code)) }
+    ensures only { (cell : List ℕ) → IsInGrid grid.now.size cell → code_of grid.now.size cell ≡ code → result ≡ Some cell }
 {
     let mut rest = code;
     let mut x = 0;

@@ -1,7 +1,7 @@
 //! Codes and cells against a plain slow program.
 ghost use Rattle.std.specs.Prelude.{◌≡◌, ◌≤◌, IfSome, IsTrue, length};
 ghost use Rattle.vol_base.specs.Grids.{pairs};
-ghost use Rattle.vol_spec.specs.Codes.{IsCell};
+ghost use Rattle.vol_spec.specs.Codes.{IsInGrid};
 
 use crate::{cell, code};
 use std::process::Abort;
@@ -20,7 +20,7 @@ fn new_grid(size: [u64; 3]) -> Option<Grid>
 }
 
 fn is_cell(size: [u64; 3], cell: [u64; 3]) -> bool
-    ensures { IsTrue result → IsCell size cell }
+    ensures { IsTrue result → IsInGrid size cell }
 {
     cell[0] < size[0] && cell[1] < size[1] && cell[2] < size[2]
 }
@@ -44,7 +44,7 @@ fn slow_code(size: [u64; 3], cell: [u64; 3]) -> u128 {
 // The cell of a cell's code is that cell: the check proves it for every cell.
 fn find_back(grid: &Grid, at: [u64; 3]) -> Option<[u64; 3]>
     requires bits { length (pairs grid.now.size) ≤ 64 }
-    requires cell { IsCell grid.now.size at }
+    requires cell { IsInGrid grid.now.size at }
     ensures { result ≡ Some at }
 {
     cell(grid, code(grid, at))

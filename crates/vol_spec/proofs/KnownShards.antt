@@ -6,7 +6,7 @@ use Rattle.vol_base.specs.declared.faults.ShardFault.TheVariants.{ShortIndex, Ba
 use Rattle.vol_spec.specs.Entries.{entry_bytes, entry_of}
 use Rattle.vol_spec.specs.FoundChunks.{found}
 use Rattle.vol_spec.specs.IndexBytes.{eight, numbers}
-use Rattle.vol_spec.specs.Rows.{word}
+use Rattle.vol_spec.specs.Rows.{number_at}
 use Rattle.vol_spec.specs.Shards.{shard_bytes}
 use Rattle.vol_spec.specs.declared.sharding.HashKind.TheVariants.{Identity}
 use Rattle.vol_spec.specs.declared.sharding.Sharding.{Sharding}
@@ -50,81 +50,81 @@ one_with : ℕ → ℕ → ℕ → ℕ → ℕ → List ℕ
 one_with end id next start size = numbers (2 ∷ end ∷ []) ++ 10 ∷ 11 ∷ numbers (id ∷ next ∷ start ∷ 0 ∷ size ∷ 1 ∷ [])
 
 two_0 : found two halved 1 0 ≡ Ok (Some (record { start = 32; len = 1 }))
-unfolding found entry_of word eight
+unfolding found entry_of number_at eight
 two_0 = refl
 
 two_1 : found two halved 1 1 ≡ Ok (Some (record { start = 57; len = 1 }))
-unfolding found entry_of word eight
+unfolding found entry_of number_at eight
 two_1 = refl
 
 one_1 : found one plain 1 1 ≡ Ok (Some (record { start = 17; len = 1 }))
-unfolding found entry_of word eight
+unfolding found entry_of number_at eight
 one_1 = refl
 
 absent_2 : found one plain 1 2 ≡ Ok None
-unfolding found entry_of word eight
+unfolding found entry_of number_at eight
 absent_2 = refl
 
 shifted_1 : found one all_shifted 1 1 ≡ Ok (Some (record { start = 17; len = 1 }))
-unfolding found entry_of word eight
+unfolding found entry_of number_at eight
 shifted_1 = refl
 
 short_index : found (take 8 two) halved 1 0 ≡ Err (Shard ShortIndex)
-unfolding found entry_of word eight
+unfolding found entry_of number_at eight
 short_index = refl
 
 empty_minishard : found (two_with 0 0) halved 1 0 ≡ Ok None
-unfolding found entry_of word eight two_with
+unfolding found entry_of number_at eight two_with
 empty_minishard = refl
 
 bad_range : found (two_with 25 1) halved 1 0 ≡ Err (Shard BadRange)
-unfolding found entry_of word eight two_with
+unfolding found entry_of number_at eight two_with
 bad_range = refl
 
 bad_length : found (two_with 2 25) halved 1 0 ≡ Err (Shard (BadLength 23))
-unfolding found entry_of word eight two_with
+unfolding found entry_of number_at eight two_with
 bad_length = refl
 
 many_rows : found (one_with 100663322 0 1 0 1) plain 1 0 ≡ Err (Shard (TooManyRows 4194305))
-unfolding found entry_of word eight one_with
+unfolding found entry_of number_at eight one_with
 many_rows = refl
 
 short_minishard : found (take 33 two) halved 1 0 ≡ Err (Shard ShortMinishard)
-unfolding found entry_of word eight
+unfolding found entry_of number_at eight
 short_minishard = refl
 
 far_entry : found (two_with (2 ^ 64 - 25) (2 ^ 64 - 1)) halved 1 0 ≡ Err (Shard ShortMinishard)
-unfolding found entry_of word eight two_with
+unfolding found entry_of number_at eight two_with
 far_entry = refl
 
 same_id_0 : found (one_with 50 0 0 0 1) plain 1 0 ≡ Ok (Some (record { start = 16; len = 1 }))
-unfolding found entry_of word eight one_with
+unfolding found entry_of number_at eight one_with
 same_id_0 = refl
 
 same_id_1 : found (one_with 50 0 0 0 1) plain 1 1 ≡ Err (Index (BadId 1))
-unfolding found entry_of word eight one_with
+unfolding found entry_of number_at eight one_with
 same_id_1 = refl
 
 last_id_0 : found (one_with 50 (2 ^ 64 - 1) 1 0 1) plain 1 0 ≡ Ok None
-unfolding found entry_of word eight one_with
+unfolding found entry_of number_at eight one_with
 last_id_0 = refl
 
 last_id_1 : found (one_with 50 (2 ^ 64 - 1) 1 0 1) plain 1 1 ≡ Ok None
-unfolding found entry_of word eight one_with
+unfolding found entry_of number_at eight one_with
 last_id_1 = refl
 
 far_start : found (one_with 50 0 1 1000 1) plain 1 0 ≡ Err (Shard ShortChunk)
-unfolding found entry_of word eight one_with
+unfolding found entry_of number_at eight one_with
 far_start = refl
 
 long_chunk : found (one_with 50 0 1 0 2) plain 1 0 ≡ Err (Shard (ChunkTooLong 2 1))
-unfolding found entry_of word eight one_with
+unfolding found entry_of number_at eight one_with
 long_chunk = refl
 
 last_size_0 : found (one_with 50 0 1 0 (2 ^ 64 - 1)) plain 1 0 ≡ Err (Shard (ChunkTooLong (2 ^ 64 - 1) 1))
-unfolding found entry_of word eight one_with
+unfolding found entry_of number_at eight one_with
 last_size_0 = refl
 
 last_size_1 : found (one_with 50 0 1 0 (2 ^ 64 - 1)) plain 1 1 ≡ Err (Index (BadStart 1))
-unfolding found entry_of word eight one_with
+unfolding found entry_of number_at eight one_with
 last_size_1 = refl

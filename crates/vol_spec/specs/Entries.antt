@@ -3,6 +3,7 @@ use Rattle.std.specs.Prelude.{ℕ, ◌+◌, ◌-◌, ◌*◌, ◌/◌, ◌%◌, 
 use Rattle.byteorder.specs.Endian.{little_bytes, little_number}
 use Rattle.vol_base.specs.declared.faults.ShardFault.{ShardFault}
 use Rattle.vol_base.specs.declared.faults.ShardFault.TheVariants.{BadRange, BadLength, TooManyRows, ShortMinishard}
+use Rattle.vol_spec.specs.Types.{Bytes}
 use Rattle.vol_spec.specs.declared.sharding.Sharding.{Sharding}
 use Rattle.vol_spec.specs.declared.entry.Entry.{Entry}
 
@@ -11,10 +12,10 @@ abbrev pub base_of : Sharding → ℕ
 base_of sharding = 16 * 2 ^ sharding.minishard_bits
 
 -- the start and the end, eight bytes each, the lowest first
-unfoldable pub entry_bytes : Entry → List ℕ
+unfoldable pub entry_bytes : Entry → Bytes
 entry_bytes entry = little_bytes 8 entry.start ++ little_bytes 8 entry.end
 
-unfoldable pub entry_of : List ℕ → Entry
+unfoldable pub entry_of : Bytes → Entry
 entry_of bytes = record { start = little_number 8 bytes; end = little_number 8 (drop 8 bytes) }
 
 -- the number of rows of 24 bytes behind an entry, or its first fault; `len` is the object's length

@@ -10,6 +10,7 @@ use Rattle.vol_base.specs.declared.faults.ShardFault.TheVariants.{ShortIndex, Ch
 use Rattle.vol_spec.specs.Entries.{base_of, entry_of, judged_entry}
 use Rattle.vol_spec.specs.Places.{minishard_of}
 use Rattle.vol_spec.specs.Rows.{columns_of, find_in}
+use Rattle.vol_spec.specs.Types.{Bytes}
 use Rattle.vol_spec.specs.declared.entry.Entry.{Entry}
 use Rattle.vol_spec.specs.declared.row.Row.{Row}
 use Rattle.vol_spec.specs.declared.sharding.Sharding.{Sharding}
@@ -30,20 +31,20 @@ of_index (Ok x) = Ok x
 of_index (Err fault) = Err (Index fault)
 
 -- the entry of a minishard
-abbrev pub entry_in : List ℕ → ℕ → Entry
+abbrev pub entry_in : Bytes → ℕ → Entry
 entry_in object m = entry_of (part object (16 * m) 16)
 
 -- how many rows its index has; 0 where it is empty
-abbrev pub rows_in : List ℕ → Sharding → ℕ → Result ℕ ShardFault
+abbrev pub rows_in : Bytes → Sharding → ℕ → Result ℕ ShardFault
 rows_in object sharding m =
     if nat_lt (length object) (16 * m + 16) then Err ShortIndex else judged_entry (entry_in object m) (base_of sharding) (length object)
 
 -- the bytes of so many rows
-abbrev pub index_in : List ℕ → Sharding → ℕ → ℕ → List ℕ
+abbrev pub index_in : Bytes → Sharding → ℕ → ℕ → Bytes
 index_in object sharding m rows = part object (base_of sharding + (entry_in object m).start) (24 * rows)
 
 -- the row with an id among them, or none
-abbrev pub row_in : List ℕ → Sharding → ℕ → ℕ → ℕ → Result (Option Row) IndexFault
+abbrev pub row_in : Bytes → Sharding → ℕ → ℕ → ℕ → Result (Option Row) IndexFault
 row_in object sharding m id rows = find_in (columns_of (index_in object sharding m rows)) id
 
 -- where the chunk of a row stands in an object of so many bytes
@@ -54,7 +55,7 @@ span_of base len limit (Some row) =
     else (if nat_lt len (base + row.start + row.size) then Err ShortChunk else Ok (Some (record { start = base + row.start; len = row.size })))
 
 -- where the chunk of an id stands in its shard's object, none where it is absent, or the first fault; `limit` is the chunk's longest length
-unfoldable pub found : List ℕ → Sharding → ℕ → ℕ → Result (Option ChunkSpan) Fault
+unfoldable pub found : Bytes → Sharding → ℕ → ℕ → Result (Option ChunkSpan) Fault
 found object sharding limit id = do
   rows ← of_shard (rows_in object sharding (minishard_of sharding id))
   row ← of_index (row_in object sharding (minishard_of sharding id) id rows)

@@ -2,6 +2,7 @@
 use Rattle.std.specs.Prelude.{ℕ, ◌+◌, ◌-◌, ◌^◌, ◌<◌, ◌≤◌, List, ◌∷◌, ◌++◌, length, map, flat_map, zip, slice_index}
 use Rattle.byteorder.specs.Endian.{little_bytes}
 use Rattle.vol_spec.specs.Rows.{Columns}
+use Rattle.vol_spec.specs.Types.{Bytes}
 use Rattle.vol_spec.specs.declared.row.Row.{Row}
 
 abbrev pub ids : List Row → List ℕ
@@ -24,15 +25,15 @@ over xs before = map (λ (p : ℕ × ℕ). p.0 - p.1) (zip xs before)
 abbrev pub stored : List Row → Columns
 stored rows = record { ids = over (ids rows) (0 ∷ ids rows); starts = over (starts rows) (0 ∷ ends rows); sizes = sizes rows }
 
-unfoldable pub eight : ℕ → List ℕ
+unfoldable pub eight : ℕ → Bytes
 eight n = little_bytes 8 n
 
 -- numbers of eight bytes each, the lowest first
-abbrev pub numbers : List ℕ → List ℕ
+abbrev pub numbers : List ℕ → Bytes
 numbers ns = flat_map eight ns
 
 -- ids, then starts, then sizes
-abbrev pub index_bytes : Columns → List ℕ
+abbrev pub index_bytes : Columns → Bytes
 index_bytes c = numbers c.ids ++ numbers c.starts ++ numbers c.sizes
 
 -- rows that can be stored: ids ascend, each row starts at or after the end of the one before, and no end passes 64 bits

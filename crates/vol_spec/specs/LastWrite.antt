@@ -7,10 +7,10 @@ use Rattle.vol_spec.specs.Raw.{digit}
 use Rattle.vol_spec.specs.Types.{Position, Writes}
 
 -- whether a box covers a position
-abbrev pub covers_on : Box3 → List ℤ → ℕ → Bool
+abbrev pub covers_on : Box3 → Position → ℕ → Bool
 covers_on b p axis = int_le (at b.begin axis) (at p axis) && int_lt (at p axis) (end b axis)
 
-abbrev pub covers : Box3 → List ℤ → Bool
+abbrev pub covers : Box3 → Position → Bool
 covers b p = list_all (covers_on b p) (0 ∷ 1 ∷ 2 ∷ [])
 
 -- what each voxel and channel had before the first write

@@ -3,13 +3,14 @@ use Rattle.std.specs.Prelude.{ℕ, ◌/◌, ◌%◌, ◌^◌, List}
 use Rattle.vol_spec.specs.Codes.{code_of}
 use Rattle.vol_spec.specs.Hashes.{hash8}
 use Rattle.vol_spec.specs.Limits.{cell_counts}
+use Rattle.vol_spec.specs.Types.{Cell}
 use Rattle.vol_spec.specs.declared.scale.Scale.{Scale}
 use Rattle.vol_spec.specs.declared.sharding.Sharding.{Sharding}
 use Rattle.vol_spec.specs.declared.sharding.HashKind.{HashKind}
 use Rattle.vol_spec.specs.declared.sharding.HashKind.TheVariants.{Identity, Murmur}
 
 -- the id of a cell: its code in the scale's grid
-abbrev pub id_of : Scale → List ℕ → ℕ
+abbrev pub id_of : Scale → Cell → ℕ
 id_of s cell = code_of (cell_counts s.size s.chunk) cell
 
 abbrev pub hash_of : HashKind → ℕ → ℕ

@@ -4,6 +4,7 @@ use Rattle.std.specs.Prelude.{ℕ, ◌+◌, ◌*◌, ◌/◌, ◌^◌, ◌==◌,
 use Rattle.std.specs.List.{range_with_len}
 use Rattle.std.specs.Option.{option_map_or}
 use Rattle.byteorder.specs.Endian.{little_number}
+use Rattle.vol_spec.specs.Types.{Bytes}
 use Rattle.vol_spec.specs.declared.row.Row.{Row}
 use Rattle.vol_base.specs.declared.faults.IndexFault.{IndexFault}
 use Rattle.vol_base.specs.declared.faults.IndexFault.TheVariants.{BadId, BadStart}
@@ -51,17 +52,17 @@ abbrev pub find_in : Columns → ℕ → Result (Option Row) IndexFault
 find_in c wanted = option_map_or (λ r. wanted_row wanted (judged_row c r)) (find (stops c wanted) (range_with_len 0 (length c.ids))) (Ok None)
 
 -- the k-th number of some bytes
-unfoldable pub word : List ℕ → ℕ → ℕ
-word bytes k = little_number 8 (drop (8 * k) bytes)
+unfoldable pub number_at : Bytes → ℕ → ℕ
+number_at bytes k = little_number 8 (drop (8 * k) bytes)
 
 -- n numbers from the k-th on
-abbrev pub words : List ℕ → ℕ → ℕ → List ℕ
-words bytes k n = map (word bytes) (range_with_len k n)
+abbrev pub numbers_at : Bytes → ℕ → ℕ → List ℕ
+numbers_at bytes k n = map (number_at bytes) (range_with_len k n)
 
 -- ids, then starts, then sizes
-abbrev pub columns_of : List ℕ → Columns
+abbrev pub columns_of : Bytes → Columns
 columns_of bytes = record {
-  ids = words bytes 0 (length bytes / 24);
-  starts = words bytes (length bytes / 24) (length bytes / 24);
-  sizes = words bytes (2 * (length bytes / 24)) (length bytes / 24);
+  ids = numbers_at bytes 0 (length bytes / 24);
+  starts = numbers_at bytes (length bytes / 24) (length bytes / 24);
+  sizes = numbers_at bytes (2 * (length bytes / 24)) (length bytes / 24);
 }

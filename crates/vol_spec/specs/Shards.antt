@@ -4,6 +4,7 @@ use Rattle.std.specs.Prelude.{ℕ, ◌+◌, ◌*◌, ◌^◌, ◌==◌, nat_lt, 
 use Rattle.std.specs.List.{range_with_len}
 use Rattle.vol_spec.specs.Entries.{entry_bytes}
 use Rattle.vol_spec.specs.IndexBytes.{index_bytes, stored}
+use Rattle.vol_spec.specs.Types.{Bytes}
 use Rattle.vol_spec.specs.declared.entry.Entry.{Entry}
 use Rattle.vol_spec.specs.declared.row.Row.{Row}
 
@@ -11,7 +12,7 @@ use Rattle.vol_spec.specs.declared.row.Row.{Row}
 pub record Chunk : Type 0 where
   pub minishard : ℕ
   pub id : ℕ
-  pub bytes : List ℕ
+  pub bytes : Bytes
 
 -- the chunks of a minishard
 abbrev pub of : List Chunk → ℕ → List Chunk
@@ -47,16 +48,16 @@ entry_at chunks m =
     else record { start = index_start chunks m; end = index_start chunks m + 24 * length (of chunks m) }
 
 -- the entries of the first minishards
-abbrev pub entries : List Chunk → ℕ → List ℕ
+abbrev pub entries : List Chunk → ℕ → Bytes
 entries chunks n = flat_map (λ m. entry_bytes (entry_at chunks m)) (range_with_len 0 n)
 
 -- the chunks of a minishard and its index, nothing where it has no chunk
-abbrev pub body : List Chunk → ℕ → List ℕ
+abbrev pub body : List Chunk → ℕ → Bytes
 body chunks m = flat_map (λ (c : Chunk). c.bytes) (of chunks m) ++ index_bytes (stored (rows_of chunks m))
 
-abbrev pub bodies : List Chunk → ℕ → List ℕ
+abbrev pub bodies : List Chunk → ℕ → Bytes
 bodies chunks n = flat_map (body chunks) (range_with_len 0 n)
 
 -- a shard of 2^bits minishards; the chunks of each are given by ascending id
-unfoldable pub shard_bytes : ℕ → List Chunk → List ℕ
+unfoldable pub shard_bytes : ℕ → List Chunk → Bytes
 shard_bytes bits chunks = entries chunks (2 ^ bits) ++ bodies chunks (2 ^ bits)

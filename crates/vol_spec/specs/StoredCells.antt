@@ -10,32 +10,32 @@ use Rattle.vol_spec.specs.CellNames.{cell_name}
 use Rattle.vol_spec.specs.BoxValues.{bytes_of, channel_of, position_of}
 use Rattle.vol_spec.specs.Grid.{IsCell, cell_box, cells_on, meets, numbers_on}
 use Rattle.vol_spec.specs.LastWrite.{Before, last}
-use Rattle.vol_spec.specs.Types.{Bytes, Cell, Chunks, Writes}
+use Rattle.vol_spec.specs.Types.{Bytes, Cell, Chunks, Listed, Name, Position, Writes}
 use Rattle.vol_spec.specs.declared.scale.Scale.{Scale}
 
 -- the number of a cell in the grid: x fastest, then y, then z
-abbrev pub cell_number : Scale → List ℕ → ℕ
+abbrev pub cell_number : Scale → Cell → ℕ
 cell_number s cell = slice_index cell 0 + cells_on s 0 * (slice_index cell 1 + cells_on s 1 * slice_index cell 2)
 
 -- distinct cells of the grid, in its order
-pub record AreInOrder (s : Scale) (cells : List (List ℕ)) : Type 0 where
+pub record AreInOrder (s : Scale) (cells : List Cell) : Type 0 where
   pub each : All (IsCell s) cells
   pub rising : AllPairs (λ a b. cell_number s a < cell_number s b) cells
 
 -- a cell of a list of cells
-abbrev pub cell_of : List (List ℕ) → ℕ → List ℕ
+abbrev pub cell_of : List Cell → ℕ → Cell
 cell_of cells n = slice_index_or cells n []
 
 -- whether the box of some write meets a cell. A write is a box and its values' bytes
-abbrev pub met : Scale → List (Box3 × List ℕ) → List ℕ → Bool
+abbrev pub met : Scale → Writes → Cell → Bool
 met s writes cell = list_any (λ write. meets s write.0 cell) writes
 
 -- the cells that the writes meet
-unfoldable pub met_cells : Scale → List (Box3 × List ℕ) → List (List ℕ)
+unfoldable pub met_cells : Scale → Writes → List Cell
 met_cells s writes = filter (met s writes) (numbers_on (cells_on s))
 
 -- a value for each voxel and channel of a box, as the bytes of a raw chunk with so many bytes a value
-abbrev pub raw_bytes : Box3 → ℕ → ℕ → (List ℤ → ℕ → ℕ) → List ℕ
+abbrev pub raw_bytes : Box3 → ℕ → ℕ → (Position → ℕ → ℕ) → Bytes
 raw_bytes b channels w f = flat_map (λ n. bytes_of w (f (position_of b n) (channel_of b n))) (range_with_len 0 (voxels b * channels))
 
 -- the bytes of a cell's values after writes, over what was there
@@ -47,10 +47,10 @@ unfoldable pub chunks_of : Scale → Before → Writes → Chunks
 chunks_of s before writes = map (λ cell. (cell, written_raw s before writes cell)) (met_cells s writes)
 
 -- the objects of chunks, as a list of names and bytes
-abbrev pub object_list : List ℕ → Scale → List (List ℕ × List ℕ) → List (List ℕ × List ℕ)
+abbrev pub object_list : Name → Scale → Chunks → Listed
 object_list dataset s chunks = map (λ chunk. (cell_name dataset s chunk.0, chunk.1)) chunks
 
 -- objects with some put in, by their names and bytes
-abbrev pub put_in : Objects → List (List ℕ × List ℕ) → Objects
+abbrev pub put_in : Objects → Listed → Objects
 put_in objects [] = objects
 put_in objects (o ∷ rest) = put_in (fin.insert objects o.0 o.1) rest

@@ -25,6 +25,10 @@ Key = List ℕ
 abbrev pub Chunks : Type 0
 Chunks = List (Cell × Bytes)
 
+-- bytes with the keys by which they are ordered
+abbrev pub Keyed : Type 0
+Keyed = List (Key × Bytes)
+
 -- objects with their names, in the order in which they are put
 abbrev pub Listed : Type 0
 Listed = List (Name × Bytes)

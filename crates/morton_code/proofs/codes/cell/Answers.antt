@@ -1,5 +1,5 @@
 use Rattle.std.proofs.Common.{◌≡◌, ◌%◌, ◌^◌, ℕ, List, arith, ap, ◌∙◌, sym, slice_index, lit<, subst, Some}
-use Rattle.vol_spec.specs.Codes.{IsCell, code_of}
+use Rattle.vol_spec.specs.Codes.{IsInGrid, code_of}
 use Rattle.vol_base.specs.Grids.{is_pair}
 use Rattle.morton_code.proofs.Steps.{taken_small, taken_step, taken_all, not_true, code_from-0}
 use Rattle.morton_code.proofs.codes.cell.Goals as goal
@@ -28,7 +28,7 @@ returns-else-has_code-clause-only c = λ cell is same.
     let end : c.loop-bit.bit ≡ c.count_bits-bit-end.result = omega arith in
     let all = taken_all c.args.grid.now.size cell c.count_bits-bit-end.result c.loop-bit.x c.loop-bit.y c.loop-bit.z c.count_bits-bit-end.ensures.sizes is
     (was.1 ∙ ap (λ i. slice_index cell 0 % 2 ^ i) end) (was.2 ∙ ap (λ i. slice_index cell 1 % 2 ^ i) end) (was.3 ∙ ap (λ i. slice_index cell 2 % 2 ^ i) end) in
-    let P : List ℕ → Type 0 = λ x. IsCell c.args.grid.now.size x × (code_of c.args.grid.now.size x ≡ c.args.code) in
+    let P : List ℕ → Type 0 = λ x. IsInGrid c.args.grid.now.size x × (code_of c.args.grid.now.size x ≡ c.args.code) in
     absurd (not_true c.has_code.result c.has_code.ensures c.if-has_code.false (subst P (sym all) (is, same)))
 
 pub loop-bit-init : goal.loop-bit-init
