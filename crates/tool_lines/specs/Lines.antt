@@ -115,3 +115,6 @@ store_line = texts (codes "store fault" ∷ line_feed ∷ [])
 
 abbrev pub output_line : List ℕ
 output_line = texts (codes "output fault" ∷ line_feed ∷ [])
+
+abbrev pub door_line : List ℕ
+door_line = texts (codes "door fault" ∷ line_feed ∷ [])

@@ -1,7 +1,5 @@
 pub mod AnswerSteps
+pub mod Choices
+pub mod CutoutSteps
 pub mod InfoSteps
-pub mod MemorySteps
-pub mod PlanSteps
-pub mod ShowSteps
-pub mod StoreSteps
-pub mod WriteShows
+pub mod WriteSteps
