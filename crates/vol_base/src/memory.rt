@@ -5,7 +5,7 @@ ghost use Rattle.std.specs.FinMap as map;
 ghost use Rattle.vol_base.specs.Stored.{objects_of};
 ghost use Rattle.std.specs.Prelude.{◌↔◌, IsErr, IfErr, nat_eq, List, drop};
 ghost use Rattle.std.specs.List.{list_any};
-ghost use Rattle.vol_base.specs.Causes.{HasCause, HasStoreCause};
+ghost use Rattle.vol_base.specs.Causes.{HasCause, HasStoreCause, counted, is_count};
 ghost use Rattle.vol_base.specs.Outside.{KeepsRest, Reads, part, asked_after, is_under, any_under, begun, appended, patched, finished, overwritten};
 
 use crate::calls::tick;
@@ -150,16 +150,18 @@ impl Source for MemoryStore {
 
     ghost draft = { draft_of };
 
-    ghost asked = { λ m. m.asked };
+    ghost asked = { λ m. counted m.asked };
 
-    ghost faults = { λ m. m.faults };
+    ghost faults = { λ m. counted m.faults };
+
+    ghost counts = { λ m. (is_count m.asked, is_count m.faults) };
 
     fn size(&mut self, name: &Name) -> Result<Option<u64>, Failed>
         ensures found { IfOk result (λ size. IfSome (Some self.old.objects) (λ m. size ≡ option_map length (map.get m name.now))) }
         ensures objects { Some self.new.objects ≡ Some self.old.objects }
         ensures draft { draft_of self.new ≡ draft_of self.old }
-        ensures asked { self.new.asked ≡ self.old.asked }
-        ensures cause { HasCause self.old.faults self.new.faults result }
+        ensures asked { counted self.new.asked ≡ counted self.old.asked }
+        ensures cause { HasCause (counted self.old.faults) (counted self.new.faults) result }
         ensures fails { IsErr result ↔ IsTrue (fails self.old) }
         ensures ok { OnOk result (self.new ≡ called self.old) }
         ensures err { OnErr result (self.new ≡ failed self.old) }
@@ -177,9 +179,9 @@ impl Source for MemoryStore {
         ensures rest { IfOk result (KeepsRest out.old out.new) }
         ensures objects { Some self.new.objects ≡ Some self.old.objects }
         ensures draft { draft_of self.new ≡ draft_of self.old }
-        ensures asked { OnOk result (self.new.asked ≡ asked_after self.old.asked (length out.old)) }
-        ensures asked_err { OnErr result ((self.old.asked ≤ self.new.asked) × (self.new.asked ≤ self.old.asked + length out.old)) }
-        ensures cause { HasCause self.old.faults self.new.faults result }
+        ensures asked { OnOk result (counted self.new.asked ≡ asked_after (counted self.old.asked) (length out.old)) }
+        ensures asked_err { OnErr result ((counted self.old.asked ≤ counted self.new.asked) × (counted self.new.asked ≤ counted self.old.asked + length out.old)) }
+        ensures cause { HasCause (counted self.old.faults) (counted self.new.faults) result }
         ensures fails { IsErr result ↔ IsTrue (fails self.old) }
         ensures ok { OnOk result (self.new ≡ record (called self.old) { asked = asked_after self.old.asked (length out.old) }) }
         ensures err { OnErr result (self.new ≡ failed self.old) }
@@ -224,8 +226,8 @@ impl Store for MemoryStore {
         ensures found { IfOk result (λ found. IfSome (Some self.old.objects) (λ m. found ≡ any_under m folder.now)) }
         ensures objects { Some self.new.objects ≡ Some self.old.objects }
         ensures draft { draft_of self.new ≡ draft_of self.old }
-        ensures asked { self.new.asked ≡ self.old.asked }
-        ensures cause { HasCause self.old.faults self.new.faults result }
+        ensures asked { counted self.new.asked ≡ counted self.old.asked }
+        ensures cause { HasCause (counted self.old.faults) (counted self.new.faults) result }
         ensures fails { IsErr result ↔ IsTrue (fails self.old) }
         ensures ok { OnOk result (self.new ≡ called self.old) }
         ensures err { OnErr result (self.new ≡ failed self.old) }
@@ -238,8 +240,8 @@ impl Store for MemoryStore {
         ensures begun { OnOk result (draft_of self.new ≡ Some (begun (Some self.old.objects) name.now)) }
         ensures refused { OnErr result (draft_of self.new ≡ None) }
         ensures objects { Some self.new.objects ≡ Some self.old.objects }
-        ensures asked { self.new.asked ≡ self.old.asked }
-        ensures cause { HasStoreCause self.old.faults self.new.faults result }
+        ensures asked { counted self.new.asked ≡ counted self.old.asked }
+        ensures cause { HasStoreCause (counted self.old.faults) (counted self.new.faults) result }
         ensures fails { IsErr result ↔ IsTrue (fails self.old) }
         ensures ok { OnOk result (self.new ≡ record (called self.old) { writing = Some (name.now, []) }) }
         ensures err { OnErr result (self.new ≡ record (failed self.old) { writing = None }) }
@@ -260,8 +262,8 @@ impl Store for MemoryStore {
         ensures appended { OnOk result (draft_of self.new ≡ option_map (λ d. appended d piece.now) (draft_of self.old)) }
         ensures refused { OnErr result (draft_of self.new ≡ None) }
         ensures objects { Some self.new.objects ≡ Some self.old.objects }
-        ensures asked { self.new.asked ≡ self.old.asked }
-        ensures cause { HasStoreCause self.old.faults self.new.faults result }
+        ensures asked { counted self.new.asked ≡ counted self.old.asked }
+        ensures cause { HasStoreCause (counted self.old.faults) (counted self.new.faults) result }
         ensures fails { IsTrue (fails self.old) → IsErr result }
         ensures refusal { IfErr result (λ refusal. FailsAs refusal (fails self.old)) }
         ensures ok { OnOk result (self.new ≡ record (called self.old) { writing = option_map (λ d. (d.0, d.1 ++ piece.now)) self.old.writing }) }
@@ -288,8 +290,8 @@ impl Store for MemoryStore {
         ensures patched { OnOk result (draft_of self.new ≡ option_map (λ d. patched d at piece.now) (draft_of self.old)) }
         ensures refused { OnErr result (draft_of self.new ≡ None) }
         ensures objects { Some self.new.objects ≡ Some self.old.objects }
-        ensures asked { self.new.asked ≡ self.old.asked }
-        ensures cause { HasStoreCause self.old.faults self.new.faults result }
+        ensures asked { counted self.new.asked ≡ counted self.old.asked }
+        ensures cause { HasStoreCause (counted self.old.faults) (counted self.new.faults) result }
         ensures fails { IsErr result ↔ IsTrue (fails self.old) }
         ensures ok { OnOk result (self.new ≡ record (called self.old) { writing = option_map (λ d. (d.0, overwritten d.1 at piece.now)) self.old.writing }) }
         ensures err { OnErr result (self.new ≡ record (failed self.old) { writing = None }) }
@@ -312,8 +314,8 @@ impl Store for MemoryStore {
         ensures finished { OnOk result (IfSome (draft_of self.old) (λ d. Some self.new.objects ≡ option_map (finished d.told) (Some self.old.objects))) }
         ensures draft { draft_of self.new ≡ None }
         ensures refused { OnErr result (Some self.new.objects ≡ Some self.old.objects) }
-        ensures asked { self.new.asked ≡ self.old.asked }
-        ensures cause { HasStoreCause self.old.faults self.new.faults result }
+        ensures asked { counted self.new.asked ≡ counted self.old.asked }
+        ensures cause { HasStoreCause (counted self.old.faults) (counted self.new.faults) result }
         ensures fails { IsTrue (fails self.old) → IsErr result }
         ensures refusal { IfErr result (λ refusal. FailsAs refusal (fails self.old)) }
         ensures ok { OnOk result (self.new ≡ record (called self.old) { objects = finished self.old.writing self.old.objects; writing = None }) }
