@@ -5,12 +5,17 @@ use Rattle.std.specs.List.{list_any, starts_with}
 use Rattle.std.specs.FinMap as map
 use Rattle.std.specs.Ordering.{nat_cmp}
 use Rattle.std.specs.Cmp.Lexicographic.{slice_cmp}
+use Rattle.vol_base.specs.Bytes.{AreBytes}
 use Rattle.vol_base.specs.declared.outside.Got.{Got}
 use Rattle.vol_base.specs.declared.outside.Got.TheVariants.{Absent, Bytes}
 
 -- a finite map from names to bytes
 abbrev pub Objects : Type 0
 Objects = map.FinMap (slice_cmp nat_cmp) (List ℕ)
+
+-- what each object holds is bytes
+abbrev pub HaveBytes : Objects → Type 0
+HaveBytes objects = (name : List ℕ) → IfSome (map.get objects name) AreBytes
 
 -- the n bytes from a place on, or what is left
 abbrev pub part : List ℕ → ℕ → ℕ → List ℕ

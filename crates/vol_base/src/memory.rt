@@ -5,8 +5,9 @@ ghost use Rattle.std.specs.FinMap as map;
 ghost use Rattle.vol_base.specs.Stored.{objects_of};
 ghost use Rattle.std.specs.Prelude.{◌↔◌, IsErr, IfErr, nat_eq, List, drop};
 ghost use Rattle.std.specs.List.{list_any};
+ghost use Rattle.vol_base.specs.Bytes.{AreBytes};
 ghost use Rattle.vol_base.specs.Causes.{HasCause, HasStoreCause, counted, is_count};
-ghost use Rattle.vol_base.specs.Outside.{KeepsRest, Reads, part, asked_after, is_under, any_under, begun, appended, patched, finished, overwritten};
+ghost use Rattle.vol_base.specs.Outside.{HaveBytes, KeepsRest, Reads, part, asked_after, is_under, any_under, begun, appended, patched, finished, overwritten};
 
 use crate::calls::tick;
 use crate::{Failed, Got, Name, OutOfMemory, Source, Store, StoreRefusal};
@@ -33,11 +34,20 @@ fn lookup<'a>(objects: &'a [Object], name: &Name) -> Option<&'a [u8]>
     None
 }
 
+// Knows that the elements of bytes are bytes.
+fn tell_bytes(bytes: &[u8])
+    ensures { AreBytes bytes.now }
+{
+    let _ = bytes.len();
+}
+
 // Puts an object in front.
 fn put_newest(objects: &mut Vec<Object>, name: Name, bytes: Vec<u8>) -> Result<(), AllocError>
     ensures ok { OnOk result (objects_of objects.new.items ≡ map.insert (objects_of objects.old.items) name bytes.items) }
     ensures err { OnErr result (objects.new.items ≡ objects.old.items) }
+    ensures bytes { HaveBytes (objects_of objects.old.items) → HaveBytes (objects_of objects.new.items) }
 {
+    tell_bytes(&bytes);
     objects.insert(0, Object { name, bytes })?;
     Ok(())
 }
@@ -79,6 +89,7 @@ pub struct MemoryStore {
 
 impl Model for MemoryStore {
     ghost use Rattle.vol_base.specs.Memory.{Memory, memory_code};
+    ghost use Rattle.vol_base.specs.Outside.{HaveBytes};
     ghost use Rattle.vol_base.specs.Stored.{objects_of, writing_of};
 
     ghost Value = { Memory };
@@ -93,6 +104,8 @@ impl Model for MemoryStore {
       calls = s.calls;
       failing = s.failing.items;
     } };
+
+    ghost invariant = { λ s. HaveBytes (objects_of s.objects.items) };
 }
 
 impl MemoryStore {
@@ -158,6 +171,7 @@ impl Source for MemoryStore {
 
     fn size(&mut self, name: &Name) -> Result<Option<u64>, Failed>
         ensures found { IfOk result (λ size. IfSome (Some self.old.objects) (λ m. size ≡ option_map length (map.get m name.now))) }
+        ensures bytes { HaveBytes self.old.objects }
         ensures objects { Some self.new.objects ≡ Some self.old.objects }
         ensures draft { draft_of self.new ≡ draft_of self.old }
         ensures asked { counted self.new.asked ≡ counted self.old.asked }
@@ -177,6 +191,7 @@ impl Source for MemoryStore {
         requires { at + length out.old < 2 ^ 64 }
         ensures read { IfOk result (λ got. IfSome (Some self.old.objects) (λ m. Reads (map.get m name.now) at out.old out.new got)) }
         ensures rest { IfOk result (KeepsRest out.old out.new) }
+        ensures bytes { HaveBytes self.old.objects }
         ensures objects { Some self.new.objects ≡ Some self.old.objects }
         ensures draft { draft_of self.new ≡ draft_of self.old }
         ensures asked { OnOk result (counted self.new.asked ≡ asked_after (counted self.old.asked) (length out.old)) }
@@ -224,6 +239,7 @@ impl Store for MemoryStore {
 
     fn any_under(&mut self, folder: &Name) -> Result<bool, Failed>
         ensures found { IfOk result (λ found. IfSome (Some self.old.objects) (λ m. found ≡ any_under m folder.now)) }
+        ensures bytes { HaveBytes self.old.objects }
         ensures objects { Some self.new.objects ≡ Some self.old.objects }
         ensures draft { draft_of self.new ≡ draft_of self.old }
         ensures asked { counted self.new.asked ≡ counted self.old.asked }

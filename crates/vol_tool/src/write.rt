@@ -3,7 +3,7 @@ ghost use Rattle.std.specs.Prelude.{◌≡◌, ◌≤◌, ◌^◌, [], ℕ, List
 ghost use Rattle.std.specs.Option.{option_map};
 ghost use Rattle.vol_base.specs.Causes.{Rose};
 ghost use Rattle.vol_base.specs.Outside.{any_under};
-ghost use Rattle.vol_spec.specs.Bytes.{AreBytes};
+ghost use Rattle.vol_base.specs.Bytes.{AreBytes};
 ghost use Rattle.vol_spec.specs.CellNames.{folder_of};
 ghost use Rattle.write_plan.specs.Plans.{pairs};
 ghost use Rattle.write_plan.specs.Stream.{writes_of};
