@@ -1,7 +1,7 @@
 //! The command `cutout`.
 ghost use Rattle.std.specs.Prelude.{◌≡◌, ◌≤◌, ◌+◌, ◌<◌, length, IfSome};
 ghost use Rattle.vol_base.specs.Causes.{Rose};
-ghost use Rattle.vol_spec.specs.Bytes.{AreBytes};
+ghost use Rattle.vol_base.specs.Bytes.{AreBytes};
 ghost use Rattle.vol_spec.specs.Limits.{first_bytes};
 ghost use Rattle.vol_spec.specs.Raw.{raw_len};
 ghost use Rattle.vol_tool.specs.Cutouts.{Cuts, CutsScale, HasCut, IsRequest, JudgesPart, Writes};
