@@ -2,7 +2,7 @@
 use Rattle.std.proofs.Common.{◌≤◌, ℕ, Option, Some, None, refl, inl, inr, arith}
 use Rattle.command_line.specs.declared.commands.Command.{Command}
 use Rattle.command_line.specs.declared.commands.Command.TheVariants.{Cutout, Write}
-use Rattle.tool_lines.specs.Lines.{memory_line}
+use Rattle.vol_shell.specs.Lines.{memory_line}
 use Rattle.vol_spec.proofs.Told.{in_told}
 use Rattle.vol_spec.specs.Types.{Bytes}
 use Rattle.vol_tool.proofs.ShowSteps.{no_front}

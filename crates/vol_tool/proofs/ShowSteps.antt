@@ -6,10 +6,10 @@ use Rattle.vol_base.specs.Outside.{Objects}
 use Rattle.vol_spec.specs.Cut.{first_fault}
 use Rattle.vol_spec.specs.Grid.{whole}
 use Rattle.vol_tool.specs.Answers.{Cuts, CutsScale, stored_scale, Writes}
-use Rattle.tool_lines.specs.Lines.{damaged_line, large_line, memory_line, outside_line, written_line}
+use Rattle.vol_shell.specs.Lines.{damaged_line, large_line, memory_line, outside_line, written_line}
 use Rattle.vol_tool.specs.Refusals.{line_of, status_of}
 use Rattle.std.specs.Option.{option_map}
-use Rattle.tool_lines.specs.Effects.{GainsFront}
+use Rattle.vol_shell.specs.Effects.{GainsFront}
 use Rattle.vol_tool.specs.Statuses.{CutoutLeaves, CutoutShows, MeetsFault, Outlets, RefusesBox, Tells}
 use Rattle.vol_tool.specs.Storing.{Prints, WriteLeaves}
 use Rattle.vol_tool.specs.declared.refusal.Refusal.{Refusal}

@@ -14,8 +14,8 @@ use Rattle.write_plan.specs.Stream.{writes_of}
 use Rattle.write_plan.specs.WriteLists.{BoxWrite}
 use Rattle.write_plan.specs.declared.fault.PlanFault.{PlanFault}
 use Rattle.vol_tool.specs.Answers.{stored_scale}
-use Rattle.tool_lines.specs.Effects.{Gains, GainsFront}
-use Rattle.tool_lines.specs.Lines.{cells_line, info_line, stream_line, written_line}
+use Rattle.vol_shell.specs.Effects.{Gains, GainsFront}
+use Rattle.vol_shell.specs.Lines.{cells_line, info_line, stream_line, written_line}
 use Rattle.vol_tool.specs.Refusals.{info_text, line_of, status_of}
 use Rattle.vol_tool.specs.Statuses.{Outlets, Tells}
 use Rattle.vol_tool.specs.Storing.{count_line, Counts, FrontPut, HasStored, KeepsStore, Prints, RefusesWrite, WritesAll, WriteShows, WritesScale}

@@ -12,7 +12,7 @@ use Rattle.vol_spec.specs.Raw.{raw_len}
 use Rattle.vol_spec.specs.declared.encoding.Encoding.{Encoding}
 use Rattle.vol_spec.specs.declared.encoding.Encoding.TheVariants.{Raw, Seg}
 use Rattle.vol_spec.specs.declared.scale.Scale.{Scale}
-use Rattle.tool_lines.specs.Effects.{Gains, GainsFront}
+use Rattle.vol_shell.specs.Effects.{Gains, GainsFront}
 use Rattle.vol_tool.specs.declared.refusal.NoScale.{NoScale}
 use Rattle.vol_tool.specs.declared.refusal.NoScale.TheVariants.{Absent, Refused, NotBuilt}
 use Rattle.vol_tool.specs.declared.refusal.Refusal.{Refusal}

@@ -1,7 +1,7 @@
 -- The status and the line of a refusal.
 use Rattle.std.specs.Prelude.{List, ℕ, codes}
 use Rattle.info_doc.specs.Texts.{fault_text as info_fault_text}
-use Rattle.tool_lines.specs.Lines.{cells_line, damaged_line, feed_line, folder_line, info_line, large_line, memory_line, outside_line, output_line, store_line, stream_line}
+use Rattle.vol_shell.specs.Lines.{cells_line, damaged_line, feed_line, folder_line, info_line, large_line, memory_line, outside_line, output_line, store_line, stream_line}
 use Rattle.vol_tool.specs.declared.refusal.NoScale.{NoScale as Why}
 use Rattle.vol_tool.specs.declared.refusal.NoScale.TheVariants.{Absent, Refused, NotBuilt}
 use Rattle.vol_tool.specs.declared.refusal.Refusal.{Refusal}

@@ -7,8 +7,8 @@ use Rattle.vol_spec.specs.Grid.{Inside, whole}
 use Rattle.vol_spec.specs.Raw.{raw_len}
 use Rattle.vol_spec.specs.declared.scale.Scale.{Scale}
 use Rattle.vol_tool.specs.Answers.{IsRequest, IsSound, stored_scale}
-use Rattle.tool_lines.specs.Effects.{Gains, GainsFront, Says}
-use Rattle.tool_lines.specs.Lines.{damaged_line, info_line, large_line, memory_line, outside_line, output_line, store_line, usage_line}
+use Rattle.vol_shell.specs.Effects.{Gains, GainsFront, Says}
+use Rattle.vol_shell.specs.Lines.{damaged_line, info_line, large_line, memory_line, outside_line, output_line, store_line, usage_line}
 use Rattle.vol_tool.specs.Refusals.{info_text, line_of, status_of}
 use Rattle.vol_tool.specs.declared.refusal.NoScale.{NoScale}
 use Rattle.vol_tool.specs.declared.refusal.Refusal.{Refusal}

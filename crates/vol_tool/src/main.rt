@@ -13,15 +13,14 @@ mod tests;
 mod top;
 mod write;
 
-use host_io::{DirStore, NoDoor, StdFeed, StdOutlet};
 use status::Status;
 use std::env::Env;
 use std::io::ErrorKind;
 use std::process::ExitCode;
 use std::{env, io};
-use tool_lines::say;
 use top::run;
 use vol_base::FreeGate;
+use vol_shell::{DirStore, NoDoor, StdFeed, StdOutlet, say};
 
 // The words after the program's name. It fails as a whole where the system doesn't give each of them as
 // text, or where there is no memory for them.

@@ -1,18 +1,18 @@
 //! What a refusal says.
 ghost use Rattle.std.specs.Prelude.{◌≡◌, ◌≢◌, ◌≤◌, ◌⊎◌, IfOk};
-ghost use Rattle.tool_lines.specs.Effects.{Says};
-ghost use Rattle.tool_lines.specs.Lines.{info_line, memory_line};
+ghost use Rattle.vol_shell.specs.Effects.{Says};
+ghost use Rattle.vol_shell.specs.Lines.{info_line, memory_line};
 ghost use Rattle.vol_tool.specs.Refusals.{info_text, line_of, status_of};
 
 use crate::refusal::{NoScale, Refusal};
 use crate::status::Status;
 use info_doc::InfoFault;
 use std::alloc::{AllocError, Global};
-use tool_lines::{
+use vol_base::{Name, Outlet};
+use vol_shell::{
     say, write_cells_line, write_damaged_line, write_info_line, write_large_line,
     write_outside_line, write_stream_line,
 };
-use vol_base::{Name, Outlet};
 
 fn find_status(refusal: &Refusal) -> Status
     ensures { result ≡ status_of refusal.now }

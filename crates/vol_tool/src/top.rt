@@ -18,8 +18,8 @@ use command_line::{Command, read_words};
 use std::alloc::Global;
 use std::sync::Wait;
 use std::thread::Threads;
-use tool_lines::say;
 use vol_base::{Box3, Door, Feed, Gate, Name, Outlet, Store};
+use vol_shell::say;
 
 // The command `cutout`.
 fn run_cutout<S: Store, O: Outlet, E: Outlet>(

@@ -10,7 +10,7 @@ ghost use Rattle.write_plan.specs.Stream.{writes_of};
 ghost use Rattle.write_plan.specs.WriteLists.{IsWriteOf};
 ghost use Rattle.shard_writer.specs.Writing.{Drops};
 ghost use Rattle.vol_tool.specs.Answers.{IsServed, stored_scale};
-ghost use Rattle.tool_lines.specs.Lines.{written_line};
+ghost use Rattle.vol_shell.specs.Lines.{written_line};
 ghost use Rattle.vol_tool.specs.Storing.{JudgesFolder, KeepsStore, Prints, PutsWrites, ReadsStream, WritesAll, WritesScale};
 
 use crate::info::read_scale;
@@ -18,8 +18,8 @@ use crate::refusal::Refusal;
 use info_doc::Scale;
 use shard_writer::{WriteFault, Written, write_scale};
 use std::alloc::Global;
-use tool_lines::{write_all, write_written_line};
 use vol_base::{Feed, Name, Outlet, Store};
+use vol_shell::{write_all, write_written_line};
 use write_plan::{Plan, PlanFault, PlanRefusal, Writes, read_writes};
 
 // The folder of a scale.

@@ -7,7 +7,7 @@ ghost use Rattle.std.specs.Result.{result_ok};
 ghost use Rattle.vol_base.specs.Causes.{HasStoreCause};
 ghost use Rattle.vol_base.specs.Outside.{KeepsRest};
 ghost use Rattle.vol_base.specs.declared.outside.Got.TheVariants.{Bytes};
-ghost use Rattle.host_io.specs.Absences.{says_absent};
+ghost use Rattle.vol_shell.specs.Absences.{says_absent};
 
 use crate::counts::count_fault;
 use std::alloc::Global;
@@ -56,7 +56,7 @@ pub struct DirStore<R> {
 
 impl<R> Model for DirStore<R> {
     ghost use Rattle.std.specs.Option.{option_map};
-    ghost use Rattle.host_io.specs.Tallies.{Tally};
+    ghost use Rattle.vol_shell.specs.Tallies.{Tally};
 
     ghost Value = { Tally };
 
@@ -394,7 +394,7 @@ fn search_below<R: Files + AllocGlobal + Clone + Drop>(
 
 impl<R: Files<File = File>> Source for DirStore<R> {
     ghost use Rattle.std.specs.Prelude.{None};
-    ghost use Rattle.host_io.specs.Tallies.{draft_of};
+    ghost use Rattle.vol_shell.specs.Tallies.{draft_of};
 
     ghost objects = { λ _. None };
 
@@ -431,7 +431,7 @@ impl<R: Files<File = File>> Source for DirStore<R> {
 }
 
 impl<R: Files<File = File> + AllocGlobal + Clone + Drop> Store for DirStore<R> {
-    ghost use Rattle.host_io.specs.Tallies.{tells_length};
+    ghost use Rattle.vol_shell.specs.Tallies.{tells_length};
 
     ghost tells = { λ s. tells_length s.writing };
 
