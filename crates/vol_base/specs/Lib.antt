@@ -1,6 +1,8 @@
+pub mod BoxDisplay
 pub mod BoxText
 pub mod Boxes
 pub mod Causes
+pub mod FaultTexts
 pub mod Grids
 pub mod Memory
 pub mod Names
