@@ -2,7 +2,7 @@
 use Rattle.std.proofs.Common.{◌≡◌, ◌∙◌, ◌++◌, ◌≤◌, ℕ, List, [], ◌∷◌, Option, Some, None, Result, Ok, Err, refl, sym, ap, arith}
 use Rattle.std.specs.Prelude.{IsOkAnd, IsErrAnd, IsSomeAnd}
 use Rattle.std.specs.Option.{option_map}
-use Rattle.tool_lines.specs.Effects.{GainsFront}
+use Rattle.vol_shell.specs.Effects.{GainsFront}
 
 pub ok_and : {T E : Type 0} (r : Result T E) (P Q : T → Type 0) → ((x : T) → P x → Q x) → IsOkAnd r P → IsOkAnd r Q
 ok_and (Ok x) P Q f h = f x h

@@ -5,7 +5,7 @@ use Rattle.vol_base.specs.declared.boxes.Box3.{Box3}
 use Rattle.vol_base.specs.Outside.{Objects}
 use Rattle.vol_spec.specs.Cut.{first_fault}
 use Rattle.vol_spec.specs.Grid.{whole}
-use Rattle.tool_lines.specs.Lines.{damaged_line, large_line, outside_line}
+use Rattle.vol_shell.specs.Lines.{damaged_line, large_line, outside_line}
 use Rattle.vol_tool.proofs.Choices.{err_and, no_front, ok_and, some_and}
 use Rattle.vol_tool.specs.Cutouts.{CutoutLeaves, CutoutShows, Cuts, CutsScale, MeetsFault, RefusesBox, Writes}
 use Rattle.vol_tool.specs.Refusals.{cutout_line, cutout_status}

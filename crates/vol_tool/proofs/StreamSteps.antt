@@ -2,7 +2,7 @@
 use Rattle.std.proofs.Common.{◌≡◌, ℕ, zero, suc, List, [], ◌∷◌, ◌++◌, length, Option, Some, None, IfSome, Result, Ok, Err, refl, subst, ap, inl, inr, ◌∙◌, ◌≤◌, ◌^◌, arith, sym, lit≤}
 use Rattle.std.specs.Prelude.{◌&&◌, ◌==◌, All, Bool, true, false, IfErr, IsOkAnd, codes, slice_index}
 use Rattle.vol_base.specs.Outside.{any_under, Draft, is_under, Objects}
-use Rattle.vol_spec.specs.Bytes.{AreBytes}
+use Rattle.vol_base.specs.Bytes.{AreBytes}
 use Rattle.vol_spec.specs.LastWrite.{zeros}
 use Rattle.vol_spec.specs.CellNames.{folder_of}
 use Rattle.vol_spec.specs.Limits.{padded_of}

@@ -8,8 +8,8 @@ use Rattle.vol_spec.specs.Grid.{Inside, whole}
 use Rattle.vol_spec.specs.Raw.{raw_len}
 use Rattle.vol_spec.specs.Types.{Bytes, Cell, Name}
 use Rattle.vol_spec.specs.declared.scale.Scale.{Scale}
-use Rattle.tool_lines.specs.Effects.{Gains, GainsFront}
-use Rattle.tool_lines.specs.Lines.{damaged_line, info_line, large_line, memory_line, outside_line, output_line, store_line}
+use Rattle.vol_shell.specs.Effects.{Gains, GainsFront}
+use Rattle.vol_shell.specs.Lines.{damaged_line, info_line, large_line, memory_line, outside_line, output_line, store_line}
 use Rattle.vol_tool.specs.Refusals.{info_text}
 use Rattle.vol_tool.specs.Scales.{stored_scale}
 use Rattle.vol_tool.specs.Seen.{Outlets, Silent, Tells}

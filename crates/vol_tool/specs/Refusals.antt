@@ -5,7 +5,7 @@ use Rattle.cutout.specs.declared.reading.ReadFault.TheVariants.{StoreFault as Un
 use Rattle.info_doc.specs.Texts.{fault_text as info_fault_text}
 use Rattle.info_doc.specs.declared.fault.InfoFault.{InfoFault}
 use Rattle.info_doc.specs.declared.fault.InfoFault.TheVariants.{OutOfMemory as InfoMemory}
-use Rattle.tool_lines.specs.Lines.{cells_line, damaged_line, feed_line, folder_line, info_line, large_line, memory_line, outside_line, output_line, store_line, stream_line}
+use Rattle.vol_shell.specs.Lines.{cells_line, damaged_line, feed_line, folder_line, info_line, large_line, memory_line, outside_line, output_line, store_line, stream_line}
 use Rattle.vol_spec.specs.Types.{Bytes, Name}
 use Rattle.vol_tool.specs.declared.refusal.CutoutRefusal.{CutoutRefusal}
 use Rattle.vol_tool.specs.declared.refusal.CutoutRefusal.TheVariants as cutout

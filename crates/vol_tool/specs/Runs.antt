@@ -5,7 +5,7 @@ use Rattle.vol_base.specs.Causes.{Rose}
 use Rattle.command_line.specs.declared.commands.Command.{Command}
 use Rattle.command_line.specs.declared.commands.Command.TheVariants.{Cutout, Write}
 use Rattle.shard_writer.specs.Writing.{Drops}
-use Rattle.tool_lines.specs.Lines.{memory_line, usage_line}
+use Rattle.vol_shell.specs.Lines.{memory_line, usage_line}
 use Rattle.vol_tool.specs.Cutouts.{CanCut, CutoutLeaves, CutoutShows}
 use Rattle.vol_tool.specs.Seen.{Faults, IsLater, OnlyReads, Outlets, outlets, Seen, Silent, Tells}
 use Rattle.vol_tool.specs.Storing.{CanWrite, puts, WriteJudges, WriteLeaves, WriteShows, WrittenBack}

@@ -1,6 +1,6 @@
 -- What is seen of the outside before or after a call.
 use Rattle.std.specs.Prelude.{◌≡◌, ◌≤◌, ℕ, List, Option}
-use Rattle.tool_lines.specs.Effects.{Says}
+use Rattle.vol_shell.specs.Effects.{Says}
 use Rattle.vol_base.specs.Outside.{Draft, Objects}
 use Rattle.vol_spec.specs.Types.{Bytes}
 

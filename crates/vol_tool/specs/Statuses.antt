@@ -1,6 +1,6 @@
 -- The statuses of commands, their numbers, and what is told of them.
 use Rattle.std.specs.Prelude.{◌≡◌, ◌⊎◌, ℕ, Option, Some, None, IfSome, refl}
-use Rattle.tool_lines.specs.Lines.{door_line, feed_line, memory_line, output_line, store_line, usage_line}
+use Rattle.vol_shell.specs.Lines.{door_line, feed_line, memory_line, output_line, store_line, usage_line}
 use Rattle.vol_spec.specs.Types.{Bytes, Name}
 use Rattle.vol_tool.specs.Refusals.{cutout_line, cutout_status, write_line, write_status}
 use Rattle.vol_tool.specs.declared.refusal.CutoutRefusal.{CutoutRefusal}

@@ -16,8 +16,8 @@ use Rattle.shard_writer.specs.declared.written.Written.{Written}
 use Rattle.write_plan.specs.Plans.{pairs}
 use Rattle.write_plan.specs.Stream.{writes_of}
 use Rattle.write_plan.specs.declared.fault.PlanFault.{PlanFault}
-use Rattle.tool_lines.specs.Effects.{Gains, GainsFront}
-use Rattle.tool_lines.specs.Lines.{cells_line, feed_line, folder_line, info_line, memory_line, output_line, store_line, stream_line, written_line}
+use Rattle.vol_shell.specs.Effects.{Gains, GainsFront}
+use Rattle.vol_shell.specs.Lines.{cells_line, feed_line, folder_line, info_line, memory_line, output_line, store_line, stream_line, written_line}
 use Rattle.vol_tool.specs.Cutouts.{TellsNoScale}
 use Rattle.vol_tool.specs.Refusals.{info_text}
 use Rattle.vol_tool.specs.Scales.{stored_scale}

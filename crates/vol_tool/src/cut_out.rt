@@ -14,8 +14,8 @@ use chunk_grid::{byte_len, inside, whole};
 use cutout::read_cells;
 use info_doc::Scale;
 use std::alloc::Global;
-use tool_lines::write_all;
 use vol_base::{Box3, Name, Outlet, Source};
+use vol_shell::write_all;
 
 /// A cutout has at most so many bytes.
 const MOST_BYTES: u128 = 1 << 30;

@@ -18,7 +18,7 @@ mod tests;
 mod top;
 mod write;
 
-use host_io::{DirStore, NoDoor, StdFeed, StdOutlet};
+use vol_shell::{DirStore, NoDoor, StdFeed, StdOutlet};
 use report::tell;
 use status::Status;
 use std::env::Env;

@@ -1,7 +1,7 @@
 //! What is told of a refusal.
 ghost use Rattle.std.specs.Prelude.{◌≡◌, ◌≢◌, ◌≤◌, List, ℕ, None, IfOk, IfSome};
-ghost use Rattle.tool_lines.specs.Effects.{Says};
-ghost use Rattle.tool_lines.specs.Lines.{info_line};
+ghost use Rattle.vol_shell.specs.Effects.{Says};
+ghost use Rattle.vol_shell.specs.Lines.{info_line};
 ghost use Rattle.vol_tool.specs.Refusals.{cutout_line, cutout_status, info_text, write_line as line_of_write, write_status};
 ghost use Rattle.vol_tool.specs.Statuses.{cutout_fixed, fixed_line, Reports, write_fixed};
 ghost use Rattle.vol_tool.specs.declared.status.Status.{Status};
@@ -9,7 +9,7 @@ ghost use Rattle.vol_tool.specs.declared.status.Status.{Status};
 use crate::refusal::{CutoutRefusal, NoScale, WriteRefusal};
 use crate::status::Status;
 use std::alloc::{AllocError, Global};
-use tool_lines::{
+use vol_shell::{
     say, write_cells_line, write_damaged_line, write_info_line, write_large_line,
     write_outside_line, write_stream_line,
 };

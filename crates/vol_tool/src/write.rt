@@ -5,7 +5,7 @@ ghost use Rattle.vol_spec.specs.CellNames.{folder_of};
 ghost use Rattle.write_plan.specs.Plans.{pairs};
 ghost use Rattle.write_plan.specs.WriteLists.{IsWriteOf};
 ghost use Rattle.shard_writer.specs.Writing.{Drops};
-ghost use Rattle.tool_lines.specs.Lines.{written_line};
+ghost use Rattle.vol_shell.specs.Lines.{written_line};
 ghost use Rattle.vol_tool.specs.Scales.{IsServed, stored_scale};
 ghost use Rattle.vol_tool.specs.Storing.{Judges, KeepsFeed, KeepsPlan, KeepsStore, Prints, PutsWrites, WritesAll, WritesScale};
 
@@ -14,7 +14,7 @@ use crate::refusal::WriteRefusal;
 use info_doc::Scale;
 use shard_writer::{WriteFault, Written, write_scale};
 use std::alloc::Global;
-use tool_lines::{write_all, write_written_line};
+use vol_shell::{write_all, write_written_line};
 use vol_base::{Feed, Name, Outlet, Store};
 use write_plan::{Plan, Writes, read_writes};
 

@@ -1,6 +1,6 @@
 use Rattle.std.proofs.Common.{◌≤◌, ◌-◌, length, take}
-use Rattle.tool_lines.specs.Effects.{Gains}
-use Rattle.tool_lines.proofs.output.write_all.Given as goal
+use Rattle.vol_shell.specs.Effects.{Gains}
+use Rattle.vol_shell.proofs.output.write_all.Given as goal
 
 abbrev pub invariant-loop-done : goal.invariant-loop-done
 invariant-loop-done g l = record {

@@ -1,5 +1,5 @@
 use Rattle.std.specs.Io.KnownBytes.{Keeps}
-use Rattle.host_io.proofs.streams.write_some.Given as goal
+use Rattle.vol_shell.proofs.streams.write_some.Given as goal
 
 -- what broke off wrote nothing
 abbrev pub invariant-loop : goal.invariant-loop

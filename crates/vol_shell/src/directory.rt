@@ -7,7 +7,7 @@ ghost use Rattle.std.specs.Result.{result_ok};
 ghost use Rattle.vol_base.specs.Causes.{HasStoreCause};
 ghost use Rattle.vol_base.specs.Outside.{KeepsRest};
 ghost use Rattle.vol_base.specs.declared.outside.Got.TheVariants.{Bytes};
-ghost use Rattle.host_io.specs.Absences.{says_absent};
+ghost use Rattle.vol_shell.specs.Absences.{says_absent};
 
 use crate::counts::count_fault;
 use std::alloc::Global;
@@ -56,7 +56,7 @@ pub struct DirStore<R> {
 
 impl<R> Model for DirStore<R> {
     ghost use Rattle.std.specs.Option.{option_map};
-    ghost use Rattle.host_io.specs.Tallies.{Tally};
+    ghost use Rattle.vol_shell.specs.Tallies.{Tally};
 
     ghost Value = { Tally };
 
@@ -395,7 +395,7 @@ fn search_below<R: Files + AllocGlobal + Clone + Drop>(
 impl<R: Files<File = File>> Source for DirStore<R> {
     ghost use Rattle.std.specs.Prelude.{None};
     ghost use Rattle.vol_base.specs.Causes.{counted, is_count};
-    ghost use Rattle.host_io.specs.Tallies.{draft_of};
+    ghost use Rattle.vol_shell.specs.Tallies.{draft_of};
 
     ghost objects = { λ _. None };
 
@@ -434,7 +434,7 @@ impl<R: Files<File = File>> Source for DirStore<R> {
 }
 
 impl<R: Files<File = File> + AllocGlobal + Clone + Drop> Store for DirStore<R> {
-    ghost use Rattle.host_io.specs.Tallies.{tells_length};
+    ghost use Rattle.vol_shell.specs.Tallies.{tells_length};
 
     ghost tells = { λ s. tells_length s.writing };
 
@@ -489,48 +489,61 @@ mod tests {
     use super::*;
     use std::test::Fail;
 
-    // A folder where no file is kept.
-    const ROOM: &str = "out/directory_test";
+    fn name_of(path: &str) -> Result<Name, Fail> {
+        Ok(Name::new(path.as_bytes()).ok_or("a name")?)
+    }
 
-    fn put_pieces(
-        store: &mut DirStore<HostRuntime>,
-        name: &Name,
-        first: &[u8],
-        second: &[u8],
-    ) -> Result<(), StoreRefusal> {
+    // Puts an object of six bytes: in two pieces, with two bytes in the middle overwritten.
+    fn put_patched(store: &mut DirStore<HostRuntime>, name: &Name) -> Result<(), StoreRefusal> {
         store.begin(name)?;
-        store.append(first)?;
-        store.append(second)?;
-        store.patch_front(0, first)?;
+        store.append(b"abcd")?;
+        store.append(b"ef")?;
+        store.patch_front(2, b"XY")?;
         store.finish()
     }
 
     #[test]
     fn puts_objects_in_place_of_older_ones(rt: HostRuntime) -> Result<(), Fail> {
-        let _ = fs::remove_dir_all(&rt, ROOM);
         let mut store = DirStore::new(rt);
-        let folder = Name::new(b"out/directory_test/d").ok_or("a folder")?;
-        let object = Name::new(b"out/directory_test/d/s/0-1").ok_or("a name")?;
-        assert_eq!(rt; store.any_under(&folder), Ok(false));
+        let folder = name_of("d")?;
+        let object = name_of("d/s/0-1")?;
         store.begin(&object)?;
+        assert!(rt; fs::metadata(&rt, "d/s/0-1.part").is_ok());
         assert_eq!(rt; store.size(&object), Ok(None));
         assert_eq!(rt; store.any_under(&folder), Ok(false));
-        let mut found = [0; 8];
-        for (first, second, wanted) in [("abcd", "ef", "abcdef"), ("x", "", "x")] {
-            put_pieces(&mut store, &object, first.as_bytes(), second.as_bytes())?;
-            assert_eq!(rt;
-                store.read_at(&object, 0, &mut found),
-                Ok(Got::Bytes(wanted.len() as u64))
-            );
-            assert!(rt; found.starts_with(wanted.as_bytes()), "at {wanted}");
-        }
-        assert!(rt; fs::metadata(&rt, "out/directory_test/d/s/0-1.part").is_err());
+        store.begin(&name_of("d/s/1-2")?)?;
+        assert!(rt; fs::metadata(&rt, "d/s/0-1.part").is_err());
+        fs::write(&rt, "d/s/0-1", b"an older object")?;
+        put_patched(&mut store, &object)?;
+        assert_eq!(rt; store.size(&object), Ok(Some(6)));
         assert_eq!(rt; store.any_under(&folder), Ok(true));
-        let below = Name::new(b"out/directory_test/d/s/0-1/x").ok_or("a name")?;
-        assert_eq!(rt; store.begin(&below), Err(StoreRefusal::Failed));
-        let unfinished = Name::new(b"out/directory_test/x.part").ok_or("a name")?;
-        assert_eq!(rt; store.begin(&unfinished), Err(StoreRefusal::Failed));
-        fs::remove_dir_all(&rt, ROOM)?;
+        for part in ["d/s/0-1.part", "d/s/1-2.part"] {
+            assert!(rt; fs::metadata(&rt, part).is_err(), "at {part}");
+        }
+        assert_eq!(rt;
+            store.begin(&name_of("d/s/0-1/x")?),
+            Err(StoreRefusal::Failed)
+        );
+        assert_eq!(rt; store.begin(&name_of("x.part")?), Err(StoreRefusal::Failed));
+        Ok(())
+    }
+
+    #[test]
+    fn reads_what_the_file_holds(rt: HostRuntime) -> Result<(), Fail> {
+        let mut store = DirStore::new(rt);
+        let object = name_of("e/0-1")?;
+        put_patched(&mut store, &object)?;
+        for (at, wanted) in [(0, "abXYef"), (2, "XYef"), (5, "f"), (6, ""), (7, "")] {
+            let mut found = [b'.'; 6];
+            let got = store.read_at(&object, at, &mut found);
+            assert_eq!(rt; got, Ok(Got::Bytes(wanted.len() as u64)), "at {at}");
+            assert!(rt; found.starts_with(wanted.as_bytes()), "at {at}");
+        }
+        fs::write(&rt, "e/0-1", b"ab")?;
+        let mut found = [b'.'; 6];
+        assert_eq!(rt; store.read_at(&object, 0, &mut found), Err(Failed));
+        assert_eq!(rt; store.faults, 1);
+        assert_eq!(rt; store.read_at(&object, 0, &mut found), Ok(Got::Bytes(2)));
         Ok(())
     }
 }

@@ -1,6 +1,6 @@
 //! The texts of refusals.
 ghost use Rattle.std.specs.Prelude.{◌≡◌, ◌<◌, IfOk, string_bytes};
-ghost use Rattle.tool_lines.specs.Lines.{chunk_text, index_text, shard_text, fault_text, ends_text, box_text, cell_text, info_line, outside_line, large_line, damaged_line, stream_line, cells_line, written_line};
+ghost use Rattle.vol_shell.specs.Lines.{chunk_text, index_text, shard_text, fault_text, ends_text, box_text, cell_text, info_line, outside_line, large_line, damaged_line, stream_line, cells_line, written_line};
 ghost use Rattle.vol_base.specs.Boxes as Boxes;
 
 use std::alloc::{AllocError, Global};

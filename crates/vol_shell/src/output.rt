@@ -1,7 +1,7 @@
 //! Whole texts to an outlet.
 ghost use Rattle.std.specs.Prelude.{◌≤◌, OnOk, OnErr};
 ghost use Rattle.vol_base.specs.Causes.{HasCause};
-ghost use Rattle.tool_lines.specs.Effects.{Gains, GainsFront, Says};
+ghost use Rattle.vol_shell.specs.Effects.{Gains, GainsFront, Says};
 
 use vol_base::{Failed, Outlet};
 

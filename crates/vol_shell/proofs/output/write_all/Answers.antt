@@ -1,6 +1,6 @@
 use Rattle.std.proofs.Common.{arith, length, ◌-◌}
-use Rattle.tool_lines.proofs.Gained.{gained-next}
-use Rattle.tool_lines.proofs.output.write_all.Goals as goal
+use Rattle.vol_shell.proofs.Gained.{gained-next}
+use Rattle.vol_shell.proofs.output.write_all.Goals as goal
 
 pub loop-done-preserved : goal.loop-done-preserved
 loop-done-preserved g c = record {
