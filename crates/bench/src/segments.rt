@@ -1,13 +1,5 @@
-//! Segmentation chunks read and written, for measuring. The words are pairs of a kind and a count, and each pair's line
-//! has the sum of the bytes made. The kinds:
-//!
-//! - `decode` or `encode` with `-labels` or `-noise` behind it: a chunk of 64 x 64 x 64 wide values in blocks of 8 x 8 x 8
-//!   is read or written;
-//! - `short` or `long`: a chunk of 2^16 or 2^20 blocks of one voxel is written, with almost as many values as voxels; with
-//!   `-again` behind it over a third of the values have come before, with `-labels` there are some 40.
-#![tactic(auto)]
-
-ghost use Rattle.std.specs.Prelude.{◌≡◌, ◌*◌, ◌≤◌, ◌^◌, IfOk, length};
+//! Segmentation chunks read and written: the sums of the bytes made.
+ghost use Rattle.std.specs.Prelude.{◌≡◌, ◌+◌, ◌*◌, ◌<◌, ◌≤◌, ◌^◌, IfOk, length};
 ghost use Rattle.vol_spec.specs.SegBlocks.{raw_len};
 ghost use Rattle.vol_spec.specs.SegShapes.{sizes_of};
 ghost use Rattle.vol_spec.specs.SegSizes.{encoded_limit, padded_in};
@@ -16,7 +8,6 @@ ghost use Rattle.segment_blocks.specs.Reserved.{sizes_for};
 use byteorder::{ByteOrder, LittleEndian};
 use segment_blocks::{Scratch, SegShape, decode, encode};
 use std::alloc::{AllocError, Global};
-use std::{env, io};
 use vol_base::OutOfMemory;
 
 // What the values of a chunk are.
@@ -43,26 +34,16 @@ fn cube() -> SegShape
     }
 }
 
-fn short_line() -> SegShape
-    ensures raw { raw_len (sizes_of result) ≡ 524288 }
-    ensures limit { encoded_limit (sizes_of result) ≡ 1048580 }
+// Blocks of one voxel.
+fn line(len: u64) -> SegShape
+    requires some { 0 < len }
+    requires few { len ≤ 2 ^ 20 }
+    ensures raw { raw_len (sizes_of result) ≡ 8 * len }
+    ensures limit { encoded_limit (sizes_of result) ≡ 4 + 16 * len }
     ensures padded { padded_in (sizes_of result) ≤ 2 ^ 22 }
 {
     SegShape {
-        size: [65536, 1, 1],
-        block: [1, 1, 1],
-        channels: 1,
-        wide: true,
-    }
-}
-
-fn long_line() -> SegShape
-    ensures raw { raw_len (sizes_of result) ≡ 8388608 }
-    ensures limit { encoded_limit (sizes_of result) ≡ 16777220 }
-    ensures padded { padded_in (sizes_of result) ≤ 2 ^ 22 }
-{
-    SegShape {
-        size: [1048576, 1, 1],
+        size: [len, 1, 1],
         block: [1, 1, 1],
         channels: 1,
         wide: true,
@@ -183,45 +164,28 @@ fn sum_decoded(alloc: Global, values: Values, count: u64) -> Result<u64, OutOfMe
     Ok(sum_bytes(&read).wrapping_add(sound))
 }
 
-// The same for blocks of one voxel.
-fn sum_short(alloc: Global, values: Values, count: u64) -> Result<u64, OutOfMemory> {
-    sum_encoded(alloc, &short_line(), 524288, 1048580, values, count)
+// The sum of the bytes of a chunk of so many blocks of one voxel.
+fn sum_line(alloc: Global, len: u64, values: Values, count: u64) -> Result<u64, OutOfMemory>
+    requires some { 0 < len }
+    requires few { len ≤ 2 ^ 20 }
+{
+    let raw_bytes = 8 * len as usize;
+    let limit = 4 + 16 * len as usize;
+    sum_encoded(alloc, &line(len), raw_bytes, limit, values, count)
 }
 
-fn sum_long(alloc: Global, values: Values, count: u64) -> Result<u64, OutOfMemory> {
-    sum_encoded(alloc, &long_line(), 8388608, 16777220, values, count)
-}
-
-fn sum_of(alloc: Global, kind: &str, count: u64) -> Result<u64, OutOfMemory> {
+/// The sum for a kind that was named.
+pub(crate) fn sum_chunks(alloc: Global, kind: &str, count: u64) -> Result<u64, OutOfMemory> {
     match kind {
         "decode-labels" => sum_decoded(alloc, Values::Labels, count),
         "decode-noise" => sum_decoded(alloc, Values::Noise, count),
         "encode-labels" => sum_encoded(alloc, &cube(), 2097152, 4194308, Values::Labels, count),
         "encode-noise" => sum_encoded(alloc, &cube(), 2097152, 4194308, Values::Noise, count),
-        "short-labels" => sum_short(alloc, Values::Labels, count),
-        "short-again" => sum_short(alloc, Values::Below(1 << 16), count),
-        "short" => sum_short(alloc, Values::Below(1 << 24), count),
-        "long-labels" => sum_long(alloc, Values::Labels, count),
-        "long-again" => sum_long(alloc, Values::Below(1 << 20), count),
-        _ => sum_long(alloc, Values::Below(1 << 24), count),
+        "short-labels" => sum_line(alloc, 1 << 16, Values::Labels, count),
+        "short-again" => sum_line(alloc, 1 << 16, Values::Below(1 << 16), count),
+        "short" => sum_line(alloc, 1 << 16, Values::Below(1 << 24), count),
+        "long-labels" => sum_line(alloc, 1 << 20, Values::Labels, count),
+        "long-again" => sum_line(alloc, 1 << 20, Values::Below(1 << 20), count),
+        _ => sum_line(alloc, 1 << 20, Values::Below(1 << 24), count),
     }
-}
-
-// The words name at most so many kinds.
-const MOST: u32 = 16;
-
-fn main(rt: HostRuntime) -> io::Result<()> {
-    let mut words = env::args(&rt)?;
-    words.next();
-    for _ in 0..MOST {
-        let Some(kind) = words.next() else {
-            break;
-        };
-        let count = words.next().and_then(|word| word.parse().ok()).unwrap_or(1);
-        match sum_of(rt.alloc(), kind.as_str(), count) {
-            Ok(sum) => println!(&rt; "{kind} {count} {sum}")?,
-            Err(_) => println!(&rt; "{kind} {count} out of memory")?,
-        }
-    }
-    Ok(())
 }
