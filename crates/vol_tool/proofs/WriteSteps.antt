@@ -82,13 +82,13 @@ put_none FeedFault old new before after other kept = kept.0
 put_none OutFault old new before after other kept = absurd kept
 put_none NoMemory old new before after other kept = cc other
 
-pub write_shown : (refusal : WriteRefusal) (status : Status) (m : Objects) (now : Option Objects) (before after : Option Draft) (bytes : Bytes) (left : Option Bytes) (dataset key : Name) (o : Outlets)
-    → Judges (Err refusal) (stored_scale m dataset key) m dataset → WritesAll (Err refusal) (stored_scale m dataset key) m now bytes left dataset key → KeepsStore refusal (Some m) now before after
+pub write_shown : (refusal : WriteRefusal) (status : Status) (m : Objects) (old now : Option Objects) (before after : Option Draft) (bytes : Bytes) (left : Option Bytes) (dataset key : Name) (o : Outlets)
+    → old ≡ Some m → Judges (Err refusal) (stored_scale m dataset key) m dataset → WritesAll (Err refusal) (stored_scale m dataset key) m now bytes left dataset key → KeepsStore refusal old now before after
     → Reports (write_status refusal) (write_line dataset refusal) status (Tells o) → WriteShows status m now bytes left dataset key o
-write_shown refusal status m now before after bytes left dataset key o judges writes kept (inl told) =
+write_shown refusal status m old now before after bytes left dataset key o told_is judges writes kept (inl told) =
     subst (λ st. WriteShows st m now bytes left dataset key o) (sym told.0) (shows_line refusal m now bytes left dataset key o judges writes told.1)
-write_shown refusal status m now before after bytes left dataset key o judges writes kept (inr told) =
-    subst (λ st. WriteShows st m now bytes left dataset key o) (sym told.0) (inl (put_none refusal (Some m) now before after told.1 kept))
+write_shown refusal status m old now before after bytes left dataset key o told_is judges writes kept (inr told) =
+    subst (λ st. WriteShows st m now bytes left dataset key o) (sym told.0) (inl (put_none refusal old now before after told.1 kept ∙ told_is))
 
 -- what it leaves
 line_left : (refusal : WriteRefusal) (old new : Option Objects) (before after : Option Draft) (dataset : Name) (o : Outlets) → KeepsStore refusal old new before after → Silent o → Tells o (write_line dataset refusal)

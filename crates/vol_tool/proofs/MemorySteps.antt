@@ -1,0 +1,58 @@
+-- Where there is no memory for the words themselves, each command says what it says at that status.
+use Rattle.std.proofs.Common.{◌≤◌, ℕ, Option, Some, None, refl, inl, inr, arith}
+use Rattle.command_line.specs.declared.commands.Command.{Command}
+use Rattle.command_line.specs.declared.commands.Command.TheVariants.{Cutout, Write}
+use Rattle.vol_shell.specs.Lines.{memory_line}
+use Rattle.vol_spec.proofs.Told.{in_told}
+use Rattle.vol_spec.specs.Types.{Bytes}
+use Rattle.vol_tool.proofs.Choices.{no_front}
+use Rattle.vol_tool.specs.Runs.{Answers, Causes, Headline, IsCaused, Keeps, Leaves, Succeeds}
+use Rattle.vol_tool.specs.Seen.{Faults, OnlyReads, outlets, Seen, Tells}
+use Rattle.vol_tool.specs.declared.status.Status.TheVariants.{NoMemory}
+
+-- only the error outlet changed
+abbrev pub said_only : Seen → Option Bytes → ℕ → Seen
+said_only before err count = record before { err = err; faults = record before.faults { err = count } }
+
+pub memory_answers : (command : Option Command) (before : Seen) (err : Option Bytes) (count : ℕ) → Answers command NoMemory before (said_only before err count)
+memory_answers None before err count = inr refl
+memory_answers (Some (Cutout dataset key part)) before err count = in_told before.objects _ (λ m told. no_front before.out before.out _ refl)
+memory_answers (Some (Write dataset key workers)) before err count = in_told before.objects _ (λ m told. (tt, in_told before.left _ (λ bytes fed. inl told)))
+
+pub memory_succeeds : (command : Option Command) (before : Seen) (err : Option Bytes) (count : ℕ) → Succeeds command NoMemory before (said_only before err count)
+memory_succeeds None before err count = tt
+memory_succeeds (Some (Cutout dataset key part)) before err count = in_told before.objects _ (λ m told can store out. inr refl)
+memory_succeeds (Some (Write dataset key workers)) before err count = in_told before.objects _ (λ m told. in_told before.left _ (λ bytes fed can store feed out. inr refl))
+
+pub memory_headline : (command : Option Command) (before : Seen) (err : Option Bytes) (count : ℕ) → Headline command NoMemory before (said_only before err count)
+memory_headline None before err count = tt
+memory_headline (Some (Cutout dataset key part)) before err count = tt
+memory_headline (Some (Write dataset key workers)) before err count = λ done. absurd (cc done)
+
+pub memory_leaves : (command : Option Command) (before : Seen) (err : Option Bytes) (count : ℕ) → Tells (outlets before (said_only before err count)) memory_line → Leaves command NoMemory before (said_only before err count)
+memory_leaves None before err count said = (refl, said)
+memory_leaves (Some (Cutout dataset key part)) before err count said = said
+memory_leaves (Some (Write dataset key workers)) before err count said = (refl, said)
+
+reads : (before : Seen) (err : Option Bytes) (count : ℕ) → OnlyReads before (said_only before err count)
+reads before err count = record { objects = refl; draft = refl }
+
+pub memory_keeps : (command : Option Command) (before : Seen) (err : Option Bytes) (count : ℕ) → Keeps command NoMemory before (said_only before err count)
+memory_keeps None before err count = (reads before err count, refl, refl)
+memory_keeps (Some (Cutout dataset key part)) before err count = (reads before err count, refl, refl)
+memory_keeps (Some (Write dataset key workers)) before err count = (inr refl, λ no. reads before err count, λ done. absurd (cc done), λ refused. refl, refl)
+
+caused : (before : Faults) (count : ℕ) → before.err ≤ count → IsCaused NoMemory before (record before { err = count })
+caused before count later = record {
+  later = record { store = omega arith; feed = omega arith; out = omega arith; err = later; door = omega arith };
+  store = λ e. absurd (cc e);
+  feed = λ e. absurd (cc e);
+  out = λ e. absurd (cc e);
+  door = λ e. absurd (cc e);
+  quiet = λ e. absurd (cc e);
+}
+
+pub memory_causes : (command : Option Command) (before : Faults) (count : ℕ) → before.err ≤ count → Causes command NoMemory before (record before { err = count })
+memory_causes None before count later = (caused before count later, refl, refl, refl, refl)
+memory_causes (Some (Cutout dataset key part)) before count later = (caused before count later, refl, refl)
+memory_causes (Some (Write dataset key workers)) before count later = (caused before count later, refl)
