@@ -1,4 +1,5 @@
 pub mod Axes
+pub mod Clamps
 pub mod Found
 pub mod GridBits
 pub mod Held

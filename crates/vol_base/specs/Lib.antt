@@ -1,4 +1,5 @@
 pub mod BoxDisplay
+pub mod BoxKept
 pub mod BoxText
 pub mod Boxes
 pub mod Bytes
