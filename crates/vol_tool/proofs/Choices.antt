@@ -32,3 +32,8 @@ same_written (Some w) = ap Some (sym (nothing_behind w))
 -- an outlet that gained nothing gained a front of anything
 pub no_front : (old new : Option (List ℕ)) (bytes : List ℕ) → new ≡ old → GainsFront old new bytes
 no_front old new bytes same = (0, omega arith, same ∙ same_written old)
+
+-- a result that is an error, and which one
+pub err_is : {T E : Type 0} (r : Result T E) (e : E) → IsErrAnd r (λ x. x ≡ e) → r ≡ Err e
+err_is (Ok x) e h = absurd h
+err_is (Err x) e h = ap Err h

@@ -4,5 +4,6 @@ pub mod CutoutSteps
 pub mod InfoSteps
 pub mod MemorySteps
 pub mod PlanSteps
+pub mod ReportSteps
 pub mod StreamSteps
 pub mod WriteSteps

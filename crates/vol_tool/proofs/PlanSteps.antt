@@ -1,5 +1,5 @@
 -- What a plan's objects are.
-use Rattle.std.proofs.Common.{◌≡◌, ◌↔◌, ⊎_elim, ◌∙◌, ℕ, zero, suc, ◌+◌, ◌^◌, ◌<◌, ◌≤◌, List, [], ◌∷◌, Bool, true, false, length, map, sum, Option, Some, None, Ok, Err, IfSome, refl, ap, sym, subst, arith, get_or, inr}
+use Rattle.std.proofs.Common.{◌≡◌, ◌↔◌, ⊎_elim, ◌∙◌, ℕ, zero, suc, ◌+◌, ◌^◌, ◌<◌, ◌≤◌, List, [], ◌∷◌, Bool, true, false, length, map, sum, Option, Some, None, Result, Ok, Err, IfSome, refl, ap, sym, subst, arith, get_or, inl, inr}
 use Rattle.std.specs.Prelude.{◌||◌, cond, filter}
 use Rattle.std.specs.List.{list_any, range_with_len}
 use Rattle.std.proofs.lemmas.List.Sums.{sum_by-cons}
@@ -16,7 +16,9 @@ use Rattle.chunk_grid.proofs.OrderSteps.{AreInOrder-met_cells}
 use Rattle.shard_writer.specs.Writing.{job_chunks, job_objects, PutsFront, PutsJobs, PutsSome}
 use Rattle.shard_writer.specs.declared.written.Written.{Written}
 use Rattle.write_plan.specs.Plans.{pairs, Planned, planned_cells, work_of}
+use Rattle.write_plan.specs.declared.plan.PlanRefusal.{PlanRefusal}
 use Rattle.write_plan.specs.declared.plan.PlanRefusal.TheVariants as refusals
+use Rattle.vol_tool.specs.Refusals.{unplanned}
 use Rattle.vol_tool.specs.Scales.{IsServed}
 use Rattle.vol_tool.specs.Storing.{PutsWrites}
 use Rattle.vol_tool.specs.declared.refusal.WriteRefusal.TheVariants.{StoreFault, NoMemory}
@@ -114,3 +116,11 @@ memory_failed (Some m) now plan dataset s served e few front = inr (few, front_d
 pub few_pairs : (plan : Planned) (count n : ℕ) → ((cells : ℕ) → (Ok plan ≡ Err (refusals.TooManyCells cells)) ↔ ((n < count) × (cells ≡ count))) → count ≤ n
 few_pairs plan count n exact =
     ⊎_elim (λ (more : n < count). let e : Ok plan ≡ Err (refusals.TooManyCells count) = (exact count).1 (more, refl) in cc e) (λ (few : count ≤ n). few) (cases_lt n count)
+
+-- and writes that aren't planned
+pub unplanned_told : (refusal : PlanRefusal) (told : Option Objects) (dataset : Name) (s : Scale) (writes : Writes)
+    → ((cells : ℕ) → (let r : Result Planned PlanRefusal = Err refusal in r ≡ Err (refusals.TooManyCells cells)) ↔ ((2 ^ 22 < pairs s writes) × (cells ≡ pairs s writes)))
+    → IfSome told (λ m. PutsWrites (Err (unplanned refusal)) m told dataset s writes)
+unplanned_told refusal None dataset s writes exact = tt
+unplanned_told (refusals.TooManyCells cells) (Some m) dataset s writes exact = let many = (exact cells).0 refl in (many.1, many.0)
+unplanned_told refusals.OutOfMemory (Some m) dataset s writes exact = inl refl

@@ -140,13 +140,13 @@ of_writes Q m now bytes left dataset key written writes f =
     ok_and (stored_scale m dataset key) (λ s. WritesScale (Ok written) m now bytes left dataset key s) (λ s. IsOkAnd (writes_of bytes s) (Q s))
     (λ s h. ok_and (writes_of bytes s) (λ ws. HasStored m now left dataset key s ws × AllReadBack now dataset s ws × Counts written s ws) (Q s) (λ ws k. f s ws k.0 k.1 k.2) h) writes
 
-pub printed : (written : Written) (m : Objects) (now : Option Objects) (bytes : Bytes) (left : Option Bytes) (dataset key : Name) (o : Outlets)
+printed : (written : Written) (m : Objects) (now : Option Objects) (bytes : Bytes) (left : Option Bytes) (dataset key : Name) (o : Outlets)
     → WritesAll (Ok written) (stored_scale m dataset key) m now bytes left dataset key → Gains o.out_old o.out_new (written_line written.objects written.cells) → WriteShows Done m now bytes left dataset key o
 printed written m now bytes left dataset key o writes gains =
     of_writes (λ s ws. HasStored m now left dataset key s ws × Gains o.out_old o.out_new (count_line s ws)) m now bytes left dataset key written writes
     (λ s ws stored back counts. (stored, subst (Gains o.out_old o.out_new) (line_is written s ws counts) gains))
 
-pub written_back : (written : Written) (m : Objects) (now : Option Objects) (bytes : Bytes) (left : Option Bytes) (dataset key : Name)
+written_back : (written : Written) (m : Objects) (now : Option Objects) (bytes : Bytes) (left : Option Bytes) (dataset key : Name)
     → WritesAll (Ok written) (stored_scale m dataset key) m now bytes left dataset key → WrittenBack m now bytes dataset key
 written_back written m now bytes left dataset key writes =
     of_writes (λ s ws. AllReadBack now dataset s ws) m now bytes left dataset key written writes (λ s ws stored back counts. back)
@@ -170,7 +170,7 @@ all_put m now bytes left dataset key written writes =
     ok_and (stored_scale m dataset key) (λ s. WritesScale (Ok written) m now bytes left dataset key s) (FrontPut m now bytes dataset)
     (λ s h. scale_put m now bytes left dataset key s written (writes_of bytes s) refl h) writes
 
-pub unprinted : (refusal : WriteRefusal) (status : Status) (written : Written) (m : Objects) (now : Option Objects) (bytes : Bytes) (left : Option Bytes) (dataset key : Name) (o : Outlets)
+unprinted : (refusal : WriteRefusal) (status : Status) (written : Written) (m : Objects) (now : Option Objects) (bytes : Bytes) (left : Option Bytes) (dataset key : Name) (o : Outlets)
     → WritesAll (Ok written) (stored_scale m dataset key) m now bytes left dataset key → Prints (Err refusal) o.out_old o.out_new (written_line written.objects written.cells)
     → Reports (write_status refusal) (write_line dataset refusal) status (Tells o) → WriteShows status m now bytes left dataset key o
 unprinted OutFault status written m now bytes left dataset key o writes prints (inl told) =
@@ -188,7 +188,7 @@ unprinted (TooManyCells cells) status written m now bytes left dataset key o wri
 unprinted StoreFault status written m now bytes left dataset key o writes prints told = absurd prints
 unprinted FeedFault status written m now bytes left dataset key o writes prints told = absurd prints
 
-pub unprinted_judged : (refusal : WriteRefusal) (status : Status) (written : Written) (m : Objects) (dataset key : Name) (old new : Option Bytes) (o : Outlets) (line : Bytes) → Judges (Ok written) (stored_scale m dataset key) m dataset
+unprinted_judged : (refusal : WriteRefusal) (status : Status) (written : Written) (m : Objects) (dataset key : Name) (old new : Option Bytes) (o : Outlets) (line : Bytes) → Judges (Ok written) (stored_scale m dataset key) m dataset
     → Prints (Err refusal) o.out_old o.out_new line → Reports (write_status refusal) (write_line dataset refusal) status (Tells o) → WriteJudges status m dataset key old new o
 unprinted_judged OutFault status written m dataset key old new o line judges prints (inl told) = subst (λ st. WriteJudges st m dataset key old new o) (sym told.0) judges
 unprinted_judged OutFault status written m dataset key old new o line judges prints (inr told) = cc told.1
@@ -200,3 +200,30 @@ unprinted_judged (Stream fault) status written m dataset key old new o line judg
 unprinted_judged (TooManyCells cells) status written m dataset key old new o line judges prints told = absurd prints
 unprinted_judged StoreFault status written m dataset key old new o line judges prints told = absurd prints
 unprinted_judged FeedFault status written m dataset key old new o line judges prints told = absurd prints
+
+-- the same where objects and the feed may be untold
+pub unprinted_judged_told : (refusal : WriteRefusal) (status : Status) (written : Written) (told : Option Objects) (dataset key : Name) (old new : Option Bytes) (o : Outlets) (line : Bytes)
+    → IfSome told (λ m. Judges (Ok written) (stored_scale m dataset key) m dataset) → Prints (Err refusal) o.out_old o.out_new line → Reports (write_status refusal) (write_line dataset refusal) status (Tells o)
+    → IfSome told (λ m. WriteJudges status m dataset key old new o)
+unprinted_judged_told refusal status written None dataset key old new o line judges prints said = tt
+unprinted_judged_told refusal status written (Some m) dataset key old new o line judges prints said = unprinted_judged refusal status written m dataset key old new o line judges prints said
+
+pub unprinted_told : (refusal : WriteRefusal) (status : Status) (written : Written) (told now : Option Objects) (fed left : Option Bytes) (dataset key : Name) (o : Outlets)
+    → IfSome told (λ m. IfSome fed (λ bytes. WritesAll (Ok written) (stored_scale m dataset key) m now bytes left dataset key)) → Prints (Err refusal) o.out_old o.out_new (written_line written.objects written.cells)
+    → Reports (write_status refusal) (write_line dataset refusal) status (Tells o) → IfSome told (λ m. IfSome fed (λ bytes. WriteShows status m now bytes left dataset key o))
+unprinted_told refusal status written None now fed left dataset key o writes prints said = tt
+unprinted_told refusal status written (Some m) now None left dataset key o writes prints said = tt
+unprinted_told refusal status written (Some m) now (Some bytes) left dataset key o writes prints said = unprinted refusal status written m now bytes left dataset key o writes prints said
+
+pub printed_told : (written : Written) (told now : Option Objects) (fed left : Option Bytes) (dataset key : Name) (o : Outlets)
+    → IfSome told (λ m. IfSome fed (λ bytes. WritesAll (Ok written) (stored_scale m dataset key) m now bytes left dataset key)) → Gains o.out_old o.out_new (written_line written.objects written.cells)
+    → IfSome told (λ m. IfSome fed (λ bytes. WriteShows Done m now bytes left dataset key o))
+printed_told written None now fed left dataset key o writes gains = tt
+printed_told written (Some m) now None left dataset key o writes gains = tt
+printed_told written (Some m) now (Some bytes) left dataset key o writes gains = printed written m now bytes left dataset key o writes gains
+
+pub back_told : (written : Written) (told now : Option Objects) (fed left : Option Bytes) (dataset key : Name)
+    → IfSome told (λ m. IfSome fed (λ bytes. WritesAll (Ok written) (stored_scale m dataset key) m now bytes left dataset key)) → IfSome told (λ m. IfSome fed (λ bytes. WrittenBack m now bytes dataset key))
+back_told written None now fed left dataset key writes = tt
+back_told written (Some m) now None left dataset key writes = tt
+back_told written (Some m) now (Some bytes) left dataset key writes = written_back written m now bytes left dataset key writes

@@ -8,6 +8,8 @@ use Rattle.vol_spec.specs.Grid.{Inside, whole}
 use Rattle.vol_spec.specs.Raw.{raw_len}
 use Rattle.vol_spec.specs.Types.{Bytes, Cell, Name}
 use Rattle.vol_spec.specs.declared.scale.Scale.{Scale}
+use Rattle.cutout.specs.declared.reading.ReadFault.{ReadFault}
+use Rattle.cutout.specs.declared.reading.ReadFault.TheVariants.{StoreFault as UnreadStore, Damaged as UnreadDamaged}
 use Rattle.vol_shell.specs.Effects.{Gains, GainsFront}
 use Rattle.vol_shell.specs.Lines.{damaged_line, info_line, large_line, memory_line, outside_line, output_line, store_line}
 use Rattle.vol_tool.specs.Refusals.{info_text}
@@ -61,11 +63,10 @@ Cuts (Err refused.NoMemory) told m dataset part old new = Unit {0}
 Cuts result told m dataset part old new = IsOkAnd told (λ s. CutsScale result m dataset s part old new)
 
 -- what reading the values of a part answers
-abbrev pub HasCut : Result ⊤ CutoutRefusal → Objects → Name → Scale → Box3 → Bytes → Type 0
+abbrev pub HasCut : Result ⊤ ReadFault → Objects → Name → Scale → Box3 → Bytes → Type 0
 HasCut (Done done) m dataset s part out = (first_fault m dataset s part ≡ None) × (out ≡ cut m dataset s part)
-HasCut (Err (refused.Damaged cell fault)) m dataset s part out = first_fault m dataset s part ≡ Some (cell, fault)
-HasCut (Err refused.StoreFault) m dataset s part out = Unit {0}
-HasCut (Err other) m dataset s part out = ⊥
+HasCut (Err (UnreadDamaged cell fault)) m dataset s part out = first_fault m dataset s part ≡ Some (cell, fault)
+HasCut (Err UnreadStore) m dataset s part out = Unit {0}
 
 -- what a cutout answers where nothing is told: a box that it refuses is the one that was asked for, and nothing is written but by a
 -- cutout that succeeds, or where the outlet fails

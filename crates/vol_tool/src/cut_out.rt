@@ -11,7 +11,7 @@ use crate::buffers::make_buffer;
 use crate::info::read_scale;
 use crate::refusal::CutoutRefusal;
 use chunk_grid::{byte_len, inside, whole};
-use cutout::read_cells;
+use cutout::{ReadFault, read_cells};
 use info_doc::Scale;
 use std::alloc::Global;
 use vol_base::{Box3, Name, Outlet, Source};
@@ -52,7 +52,7 @@ fn read_values<S: Source>(
     part: &Box3,
     chunk: &mut [u8],
     out: &mut [u8],
-) -> Result<(), CutoutRefusal>
+) -> Result<(), ReadFault>
     requires dataset { length dataset.now ≤ 200 }
     requires served { IsServed scale.now }
     requires part { IsRequest scale.now part.now }
@@ -62,7 +62,7 @@ fn read_values<S: Source>(
     ensures objects { S.objects store.new ≡ S.objects store.old }
     ensures draft { S.draft store.new ≡ S.draft store.old }
     ensures later { S.faults store.old ≤ S.faults store.new }
-    ensures fault { result ≡ Err CutoutRefusal.StoreFault → Rose (S.faults store.old) (S.faults store.new) }
+    ensures fault { result ≡ Err ReadFault.StoreFault → Rose (S.faults store.old) (S.faults store.new) }
 {
     read_cells(store, dataset, scale, chunk, part, out)?;
     tell_bytes(out);

@@ -1,5 +1,5 @@
 //! The scale of a data set and a key.
-ghost use Rattle.std.specs.Prelude.{◌≡◌, ◌≤◌, ◌+◌, ◌<◌, ◌^◌, length, IfOk, IfSome};
+ghost use Rattle.std.specs.Prelude.{◌≡◌, ◌≢◌, ◌≤◌, ◌+◌, ◌<◌, ◌^◌, length, IfOk, IfSome};
 ghost use Rattle.vol_base.specs.Causes.{Rose};
 ghost use Rattle.info_doc.specs.Info.{scale_in};
 ghost use Rattle.vol_tool.specs.Scales.{info_name, is_served, IsServed, judged_info, ReadsScale, served_only, stored_scale};
@@ -32,6 +32,7 @@ fn is_served_scale(scale: &Scale) -> bool
 pub(crate) fn serve_scale(scale: Scale) -> Result<Scale, ScaleRefusal>
     ensures served { ReadsScale result (served_only scale) }
     ensures form { IfOk result IsServed }
+    ensures unasked { result ≢ Err ScaleRefusal.StoreFault }
 {
     if is_served_scale(&scale) {
         Ok(scale)
@@ -44,6 +45,7 @@ fn judge_info(alloc: Global, info: &[u8], key: &Name) -> Result<Scale, ScaleRefu
     requires { length key.now ≤ 200 }
     ensures judged { ReadsScale result (judged_info (scale_in info.now key.now)) }
     ensures form { IfOk result IsServed }
+    ensures unasked { result ≢ Err ScaleRefusal.StoreFault }
 {
     let scale = scale_of(alloc, info, key)?;
     serve_scale(scale)

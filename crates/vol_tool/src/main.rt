@@ -2,11 +2,6 @@
 //! streams.
 #![tactic(auto)]
 
-ghost use Rattle.std.specs.Prelude.{◌≡◌};
-ghost use Rattle.std.specs.Process.{exit_status};
-ghost use Rattle.vol_tool.specs.Statuses.{number_of};
-ghost use Rattle.vol_tool.specs.declared.status.Status.{Status};
-
 mod buffers;
 mod cut_out;
 mod info;
@@ -35,10 +30,9 @@ fn read_arguments<R: Env + AllocGlobal>(rt: &R) -> io::Result<Vec<String>> {
     Ok(words)
 }
 
-/// Runs the command that the arguments spell, and ends with its status. Arguments that aren't text are no words.
-fn main(rt: HostRuntime) -> ExitCode
-    ensures { (status : Status) × (exit_status result ≡ number_of status) }
-{
+/// Runs the command that the arguments spell, and ends with the number of its status. Arguments that
+/// aren't text are no words.
+fn main(rt: HostRuntime) -> ExitCode {
     let mut err = StdOutlet::new(rt.stderr());
     let words = match read_arguments(&rt) {
         Ok(words) => words,

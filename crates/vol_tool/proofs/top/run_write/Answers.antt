@@ -1,6 +1,7 @@
 use Rattle.std.proofs.Common.{refl}
 use Rattle.vol_spec.proofs.Told.{from_told, in_told}
-use Rattle.vol_tool.proofs.WriteSteps.{print_left, printed, unprinted, unprinted_judged, write_judged, write_left, write_shown, written_back}
+use Rattle.vol_tool.proofs.WriteSteps.{back_told, print_left, printed_told, unprinted_judged_told, unprinted_told, write_judged, write_left, write_shown}
+use Rattle.vol_tool.specs.Seen.{outlets_of}
 use Rattle.vol_tool.proofs.top.run_write.Goals as goal
 
 pub returns-in-Err-clause-judges : goal.returns-in-Err-clause-judges
@@ -19,15 +20,13 @@ returns-in-Err-clause-leaves g c = write_left c.in-Err.refusal c.report.result _
 
 pub returns-in-Err-print_written-clause-judges : goal.returns-in-Err-print_written-clause-judges
 returns-in-Err-print_written-clause-judges g c =
-    in_told _ _ (λ m told.
-    unprinted_judged c.in-Err-print_written.refusal c.report-in-Err-print_written.result c.in-Ok.written m c.args.dataset.now c.args.key.now _ _ _ _ (from_told _ _ m told c.in-Ok.ensures.judges)
-    c.in-Err-print_written.ensures.prints c.report-in-Err-print_written.ensures.told)
+    unprinted_judged_told c.in-Err-print_written.refusal c.report-in-Err-print_written.result c.in-Ok.written (g.S.Source.objects c.args.store.now) c.args.dataset.now c.args.key.now
+    (g.F.Feed.left c.args.feed.now) (g.F.Feed.left c.write_objects.new.feed) _ _ c.in-Ok.ensures.judges c.in-Err-print_written.ensures.prints c.report-in-Err-print_written.ensures.told
 
 pub returns-in-Err-print_written-clause-shows : goal.returns-in-Err-print_written-clause-shows
 returns-in-Err-print_written-clause-shows g c =
-    in_told _ _ (λ m told. in_told _ _ (λ bytes fed.
-    unprinted c.in-Err-print_written.refusal c.report-in-Err-print_written.result c.in-Ok.written m (g.S.Source.objects c.write_objects.new.store) bytes (g.F.Feed.left c.write_objects.new.feed) c.args.dataset.now c.args.key.now _
-    (from_told _ _ bytes fed (from_told _ _ m told c.in-Ok.ensures.writes)) c.in-Err-print_written.ensures.prints c.report-in-Err-print_written.ensures.told))
+    unprinted_told c.in-Err-print_written.refusal c.report-in-Err-print_written.result c.in-Ok.written (g.S.Source.objects c.args.store.now) (g.S.Source.objects c.write_objects.new.store)
+    (g.F.Feed.left c.args.feed.now) (g.F.Feed.left c.write_objects.new.feed) c.args.dataset.now c.args.key.now _ c.in-Ok.ensures.writes c.in-Err-print_written.ensures.prints c.report-in-Err-print_written.ensures.told
 
 pub returns-in-Err-print_written-clause-leaves : goal.returns-in-Err-print_written-clause-leaves
 returns-in-Err-print_written-clause-leaves g c =
@@ -36,12 +35,11 @@ returns-in-Err-print_written-clause-leaves g c =
 
 pub returns-in-Ok-print_written-clause-shows : goal.returns-in-Ok-print_written-clause-shows
 returns-in-Ok-print_written-clause-shows g c =
-    in_told _ _ (λ m told. in_told _ _ (λ bytes fed.
-    printed c.in-Ok.written m (g.S.Source.objects c.write_objects.new.store) bytes (g.F.Feed.left c.write_objects.new.feed) c.args.dataset.now c.args.key.now _
-    (from_told _ _ bytes fed (from_told _ _ m told c.in-Ok.ensures.writes)) c.in-Ok-print_written.ensures.prints))
+    printed_told c.in-Ok.written (g.S.Source.objects c.args.store.now) (g.S.Source.objects c.write_objects.new.store) (g.F.Feed.left c.args.feed.now) (g.F.Feed.left c.write_objects.new.feed)
+    c.args.dataset.now c.args.key.now
+    (outlets_of g.O.Outlet.written g.O.Outlet.faults g.E.Outlet.written g.E.Outlet.faults c.args.out.now c.print_written.new.out c.args.err.now c.args.err.now) c.in-Ok.ensures.writes c.in-Ok-print_written.ensures.prints
 
 pub returns-in-Ok-print_written-clause-back : goal.returns-in-Ok-print_written-clause-back
 returns-in-Ok-print_written-clause-back g c done =
-    in_told _ _ (λ m told. in_told _ _ (λ bytes fed.
-    written_back c.in-Ok.written m (g.S.Source.objects c.write_objects.new.store) bytes (g.F.Feed.left c.write_objects.new.feed) c.args.dataset.now c.args.key.now
-    (from_told _ _ bytes fed (from_told _ _ m told c.in-Ok.ensures.writes))))
+    back_told c.in-Ok.written (g.S.Source.objects c.args.store.now) (g.S.Source.objects c.write_objects.new.store) (g.F.Feed.left c.args.feed.now) (g.F.Feed.left c.write_objects.new.feed)
+    c.args.dataset.now c.args.key.now c.in-Ok.ensures.writes
