@@ -78,6 +78,11 @@ pub record IsTold (objects : Option Objects) (draft : Draft) : Type 0 where
   pub told : IsSome objects → IsSome draft.told
   pub len : IfSome draft.told (λ d. length d.1 ≡ draft.len)
 
+-- the objects and the object being written stay as they are, as far as they are told
+pub record OnlyReads (old_objects objects : Option Objects) (old_draft draft : Option Draft) : Type 0 where
+  pub same_objects : objects ≡ old_objects
+  pub same_draft : draft ≡ old_draft
+
 abbrev pub begun : Option Objects → List ℕ → Draft
 begun objects name = record { len = 0; told = option_map (λ _. (name, [])) objects }
 

@@ -7,7 +7,7 @@ ghost use Rattle.std.specs.Prelude.{◌↔◌, IsErr, IfErr, nat_eq, List, drop}
 ghost use Rattle.std.specs.List.{list_any};
 ghost use Rattle.vol_base.specs.Bytes.{AreBytes};
 ghost use Rattle.vol_base.specs.Causes.{HasCause, HasStoreCause, counted, is_count};
-ghost use Rattle.vol_base.specs.Outside.{HaveBytes, KeepsRest, Reads, part, asked_after, is_under, any_under, begun, appended, patched, finished, overwritten};
+ghost use Rattle.vol_base.specs.Outside.{HaveBytes, KeepsRest, OnlyReads, Reads, part, asked_after, is_under, any_under, begun, appended, patched, finished, overwritten};
 
 use crate::calls::tick;
 use crate::{Failed, Got, Name, OutOfMemory, Source, Store, StoreRefusal};
@@ -172,8 +172,7 @@ impl Source for MemoryStore {
     fn size(&mut self, name: &Name) -> Result<Option<u64>, Failed>
         ensures found { IfOk result (λ size. IfSome (Some self.old.objects) (λ m. size ≡ option_map length (map.get m name.now))) }
         ensures bytes { HaveBytes self.old.objects }
-        ensures objects { Some self.new.objects ≡ Some self.old.objects }
-        ensures draft { draft_of self.new ≡ draft_of self.old }
+        ensures kept { OnlyReads (Some self.old.objects) (Some self.new.objects) (draft_of self.old) (draft_of self.new) }
         ensures asked { counted self.new.asked ≡ counted self.old.asked }
         ensures cause { HasCause (counted self.old.faults) (counted self.new.faults) result }
         ensures fails { IsErr result ↔ IsTrue (fails self.old) }
@@ -192,8 +191,7 @@ impl Source for MemoryStore {
         ensures read { IfOk result (λ got. IfSome (Some self.old.objects) (λ m. Reads (map.get m name.now) at out.old out.new got)) }
         ensures rest { IfOk result (KeepsRest out.old out.new) }
         ensures bytes { HaveBytes self.old.objects }
-        ensures objects { Some self.new.objects ≡ Some self.old.objects }
-        ensures draft { draft_of self.new ≡ draft_of self.old }
+        ensures kept { OnlyReads (Some self.old.objects) (Some self.new.objects) (draft_of self.old) (draft_of self.new) }
         ensures asked { OnOk result (counted self.new.asked ≡ asked_after (counted self.old.asked) (length out.old)) }
         ensures asked_err { OnErr result ((counted self.old.asked ≤ counted self.new.asked) × (counted self.new.asked ≤ counted self.old.asked + length out.old)) }
         ensures cause { HasCause (counted self.old.faults) (counted self.new.faults) result }
@@ -240,8 +238,7 @@ impl Store for MemoryStore {
     fn any_under(&mut self, folder: &Name) -> Result<bool, Failed>
         ensures found { IfOk result (λ found. IfSome (Some self.old.objects) (λ m. found ≡ any_under m folder.now)) }
         ensures bytes { HaveBytes self.old.objects }
-        ensures objects { Some self.new.objects ≡ Some self.old.objects }
-        ensures draft { draft_of self.new ≡ draft_of self.old }
+        ensures kept { OnlyReads (Some self.old.objects) (Some self.new.objects) (draft_of self.old) (draft_of self.new) }
         ensures asked { counted self.new.asked ≡ counted self.old.asked }
         ensures cause { HasCause (counted self.old.faults) (counted self.new.faults) result }
         ensures fails { IsErr result ↔ IsTrue (fails self.old) }

@@ -7,7 +7,7 @@ ghost use Rattle.std.specs.Prelude.{◌≡◌, ◌+◌, ◌<◌, ◌≤◌, ◌^
 ghost use Rattle.std.specs.Option.{option_map};
 ghost use Rattle.std.specs.FinMap as map;
 ghost use Rattle.vol_base.specs.Causes.{HasCause, HasStoreCause, IsCount};
-ghost use Rattle.vol_base.specs.Outside.{Objects, Draft, HaveBytes, IsCourse, IsTold, Gives, KeepsRest, Reads, asked_after, any_under, begun, appended, patched, finished};
+ghost use Rattle.vol_base.specs.Outside.{Objects, Draft, HaveBytes, IsCourse, IsTold, Gives, KeepsRest, OnlyReads, Reads, asked_after, any_under, begun, appended, patched, finished};
 
 use crate::Name;
 
@@ -51,8 +51,7 @@ pub trait Source {
     fn size(&mut self, name: &Name) -> Result<Option<u64>, Failed>
         ensures found { IfOk result (λ size. IfSome (objects self.old) (λ m. size ≡ option_map length (map.get m name.now))) }
         ensures bytes { IfSome (objects self.old) HaveBytes }
-        ensures objects { objects self.new ≡ objects self.old }
-        ensures draft { draft self.new ≡ draft self.old }
+        ensures kept { OnlyReads (objects self.old) (objects self.new) (draft self.old) (draft self.new) }
         ensures asked { asked self.new ≡ asked self.old }
         ensures cause { HasCause (faults self.old) (faults self.new) result };
 
@@ -63,8 +62,7 @@ pub trait Source {
         ensures read { IfOk result (λ got. IfSome (objects self.old) (λ m. Reads (map.get m name.now) at out.old out.new got)) }
         ensures rest { IfOk result (KeepsRest out.old out.new) }
         ensures bytes { IfSome (objects self.old) HaveBytes }
-        ensures objects { objects self.new ≡ objects self.old }
-        ensures draft { draft self.new ≡ draft self.old }
+        ensures kept { OnlyReads (objects self.old) (objects self.new) (draft self.old) (draft self.new) }
         ensures asked { OnOk result (asked self.new ≡ asked_after (asked self.old) (length out.old)) }
         ensures asked_err { OnErr result ((asked self.old ≤ asked self.new) × (asked self.new ≤ asked self.old + length out.old)) }
         ensures cause { HasCause (faults self.old) (faults self.new) result };
@@ -79,8 +77,7 @@ pub trait Store: Source {
     fn any_under(&mut self, folder: &Name) -> Result<bool, Failed>
         ensures found { IfOk result (λ found. IfSome (Self.objects self.old) (λ m. found ≡ any_under m folder.now)) }
         ensures bytes { IfSome (Self.objects self.old) HaveBytes }
-        ensures objects { Self.objects self.new ≡ Self.objects self.old }
-        ensures draft { Self.draft self.new ≡ Self.draft self.old }
+        ensures kept { OnlyReads (Self.objects self.old) (Self.objects self.new) (Self.draft self.old) (Self.draft self.new) }
         ensures asked { Self.asked self.new ≡ Self.asked self.old }
         ensures cause { HasCause (Self.faults self.old) (Self.faults self.new) result };
 
