@@ -2,6 +2,7 @@ pub mod AxisSteps
 pub mod BlockSteps
 pub mod CountSteps
 pub mod GridSteps
+pub mod JobOrder
 pub mod LayoutSteps
 pub mod ListSteps
 pub mod ListingSteps

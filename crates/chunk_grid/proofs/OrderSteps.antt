@@ -1,13 +1,14 @@
 -- Lists of cells in the order of the grid.
-use Rattle.std.proofs.Common.{◌≡◌, ℕ, zero, suc, ◌+◌, ◌*◌, ◌/◌, ◌%◌, ◌<◌, List, [], ◌∷◌, Bool, true, refl, ap, ◌∙◌, sym, subst, arith}
-use Rattle.std.specs.Prelude.{filter, All, AllPairs, Contains}
-use Rattle.std.proofs.Math.Nat.{mod-add-div}
+use Rattle.std.proofs.Common.{◌≡◌, ℕ, zero, suc, ◌+◌, ◌*◌, ◌/◌, ◌%◌, ◌<◌, ◌≤◌, List, [], ◌∷◌, Bool, true, lit<, refl, ap, ◌∙◌, sym, subst, arith}
+use Rattle.std.specs.Prelude.{filter, slice_index, All, AllPairs, Contains}
+use Rattle.std.proofs.Math.Nat.{mod-add-div, mul-le-mul_left}
 use Rattle.std.proofs.lemmas.List.Elements.{All-filter, All-contains, filter_passes}
 use Rattle.std.proofs.lemmas.List.Kept.{AllPairs-filter}
 use Rattle.vol_base.specs.declared.boxes.Box3.{Box3}
 use Rattle.vol_spec.specs.Grid.{cells_on, IsCell, numbers_on}
 use Rattle.vol_spec.specs.StoredCells.{cell_number, AreInOrder, met, met_cells}
 use Rattle.vol_spec.specs.declared.scale.Scale.{Scale}
+use Rattle.chunk_grid.proofs.GridSteps.{three}
 use Rattle.chunk_grid.proofs.ListingSteps.{Contains-cons, all_cells, all_count, numbered, AllPairs-numbers, Contains-filter, All-numbers_on, Contains-numbers_on}
 
 -- the number of a block's n-th cell is n
@@ -85,3 +86,24 @@ cells_in_order s p cells order passes every =
     rising_same (cell_number s) cells (filter p (numbers_on (cells_on s))) order.rising all.rising
     (λ cell c. Contains-filter p (numbers_on (cells_on s)) cell (Contains-numbers_on s cell (All-contains (IsCell s) cells cell order.each c)) (All-contains (λ cell. p cell ≡ true) cells cell passes c))
     (λ cell c. every cell (All-contains (IsCell s) (filter p (numbers_on (cells_on s))) cell all.each c) (All-contains (λ cell. p cell ≡ true) (filter p (numbers_on (cells_on s))) cell (filter_passes p (numbers_on (cells_on s))) c))
+
+-- a number with a digit below m
+pub digit_less : (m x q y r : ℕ) → x < m → q < r → x + m * q < y + m * r
+digit_less m x q y r l h =
+    let up : m * (q + 1) ≤ m * r = mul-le-mul_left m (omega arith) in
+    omega arith
+
+pub digit_same : (m x q y r : ℕ) → x < m → y < m → x + m * q ≡ y + m * r → (x ≡ y) × (q ≡ r)
+digit_same m x q y r lx ly e =
+    let not_below : q < r → ⊥ = λ h. let l = digit_less m x q y r lx h in omega arith in
+    let not_above : r < q → ⊥ = λ h. let l = digit_less m y r x q ly h in omega arith in
+    let same : q ≡ r = omega arith in
+    let f : m * q ≡ m * r = ap (λ k. m * k) same in
+    (omega arith, same)
+
+-- a cell of the grid is known by its number
+pub cell_known : (s : Scale) (a b : List ℕ) → IsCell s a → IsCell s b → cell_number s a ≡ cell_number s b → a ≡ b
+cell_known s a b ha hb e =
+    let x = digit_same (cells_on s 0) (slice_index a 0) _ (slice_index b 0) _ (ha.below 0 (lit< tt)) (hb.below 0 (lit< tt)) e in
+    let y = digit_same (cells_on s 1) (slice_index a 1) _ (slice_index b 1) _ (ha.below 1 (lit< tt)) (hb.below 1 (lit< tt)) x.1 in
+    three a _ _ _ ha.axes x.0 y.0 y.1 ∙ sym (three b _ _ _ hb.axes refl refl refl)

@@ -35,7 +35,7 @@ use Rattle.vol_spec.specs.declared.scale.Scale.{Scale}
 use Rattle.vol_spec.specs.declared.sharding.HashKind.TheVariants.{Identity, Murmur}
 use Rattle.vol_spec.specs.Hashes.{loaded, stirred, mixed, all_mixed, hash8}
 use Rattle.vol_spec.specs.declared.sharding.Sharding.{Sharding}
-use Rattle.chunk_laws.proofs.PlacedSteps.{in_order-put}
+use Rattle.vol_spec.proofs.PlacedSteps.{in_order-put}
 
 -- `d` and `s`
 abbrev dataset : List ℕ

@@ -4,12 +4,9 @@ pub mod CodeSteps
 pub mod EncodedSteps
 pub mod FoundAgain
 pub mod Headline
-pub mod JobOrder
 pub mod JudgeLaw
 pub mod Law
 pub mod Next
-pub mod Order
-pub mod PlacedSteps
 pub mod PutShards
 pub mod SegSteps
 pub mod ShardLaw

@@ -6,7 +6,7 @@ use Rattle.std.proofs.lemmas.Bool.{cases_eq}
 use Rattle.std.proofs.lemmas.Grind.{not_there}
 use Rattle.std.proofs.lemmas.Nat.{le-div, mul-le}
 use Rattle.vol_base.specs.Boxes.{Covers, at, from_begin, num, size as box_size}
-use Rattle.vol_spec.specs.Bytes.{AreBytes}
+use Rattle.vol_base.specs.Bytes.{AreBytes}
 use Rattle.vol_spec.specs.Encodings.{blocks_of, raw_size, sizes_in}
 use Rattle.vol_spec.specs.Grid.{IsCell, cell_begin, cell_box, cell_size}
 use Rattle.vol_spec.specs.Limits.{first_size, padded_of, padded_voxels, rounded}

@@ -42,7 +42,7 @@ use Rattle.morton_code.proofs.Steps.{number-below}
 use Rattle.chunk_laws.proofs.Ascending.{nothing, row_is, rows_ok}
 use Rattle.chunk_laws.proofs.CodeSteps.{code_of-tells}
 use Rattle.chunk_laws.proofs.FoundAgain.{chunk_found, empty_absent, empty_rows, id_absent, index_found, rows_found}
-use Rattle.chunk_laws.proofs.PlacedSteps.{All-in_order, Contains-in_order, Entry, by_key, equal_keys, keys_equal, length-in_order, sorted-in_order}
+use Rattle.vol_spec.proofs.PlacedSteps.{All-in_order, Contains-in_order, Entry, by_key, equal_keys, keys_equal, length-in_order, sorted-in_order}
 use Rattle.chunk_laws.proofs.PutShards.{get-kept_shard, get-put_shard}
 use Rattle.chunk_laws.proofs.ShardSteps.{IsTriple, Rises, before_short, chosen_in, chosen_rises, chunk_part, rises-next}
 

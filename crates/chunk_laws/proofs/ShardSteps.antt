@@ -15,7 +15,7 @@ use Rattle.vol_spec.specs.Shards.{Chunk, before, bodies, entries, joint, of, sha
 use Rattle.vol_spec.specs.StoredShards.{chunk_of, in_shard}
 use Rattle.chunk_laws.proofs.Ascending.{lower, nothing}
 use Rattle.chunk_laws.proofs.FoundAgain.{length_entries}
-use Rattle.chunk_laws.proofs.PlacedSteps.{Entry, by_key}
+use Rattle.vol_spec.proofs.PlacedSteps.{Entry, by_key}
 use Rattle.chunk_laws.proofs.Spots.{chunk_at}
 use Rattle.chunk_laws.proofs.Sums.{joint_cons, joint_first, room, room_cons, room_fits}
 

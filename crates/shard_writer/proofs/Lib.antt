@@ -1,3 +1,4 @@
 pub mod CellLens
+pub mod ListedSteps
 pub mod PutSteps
 pub mod WindowSteps

@@ -1,53 +1,63 @@
--- What a writer of an unsharded scale of raw chunks puts into a store.
-use Rattle.std.specs.Prelude.{◌≡◌, ◌⊎◌, ℕ, ◌≤◌, List, [], length, map, take, Option, Some, None, Result, Ok, Err, IsErrOf, unwrap_or}
+-- What a writer of a scale puts into a store.
+use Rattle.std.specs.Prelude.{◌≡◌, ◌≢◌, ◌⊎◌, ℕ, ◌≤◌, List, [], length, map, take, Option, Some, None, IfSome, Result, Ok, Err, IsErrOf, unwrap_or}
 use Rattle.std.specs.List.{range_with_len, sum_by}
 use Rattle.vol_base.specs.Causes.{Rose}
 use Rattle.vol_base.specs.Outside.{Draft, Objects}
 use Rattle.vol_base.specs.declared.faults.Fault.{Fault}
 use Rattle.vol_spec.specs.CellNames.{cell_name}
-use Rattle.vol_spec.specs.Grid.{cell_box}
-use Rattle.vol_spec.specs.Raw.{raw_len}
+use Rattle.vol_spec.specs.Encodings.{raw_size}
 use Rattle.vol_spec.specs.StoredCells.{cell_of, put_in}
+use Rattle.vol_spec.specs.StoredLists.{stored_list}
+use Rattle.vol_spec.specs.Types.{Bytes, Cell, Chunks, Listed, Name}
 use Rattle.vol_spec.specs.declared.scale.Scale.{Scale}
+use Rattle.write_plan.specs.Jobs.{Work, jobs_fault}
 use Rattle.shard_writer.specs.declared.written.WriteFault.{WriteFault}
 use Rattle.shard_writer.specs.declared.written.WriteFault.TheVariants.{StoreFault, Damaged, OutOfMemory}
 
--- the bytes of a job that is prepared
-abbrev pub bytes_in : Option (List ℕ) → List ℕ
-bytes_in ready = unwrap_or ready []
+-- the chunks of jobs over objects: the cell of each with its raw bytes
+abbrev pub job_chunks : Work → Objects → Chunks
+job_chunks work m = map (λ job. (cell_of work.cells job, work.raw m job)) (range_with_len 0 (length work.cells))
 
--- the object of a job: its cell's name, and the job's bytes
-abbrev pub job_object : List ℕ → Scale → List (List ℕ) → (ℕ → List ℕ) → ℕ → List ℕ × List ℕ
-job_object dataset s cells raw job = (cell_name dataset s (cell_of cells job), raw job)
+-- the objects that the jobs' chunks are stored as
+abbrev pub job_objects : Name → Work → Objects → Listed
+job_objects dataset work m = stored_list dataset work.scale (job_chunks work m)
 
--- the objects of n jobs, from a number on
-abbrev pub objects_from : List ℕ → Scale → List (List ℕ) → (ℕ → List ℕ) → ℕ → ℕ → List (List ℕ × List ℕ)
-objects_from dataset s cells raw from n = map (job_object dataset s cells raw) (range_with_len from n)
+-- the first fault of all jobs
+abbrev pub first_of_jobs : Work → Objects → Option (Cell × Fault)
+first_of_jobs work m = jobs_fault work m 0 (length work.cells)
 
--- the objects of all jobs, in their order
-abbrev pub job_objects : List ℕ → Scale → List (List ℕ) → (ℕ → List ℕ) → List (List ℕ × List ℕ)
-job_objects dataset s cells raw = objects_from dataset s cells raw 0 (length cells)
+-- how many bytes the values of the jobs' cells have
+abbrev pub raw_total : Work → ℕ
+raw_total work = sum_by (raw_size work.scale) work.cells
 
 -- a front of some objects was put in
-pub record PutsFront (list : List (List ℕ × List ℕ)) (old : Objects) (new : Option Objects) : Type 0 where
+pub record PutsFront (list : Listed) (old : Objects) (new : Option Objects) : Type 0 where
   pub count : ℕ
   pub within : count ≤ length list
   pub put : new ≡ Some (put_in old (take count list))
 
--- how many bytes the values of the jobs' cells have, of n jobs from a number on
-abbrev pub bytes_from : Scale → List (List ℕ) → ℕ → ℕ → ℕ
-bytes_from s cells from n = sum_by (λ cell. raw_len (cell_box s cell) s.channels s.width) (map (cell_of cells) (range_with_len from n))
+-- the objects of all jobs were put in
+abbrev pub PutsJobs : Name → Work → Option Objects → Option Objects → Type 0
+PutsJobs dataset work old new = IfSome old (λ m. new ≡ Some (put_in m (job_objects dataset work m)))
+
+-- a front of them was
+abbrev pub PutsSome : Name → Work → Option Objects → Option Objects → Type 0
+PutsSome dataset work old new = IfSome old (λ m. PutsFront (job_objects dataset work m) m new)
 
 -- nothing is being written, or what was being written before
 abbrev pub Drops : Option Draft → Option Draft → Type 0
 Drops old new = (new ≡ None) ⊎ (new ≡ old)
 
 -- all is written exactly where no job has a fault, and the first fault is told, but for a store that fails and want of memory
-abbrev pub WritesAll : {A : Type 0} → Result A WriteFault → Option (List ℕ × Fault) → Type 0
+abbrev pub WritesAll : {A : Type 0} → Result A WriteFault → Option (Cell × Fault) → Type 0
 WritesAll (Ok done) first = first ≡ None
 WritesAll (Err StoreFault) first = Unit {0}
 WritesAll (Err (Damaged cell fault)) first = first ≡ Some (cell, fault)
 WritesAll (Err OutOfMemory) first = Unit {0}
+
+-- no fault of a chunk is told
+abbrev pub NeverDamaged : {A : Type 0} → Result A WriteFault → Type 0
+NeverDamaged result = (cell : Cell) (fault : Fault) → result ≢ Err (Damaged cell fault)
 
 -- the store's count of faults doesn't fall, and a fault of the store comes only where it rose
 pub record HasWriteCause {A : Type 0} (before now : ℕ) (result : Result A WriteFault) : Type 0 where

@@ -4,11 +4,12 @@ ghost use Rattle.std.specs.FinMap as fin;
 ghost use Rattle.std.specs.Option.{option_map};
 ghost use Rattle.vol_base.specs.Causes.{HasStoreCause};
 ghost use Rattle.vol_spec.specs.CellNames.{cell_name};
-ghost use Rattle.vol_spec.specs.Grid.{cell_box as box_of, IsCell};
+ghost use Rattle.vol_spec.specs.Encodings.{raw_size};
+ghost use Rattle.vol_spec.specs.Grid.{IsCell};
 ghost use Rattle.vol_spec.specs.Limits.{first_bytes};
-ghost use Rattle.vol_spec.specs.Raw.{raw_len};
 ghost use Rattle.vol_spec.specs.StoredCells.{cell_of, put_in};
-ghost use Rattle.shard_writer.specs.Writing.{bytes_in, bytes_from, Drops, objects_from, PutsFront};
+ghost use Rattle.shard_writer.specs.Plain.{bytes_in, bytes_from, objects_from};
+ghost use Rattle.shard_writer.specs.Writing.{Drops, PutsFront};
 
 use chunk_grid::{byte_len, cell_box, object_name};
 use vol_base::{Name, Store, StoreRefusal};
@@ -29,9 +30,9 @@ fn put_object<S: Store>(store: &mut S, name: &Name, bytes: &[u8]) -> Result<(), 
 
 // The cell of a job.
 fn find_cell<C: Chunks>(chunks: &C, job: u64) -> [u64; 3]
-    requires { job < length (C.cells chunks.now) }
-    ensures cell { result ≡ cell_of (C.cells chunks.now) job }
-    ensures in_grid { IsCell (C.scale chunks.now) result }
+    requires { job < length (C.work chunks.now).cells }
+    ensures cell { result ≡ cell_of (C.work chunks.now).cells job }
+    ensures in_grid { IsCell (C.work chunks.now).scale result }
 {
     chunks.jobs().get(job).cell
 }
@@ -39,7 +40,7 @@ fn find_cell<C: Chunks>(chunks: &C, job: u64) -> [u64; 3]
 // How many bytes the values of a cell have.
 fn find_len(scale: &Scale, cell: [u64; 3]) -> usize
     requires { IsCell scale.now cell }
-    ensures len { result ≡ raw_len (box_of scale.now cell) scale.now.channels scale.now.width }
+    ensures len { result ≡ raw_size scale.now cell }
     ensures first { result ≤ first_bytes scale.now.width scale.now.channels scale.now.size scale.now.chunk }
     ensures small { result ≤ 2 ^ 27 }
 {
@@ -49,7 +50,7 @@ fn find_len(scale: &Scale, cell: [u64; 3]) -> usize
 // Puts the raw bytes of a job that is prepared.
 fn fill_job<C: Chunks>(chunks: &C, job: u64, raw: &mut [u8])
     requires ready { IsSome (C.ready chunks.now job) }
-    requires len { length raw.old ≡ raw_len (box_of (C.scale chunks.now) (cell_of (C.cells chunks.now) job)) (C.scale chunks.now).channels (C.scale chunks.now).width }
+    requires len { length raw.old ≡ raw_size (C.work chunks.now).scale (cell_of (C.work chunks.now).cells job) }
     ensures { raw.new ≡ bytes_in (C.ready chunks.now job) }
 {
     chunks.fill(job, raw);
@@ -66,12 +67,12 @@ fn write_job<S: Store, C: Chunks>(
     buffer: &mut [u8],
 ) -> Result<u64, StoreRefusal>
     requires dataset { length dataset.now ≤ 200 }
-    requires scale { C.scale chunks.now ≡ scale.now }
-    requires job { job < length (C.cells chunks.now) }
+    requires scale { (C.work chunks.now).scale ≡ scale.now }
+    requires job { job < length (C.work chunks.now).cells }
     requires ready { IsSome (C.ready chunks.now job) }
     requires room { length buffer.old ≡ first_bytes scale.now.width scale.now.channels scale.now.size scale.now.chunk }
-    ensures put { OnOk result (S.objects store.new ≡ option_map (λ m. fin.insert m (cell_name dataset.now scale.now (cell_of (C.cells chunks.now) job)) (bytes_in (C.ready chunks.now job))) (S.objects store.old)) }
-    ensures bytes { IfOk result (λ len. len ≡ raw_len (box_of scale.now (cell_of (C.cells chunks.now) job)) scale.now.channels scale.now.width) }
+    ensures put { OnOk result (S.objects store.new ≡ option_map (λ m. fin.insert m (cell_name dataset.now scale.now (cell_of (C.work chunks.now).cells job)) (bytes_in (C.ready chunks.now job))) (S.objects store.old)) }
+    ensures bytes { IfOk result (λ len. len ≡ raw_size scale.now (cell_of (C.work chunks.now).cells job)) }
     ensures small { IfOk result (λ len. len ≤ 2 ^ 27) }
     ensures kept { OnErr result (S.objects store.new ≡ S.objects store.old) }
     ensures draft { S.draft store.new ≡ None }
@@ -98,25 +99,22 @@ pub(crate) fn write_jobs<S: Store, C: Chunks>(
     buffer: &mut [u8],
 ) -> Result<u64, StoreRefusal>
     requires dataset { length dataset.now ≤ 200 }
-    requires scale { C.scale chunks.now ≡ scale.now }
+    requires scale { (C.work chunks.now).scale ≡ scale.now }
     requires order { from ≤ to }
-    requires within { to ≤ length (C.cells chunks.now) }
+    requires within { to ≤ length (C.work chunks.now).cells }
     requires few { to ≤ 2 ^ 22 }
     requires ready { (job : ℕ) → from ≤ job → job < to → IsSome (C.ready chunks.now job) }
     requires room { length buffer.old ≡ first_bytes scale.now.width scale.now.channels scale.now.size scale.now.chunk }
-    ensures put { OnOk result (S.objects store.new ≡ option_map (λ m. put_in m (objects_from dataset.now scale.now (C.cells chunks.now) (λ job. bytes_in (C.ready chunks.now job)) from (to - from))) (S.objects store.old)) }
-    ensures bytes { IfOk result (λ len. len ≡ bytes_from scale.now (C.cells chunks.now) from (to - from)) }
+    ensures put { OnOk result (S.objects store.new ≡ option_map (λ m. put_in m (objects_from dataset.now scale.now (C.work chunks.now).cells (λ job. bytes_in (C.ready chunks.now job)) from (to - from))) (S.objects store.old)) }
+    ensures bytes { IfOk result (λ len. len ≡ bytes_from scale.now (C.work chunks.now).cells from (to - from)) }
     ensures small { IfOk result (λ len. len ≤ (to - from) * 2 ^ 27) }
-    ensures front { OnErr result (IfSome (S.objects store.old) (λ m. PutsFront (objects_from dataset.now scale.now (C.cells chunks.now) (λ job. bytes_in (C.ready chunks.now job)) from (to - from)) m (S.objects store.new))) }
+    ensures front { OnErr result (IfSome (S.objects store.old) (λ m. PutsFront (objects_from dataset.now scale.now (C.work chunks.now).cells (λ job. bytes_in (C.ready chunks.now job)) from (to - from)) m (S.objects store.new))) }
     ensures draft { Drops (S.draft store.old) (S.draft store.new) }
     ensures cause { HasStoreCause (S.faults store.old) (S.faults store.new) result }
 {
     let mut bytes = 0;
     for job in from..to {
-        match write_job(store, dataset, scale, chunks, job, buffer) {
-            Ok(len) => bytes += len,
-            Err(refusal) => return Err(refusal),
-        }
+        bytes += write_job(store, dataset, scale, chunks, job, buffer)?;
     }
     Ok(bytes)
 }

@@ -394,15 +394,18 @@ fn search_below<R: Files + AllocGlobal + Clone + Drop>(
 
 impl<R: Files<File = File>> Source for DirStore<R> {
     ghost use Rattle.std.specs.Prelude.{None};
+    ghost use Rattle.vol_base.specs.Causes.{counted, is_count};
     ghost use Rattle.vol_shell.specs.Tallies.{draft_of};
 
     ghost objects = { λ _. None };
 
     ghost draft = { λ s. draft_of s.writing };
 
-    ghost asked = { λ s. s.asked };
+    ghost asked = { λ s. counted s.asked };
 
-    ghost faults = { λ s. s.faults };
+    ghost faults = { λ s. counted s.faults };
+
+    ghost counts = { λ s. (is_count s.asked, is_count s.faults) };
 
     fn size(&mut self, name: &Name) -> Result<Option<u64>, Failed> {
         if turn_to(&self.rt, &mut self.opened, name).is_err() {

@@ -1,7 +1,7 @@
 //! The real feeds and outlets, and what stands for the streams that no command uses yet.
 ghost use Rattle.std.specs.Prelude.{◌<◌, ◌≤◌, length, IfOk, IsErr};
 ghost use Rattle.std.specs.Io.KnownBytes.{ReadConsumes, WriteAppends};
-ghost use Rattle.vol_base.specs.Causes.{HasCause};
+ghost use Rattle.vol_base.specs.Causes.{HasCause, counted, is_count};
 
 use crate::counts::count_fault;
 use std::io::{ErrorKind, Read, Write};
@@ -51,13 +51,15 @@ impl<W: Write> Outlet for StdOutlet<W> {
 
     ghost written = { λ _. None };
 
-    ghost faults = { λ s. s.faults };
+    ghost faults = { λ s. counted s.faults };
+
+    ghost counts = { λ s. is_count s.faults };
 
     fn write(&mut self, piece: &[u8]) -> Result<usize, Failed>
         requires { 0 < length piece.now }
         ensures some { IfOk result (λ n. (0 < n) × (n ≤ length piece.now)) }
         ensures bytes { WriteAppends (W.contents self.old.inner) (W.contents self.new.inner) result piece.now }
-        ensures cause { HasCause self.old.faults self.new.faults result }
+        ensures cause { HasCause (counted self.old.faults) (counted self.new.faults) result }
     {
         let taken = write_some(&mut self.inner, piece);
         if taken.is_err() {
@@ -107,12 +109,14 @@ impl<R: Read> Feed for StdFeed<R> {
 
     ghost left = { λ _. None };
 
-    ghost faults = { λ s. s.faults };
+    ghost faults = { λ s. counted s.faults };
+
+    ghost counts = { λ s. is_count s.faults };
 
     fn read(&mut self, out: &mut [u8]) -> Result<usize, Failed>
         ensures within { IfOk result (λ n. n ≤ length out.old) }
         ensures bytes { ReadConsumes (R.remaining self.old.inner) (R.remaining self.new.inner) result out.new }
-        ensures cause { HasCause self.old.faults self.new.faults result }
+        ensures cause { HasCause (counted self.old.faults) (counted self.new.faults) result }
     {
         let given = read_some(&mut self.inner, out);
         if given.is_err() {
@@ -137,7 +141,7 @@ impl Model for NoLink {
 }
 
 impl Link for NoLink {
-    ghost use Rattle.std.specs.Prelude.{None};
+    ghost use Rattle.std.specs.Prelude.{None, refl};
 
     ghost stream = { λ _. None };
 
@@ -145,11 +149,15 @@ impl Link for NoLink {
 
     ghost sent = { λ _. None };
 
-    ghost faults = { λ faults. faults };
+    ghost faults = { counted };
+
+    ghost counts = { is_count };
+
+    ghost course = { λ _. record { left_told = refl; sent_told = refl; end = tt } };
 
     fn recv(&mut self, _out: &mut [u8]) -> Result<usize, Failed>
         ensures fails { IsErr result }
-        ensures cause { HasCause self.old self.new result }
+        ensures cause { HasCause (counted self.old) (counted self.new) result }
     {
         count_fault(&mut self.faults);
         Err(Failed)
@@ -157,7 +165,7 @@ impl Link for NoLink {
 
     fn send(&mut self, _piece: &[u8]) -> Result<usize, Failed>
         ensures fails { IsErr result }
-        ensures cause { HasCause self.old self.new result }
+        ensures cause { HasCause (counted self.old) (counted self.new) result }
     {
         count_fault(&mut self.faults);
         Err(Failed)
@@ -201,11 +209,13 @@ impl Door for NoDoor {
 
     ghost served = { λ _. None };
 
-    ghost faults = { λ faults. faults };
+    ghost faults = { counted };
+
+    ghost counts = { is_count };
 
     fn listen(&mut self, _port: u16) -> Result<u16, Failed>
         ensures fails { IsErr result }
-        ensures cause { HasCause self.old self.new result }
+        ensures cause { HasCause (counted self.old) (counted self.new) result }
     {
         count_fault(&mut self.faults);
         Err(Failed)
@@ -213,7 +223,7 @@ impl Door for NoDoor {
 
     fn accept(&mut self) -> Result<NoLink, Failed>
         ensures fails { IsErr result }
-        ensures cause { HasCause self.old self.new result }
+        ensures cause { HasCause (counted self.old) (counted self.new) result }
     {
         count_fault(&mut self.faults);
         Err(Failed)

@@ -1,6 +1,7 @@
 mod KnownShards
 pub mod CutSteps
 pub mod Firsts
+pub mod PlacedSteps
 pub mod Plain
 pub mod PutSteps
 pub mod RawSteps

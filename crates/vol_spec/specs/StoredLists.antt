@@ -8,7 +8,7 @@ use Rattle.std.specs.declared.cmp.Ordering.TheVariants.{Less}
 use Rattle.vol_spec.specs.Encodings.{encoded}
 use Rattle.vol_spec.specs.Grid.{IsCell}
 use Rattle.vol_spec.specs.StoredCells.{object_list}
-use Rattle.vol_spec.specs.StoredShards.{key_of, objects_in, placed}
+use Rattle.vol_spec.specs.StoredShards.{in_order, key_of, objects_in, placed}
 use Rattle.vol_spec.specs.Types.{Cell, Chunks, Key, Listed, Name}
 use Rattle.vol_spec.specs.declared.scale.Scale.{Scale}
 use Rattle.vol_spec.specs.declared.sharding.Sharding.{Sharding}
@@ -25,6 +25,10 @@ cell_key s cell = key_by s.sharding s cell
 pub record AreJobs (s : Scale) (cells : List Cell) : Type 0 where
   pub each : All (IsCell s) cells
   pub rising : AllPairs (λ a b. slice_cmp nat_cmp (cell_key s a) (cell_key s b) ≡ Less) cells
+
+-- cells in the order of their keys
+unfoldable pub in_key_order : Scale → List Cell → List Cell
+in_key_order s cells = map (λ (entry : Key × Cell). entry.1) (in_order (map (λ cell. (cell_key s cell, cell)) cells))
 
 -- chunks with their bytes as they are stored
 abbrev pub encoded_chunks : Scale → Chunks → Chunks

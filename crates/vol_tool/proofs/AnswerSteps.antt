@@ -3,11 +3,11 @@ use Rattle.std.proofs.Common.{◌≡◌, List, ℕ, length, Ok}
 use Rattle.vol_base.specs.declared.boxes.Box3.{Box3}
 use Rattle.vol_base.specs.Outside.{Objects}
 use Rattle.vol_spec.proofs.CutSteps.{is_cut}
-use Rattle.vol_spec.specs.Bytes.{AreBytes}
+use Rattle.vol_base.specs.Bytes.{AreBytes}
 use Rattle.vol_spec.specs.Grid.{Inside}
 use Rattle.vol_spec.specs.Raw.{raw_len}
 use Rattle.vol_spec.specs.declared.scale.Scale.{Scale}
-use Rattle.vol_tool.specs.Answers.{HasCut}
+use Rattle.vol_tool.specs.Cutouts.{HasCut}
 use Rattle.cutout.specs.Reading.{ReadWhole}
 
 -- bytes that hold the value of each voxel are the cutout

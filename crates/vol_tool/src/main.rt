@@ -2,6 +2,11 @@
 //! streams.
 #![tactic(auto)]
 
+ghost use Rattle.std.specs.Prelude.{◌≡◌};
+ghost use Rattle.std.specs.Process.{exit_status};
+ghost use Rattle.vol_tool.specs.Statuses.{number_of};
+ghost use Rattle.vol_tool.specs.declared.status.Status.{Status};
+
 mod buffers;
 mod cut_out;
 mod info;
@@ -13,6 +18,8 @@ mod tests;
 mod top;
 mod write;
 
+use vol_shell::{DirStore, NoDoor, StdFeed, StdOutlet};
+use report::tell;
 use status::Status;
 use std::env::Env;
 use std::io::ErrorKind;
@@ -20,7 +27,6 @@ use std::process::ExitCode;
 use std::{env, io};
 use top::run;
 use vol_base::FreeGate;
-use vol_shell::{DirStore, NoDoor, StdFeed, StdOutlet, say};
 
 // The words after the program's name. It fails as a whole where the system doesn't give each of them as
 // text, or where there is no memory for them.
@@ -30,13 +36,15 @@ fn read_arguments<R: Env + AllocGlobal>(rt: &R) -> io::Result<Vec<String>> {
 }
 
 /// Runs the command that the arguments spell, and ends with its status. Arguments that aren't text are no words.
-fn main(rt: HostRuntime) -> ExitCode {
+fn main(rt: HostRuntime) -> ExitCode
+    ensures { (status : Status) × (exit_status result ≡ number_of status) }
+{
     let mut err = StdOutlet::new(rt.stderr());
     let words = match read_arguments(&rt) {
         Ok(words) => words,
         Err(error) if error.kind() == ErrorKind::OutOfMemory => {
-            say(&mut err, b"out of memory\n");
-            return ExitCode::from(Status::NoMemory.number());
+            tell(&mut err, Status::NoMemory);
+            return ExitCode::from(Status::NoMemory);
         }
         Err(_) => Vec::new(rt.alloc()),
     };
@@ -51,5 +59,5 @@ fn main(rt: HostRuntime) -> ExitCode {
         &mut NoDoor::new(),
         &FreeGate,
     );
-    ExitCode::from(status.number())
+    ExitCode::from(status)
 }

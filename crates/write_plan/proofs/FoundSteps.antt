@@ -13,7 +13,8 @@ use Rattle.vol_spec.specs.Grid.{IsCell}
 use Rattle.vol_spec.specs.StoredCells.{cell_number}
 use Rattle.vol_spec.specs.declared.scale.Scale.{Scale}
 use Rattle.write_plan.specs.declared.pairs.Pair.{Pair}
-use Rattle.write_plan.proofs.OrderSteps.{AreDistinct, cell_known}
+use Rattle.write_plan.proofs.OrderSteps.{AreDistinct}
+use Rattle.chunk_grid.proofs.OrderSteps.{cell_known}
 use Rattle.std.proofs.Common.{eqb}
 
 not_less : (a b : ℕ) → a ≤ b → is_lt (nat_cmp b a) ≡ false

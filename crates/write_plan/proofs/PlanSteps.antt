@@ -12,15 +12,18 @@ use Rattle.vol_spec.specs.LastWrite.{zeros}
 use Rattle.vol_spec.specs.Grid.{cell_box, IsCell, meets}
 use Rattle.vol_spec.specs.Raw.{raw_len}
 use Rattle.vol_spec.specs.StoredCells.{AreInOrder, cell_number, cell_of, met, met_cells, written_raw}
+use Rattle.vol_spec.specs.StoredLists.{AreJobs, in_key_order}
 use Rattle.vol_spec.specs.declared.scale.Scale.{Scale}
 use Rattle.chunk_grid.proofs.GridSteps.{cell_box-short}
 use Rattle.chunk_grid.proofs.ListingSteps.{Contains-filter}
 use Rattle.write_plan.specs.Pairs.{ArePairs, IsPlan, run_of}
-use Rattle.write_plan.specs.Plans.{no_fault, Planned, ready_of}
+use Rattle.write_plan.specs.Plans.{no_fault, Planned, planned_cells, ready_of}
 use Rattle.write_plan.specs.WriteLists.{BoxWrite, IsWriteOf}
 use Rattle.write_plan.specs.declared.pairs.Pair.{Pair}
 use Rattle.vol_spec.proofs.RawSteps.{length-written_raw}
-use Rattle.chunk_grid.proofs.OrderSteps.{AreInOrder-met_cells, cells_in_order}
+use Rattle.chunk_grid.proofs.JobOrder.{in_key_order-jobs, order_of_jobs}
+use Rattle.chunk_grid.proofs.OrderSteps.{cells_in_order}
+use Rattle.write_plan.specs.PlanLaws.{met_jobs}
 use Rattle.write_plan.proofs.RunSteps.{number_from, same_number}
 
 -- a test holds of some element exactly where the filter keeps one
@@ -84,18 +87,18 @@ jobs_met s ws ps jobs h order same =
     numbered_met s ws ps (get_or jobs k d) h is ((same (get_or jobs k d) is).0 (Contains-get_or jobs k d l)))
     (λ cell is e. (same cell is).1 (met_numbered s ws ps cell h is e))
 
-pub planned : (s t : Scale) (ws vs : List BoxWrite) (ps qs : List Pair) (found jobs : List (List ℕ)) → t ≡ s → ws ≡ vs → qs ≡ ps → All (IsWriteOf s) ws → ArePairs s vs ps → AreInOrder s jobs
+pub planned : (s t : Scale) (ws vs : List BoxWrite) (ps qs : List Pair) (found jobs : List (List ℕ)) → t ≡ s → ws ≡ vs → qs ≡ ps → All (IsWriteOf s) ws → ArePairs s vs ps → s.sharding ≡ None → AreJobs s jobs
     → ((cell : List ℕ) → Contains jobs cell ↔ Contains found cell)
     → ((cell : List ℕ) → IsCell s cell → Contains found cell ↔ Contains (map (λ (pair : Pair). pair.number) qs) (cell_number s cell)) → IsPlan t ws jobs ps
-planned s t ws vs ps qs found jobs es ew ep fits pairs order same found_same =
+planned s t ws vs ps qs found jobs es ew ep fits pairs unsharded order same found_same =
     let own : ArePairs s ws ps = subst (λ (xs : List BoxWrite). ArePairs s xs ps) (sym ew) pairs in
     subst (λ (x : Scale). IsPlan x ws jobs ps) (sym es) (record {
       fits = fits;
       ready = own;
-      cells = jobs_met s ws ps jobs own order (λ cell is.
+      cells = sym (in_key_order-jobs s jobs order) ∙ ap (in_key_order s) (jobs_met s ws ps jobs own (order_of_jobs s jobs unsharded order) (λ cell is.
           let P : List Pair → Type 0 = λ xs. Contains found cell ↔ Contains (map (λ (pair : Pair). pair.number) xs) (cell_number s cell) in
           let h : P ps = subst P ep (found_same cell is) in
-          (λ c. h.0 ((same cell).0 c), λ c. (same cell).1 (h.1 c)));
+          (λ c. h.0 ((same cell).0 c), λ c. (same cell).1 (h.1 c))));
     })
 
 below_from : (a b : ℕ) → nat_lt a b ≡ true → a < b
@@ -106,19 +109,19 @@ pub record IsRoom (s : Scale) (cell : List ℕ) (n : ℕ) : Type 0 where
   pub in_grid : IsCell s cell
   pub len : n ≡ raw_len (cell_box s cell) s.channels s.width
 
-room_at : (s : Scale) (ws : List BoxWrite) (job n : ℕ) (b : Bool) → b ≡ nat_lt job (length (met_cells s ws)) → IsSomeAnd (if b then Some (written_raw s zeros ws (cell_of (met_cells s ws) job)) else None) (λ bytes. length bytes ≡ n)
-    → IsRoom s (cell_of (met_cells s ws) job) n
+room_at : (s : Scale) (ws : List BoxWrite) (job n : ℕ) (b : Bool) → b ≡ nat_lt job (length (in_key_order s (met_cells s ws))) → IsSomeAnd (if b then Some (written_raw s zeros ws (cell_of (in_key_order s (met_cells s ws)) job)) else None) (λ bytes. length bytes ≡ n)
+    → IsRoom s (cell_of (in_key_order s (met_cells s ws)) job) n
 room_at s ws job n true e h =
-    let low : job < length (met_cells s ws) = below_from job (length (met_cells s ws)) (sym e) in
-    record { in_grid = (AreInOrder-met_cells s ws).each job [] low; len = sym h ∙ length-written_raw s zeros ws (cell_of (met_cells s ws) job) }
+    let low : job < length (in_key_order s (met_cells s ws)) = below_from job (length (in_key_order s (met_cells s ws))) (sym e) in
+    record { in_grid = (met_jobs s ws).each job [] low; len = sym h ∙ length-written_raw s zeros ws (cell_of (in_key_order s (met_cells s ws)) job) }
 room_at s ws job n false e h = absurd h
 
-pub room : (plan : Planned) (s : Scale) (ws : List BoxWrite) (jobs : List (List ℕ)) (cell : List ℕ) (job n : ℕ) → plan ≡ record { scale = s; writes = ws } → jobs ≡ met_cells s ws → cell ≡ cell_of jobs job
+pub room : (plan : Planned) (s : Scale) (ws : List BoxWrite) (jobs : List (List ℕ)) (cell : List ℕ) (job n : ℕ) → plan ≡ record { scale = s; writes = ws } → jobs ≡ in_key_order s (met_cells s ws) → cell ≡ cell_of jobs job
     → IsSomeAnd (ready_of plan job) (λ bytes. length bytes ≡ n) → IsRoom s cell n
 room plan s ws jobs cell job n is all own h =
     let whole : Planned = record { scale = s; writes = ws } in
     let ready : IsSomeAnd (ready_of whole job) (λ bytes. length bytes ≡ n) = subst (λ (p : Planned). IsSomeAnd (ready_of p job) (λ bytes. length bytes ≡ n)) is h in
-    subst (λ (c : List ℕ). IsRoom s c n) (sym (own ∙ ap (λ (cs : List (List ℕ)). cell_of cs job) all)) (room_at s ws job n (nat_lt job (length (met_cells s ws))) refl ready)
+    subst (λ (c : List ℕ). IsRoom s c n) (sym (own ∙ ap (λ (cs : List (List ℕ)). cell_of cs job) all)) (room_at s ws job n (nat_lt job (length (in_key_order s (met_cells s ws)))) refl ready)
 
 -- no job has a fault
 pub none_first : (plan : Planned) (m : Objects) (xs : List ℕ) → first_some (map (no_fault plan m) xs) ≡ None
@@ -126,21 +129,21 @@ none_first plan m [] = refl
 none_first plan m (x ∷ xs) = none_first plan m xs
 
 -- a job below the number of jobs, and room for its bytes
-pub job_in_grid : (s : Scale) (ws : List BoxWrite) (jobs : List (List ℕ)) (cell : List ℕ) (job : ℕ) → jobs ≡ met_cells s ws → cell ≡ cell_of jobs job → job < length (met_cells s ws) → IsCell s cell
-job_in_grid s ws jobs cell job all own low = subst (IsCell s) (sym (own ∙ ap (λ (cs : List (List ℕ)). cell_of cs job) all)) ((AreInOrder-met_cells s ws).each job [] low)
+pub job_in_grid : (s : Scale) (ws : List BoxWrite) (jobs : List (List ℕ)) (cell : List ℕ) (job : ℕ) → jobs ≡ in_key_order s (met_cells s ws) → cell ≡ cell_of jobs job → job < length (in_key_order s (met_cells s ws)) → IsCell s cell
+job_in_grid s ws jobs cell job all own low = subst (IsCell s) (sym (own ∙ ap (λ (cs : List (List ℕ)). cell_of cs job) all)) ((met_jobs s ws).each job [] low)
 
 below_true : (a b : ℕ) → a < b → nat_lt a b ≡ true
 below_true a b h = grind (arith, nat_tests)
 
-ready_at : (s : Scale) (ws : List BoxWrite) (job n : ℕ) (b : Bool) → b ≡ true → n ≡ raw_len (cell_box s (cell_of (met_cells s ws) job)) s.channels s.width
-    → IsSomeAnd (if b then Some (written_raw s zeros ws (cell_of (met_cells s ws) job)) else None) (λ bytes. length bytes ≡ n)
-ready_at s ws job n true e len = length-written_raw s zeros ws (cell_of (met_cells s ws) job) ∙ sym len
+ready_at : (s : Scale) (ws : List BoxWrite) (job n : ℕ) (b : Bool) → b ≡ true → n ≡ raw_len (cell_box s (cell_of (in_key_order s (met_cells s ws)) job)) s.channels s.width
+    → IsSomeAnd (if b then Some (written_raw s zeros ws (cell_of (in_key_order s (met_cells s ws)) job)) else None) (λ bytes. length bytes ≡ n)
+ready_at s ws job n true e len = length-written_raw s zeros ws (cell_of (in_key_order s (met_cells s ws)) job) ∙ sym len
 ready_at s ws job n false e len = absurd (cc e)
 
-pub job_room : (plan : Planned) (jobs : List (List ℕ)) (cell : List ℕ) (job n : ℕ) → jobs ≡ met_cells plan.scale plan.writes → cell ≡ cell_of jobs job → job < length (met_cells plan.scale plan.writes)
+pub job_room : (plan : Planned) (jobs : List (List ℕ)) (cell : List ℕ) (job n : ℕ) → jobs ≡ planned_cells plan → cell ≡ cell_of jobs job → job < length (planned_cells plan)
     → n ≡ raw_len (cell_box plan.scale cell) plan.scale.channels plan.scale.width → IsSomeAnd (ready_of plan job) (λ bytes. length bytes ≡ n)
 job_room plan jobs cell job n all own low len =
-    ready_at plan.scale plan.writes job n (nat_lt job (length (met_cells plan.scale plan.writes))) (below_true _ _ low)
+    ready_at plan.scale plan.writes job n (nat_lt job (length (planned_cells plan))) (below_true _ _ low)
     (len ∙ ap (λ (c : List ℕ). raw_len (cell_box plan.scale c) plan.scale.channels plan.scale.width) (own ∙ ap (λ (cs : List (List ℕ)). cell_of cs job) all))
 
 -- the counted bytes of a cell

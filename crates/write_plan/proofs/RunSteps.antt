@@ -14,13 +14,12 @@ use Rattle.vol_spec.specs.StoredCells.{cell_number}
 use Rattle.vol_spec.specs.declared.scale.Scale.{Scale}
 use Rattle.chunk_grid.proofs.ListSteps.{filter-map}
 use Rattle.chunk_grid.proofs.ListingSteps.{All-numbers_on, cells_in-IsCell, Contains-filter, Contains-numbers_on}
-use Rattle.chunk_grid.proofs.OrderSteps.{AreInOrder-numbers_on, rising_same}
+use Rattle.chunk_grid.proofs.OrderSteps.{AreInOrder-numbers_on, cell_known, rising_same}
 use Rattle.write_plan.specs.Pairs.{ArePairs, cell_count, pair_of, pairs_from, run_of, writes_of_run}
 use Rattle.write_plan.specs.WriteLists.{BoxWrite, write_in, writes_in}
 use Rattle.write_plan.specs.declared.writes.Write.{Write}
 use Rattle.write_plan.specs.declared.pairs.Pair.{Pair}
 use Rattle.write_plan.proofs.NumberSteps.{cell_number-below}
-use Rattle.write_plan.proofs.OrderSteps.{cell_known}
 
 -- filters
 pub filter_none : {X : Type 0} (p : X → Bool) (xs : List X) → All (λ x. p x ≡ false) xs → filter p xs ≡ []

@@ -1,11 +1,49 @@
--- What preparing jobs answers.
-use Rattle.std.specs.Prelude.{◌≡◌, ℕ, ◌/◌, ◌^◌, ◌≤◌, min, max, List, Option, Some, None, Result, Ok, Err, ⊤, IsErrOf}
+-- The jobs of a writer, and what preparing them answers.
+use Rattle.std.specs.Prelude.{◌≡◌, ◌≢◌, ℕ, ◌/◌, ◌^◌, ◌≤◌, ◌<◌, min, max, List, length, map, Option, Some, None, Result, Ok, Err, ⊤, IsErrOf}
+use Rattle.std.specs.FinMap as fin
+use Rattle.std.specs.List.{range_with_len}
 use Rattle.vol_base.specs.Causes.{Rose}
+use Rattle.vol_base.specs.Outside.{Objects}
 use Rattle.vol_base.specs.declared.faults.Fault.{Fault}
+use Rattle.vol_spec.specs.BoxValues.{first_some}
+use Rattle.vol_spec.specs.Encodings.{raw_size}
 use Rattle.vol_spec.specs.Limits.{first_bytes, limit_of}
+use Rattle.vol_spec.specs.StoredBytes.{object_of}
+use Rattle.vol_spec.specs.StoredCells.{cell_of}
+use Rattle.vol_spec.specs.Types.{Bytes, Cell, Name}
 use Rattle.vol_spec.specs.declared.scale.Scale.{Scale}
 use Rattle.write_plan.specs.declared.chunks.PrepareFault.{PrepareFault}
 use Rattle.write_plan.specs.declared.chunks.PrepareFault.TheVariants.{StoreFault, Damaged, OutOfMemory}
+
+-- jobs: the cells of a scale, and over objects the raw bytes of each job's cell, and its fault with the cell that has it, or none
+pub record Work : Type 0 where
+  pub scale : Scale
+  pub cells : List Cell
+  pub raw : Objects → ℕ → Bytes
+  pub fault : Objects → ℕ → Option (Cell × Fault)
+
+-- the first fault of so many jobs over objects, from a number on
+abbrev pub jobs_fault : Work → Objects → ℕ → ℕ → Option (Cell × Fault)
+jobs_fault work m from count = first_some (map (work.fault m) (range_with_len from count))
+
+-- the bytes of the jobs from one number up to, not with, another are ready
+abbrev pub AreReady : (ℕ → Option Bytes) → (ℕ → Bytes) → ℕ → ℕ → Type 0
+AreReady ready raw from to = (job : ℕ) → from ≤ job → job < to → ready job ≡ Some (raw job)
+
+-- as many bytes as the values of a job's cell have
+abbrev pub FitsJob : Work → ℕ → Bytes → Type 0
+FitsJob work job bytes = length bytes ≡ raw_size work.scale (cell_of work.cells job)
+
+-- what is told of jobs over objects stays where only another job's object is stored
+abbrev pub StaysBeside : {A : Type 0} → Name → Scale → List Cell → (Objects → ℕ → A) → Type 0
+StaysBeside dataset s cells told = (m : Objects) (bytes : Bytes) (i j : ℕ) → i < length cells → j < length cells
+    → object_of dataset s (cell_of cells i) ≢ object_of dataset s (cell_of cells j)
+    → told (fin.insert m (object_of dataset s (cell_of cells i)) bytes) j ≡ told m j
+
+-- storing the object of a job leaves the raw bytes and the faults of jobs in other objects
+pub record KeepsOthers (dataset : Name) (s : Scale) (work : Work) : Type 0 where
+  pub raws : StaysBeside dataset s work.cells work.raw
+  pub faults : StaysBeside dataset s work.cells work.fault
 
 -- the bytes of the larger of a cell's raw and encoded chunks at most
 abbrev pub frame_len : Scale → ℕ

@@ -4,6 +4,7 @@ use Rattle.std.specs.List.{All}
 use Rattle.std.specs.List.Sorted.{IsNonDecreasingBy}
 use Rattle.vol_spec.specs.Grid.{IsCell, cells_in, cells_on, meets}
 use Rattle.vol_spec.specs.StoredCells.{cell_number, met_cells}
+use Rattle.vol_spec.specs.StoredLists.{in_key_order}
 use Rattle.vol_spec.specs.declared.scale.Scale.{Scale}
 use Rattle.write_plan.specs.WriteLists.{BoxWrite, IsWriteOf}
 use Rattle.write_plan.specs.declared.pairs.Pair.{Pair}
@@ -35,8 +36,8 @@ pub record ArePairs (s : Scale) (writes : List BoxWrite) (ps : List Pair) : Type
   pub ordered : IsNonDecreasingBy (λ pair. pair.number) ps
   pub runs : (cell : List ℕ) (d : BoxWrite) → IsCell s cell → writes_of_run writes d (run_of ps (cell_number s cell)) ≡ filter (λ w. meets s w.0 cell) writes
 
--- what a plan keeps: its writes are those of its scale, and its jobs are the cells that they meet
+-- what a plan keeps: its writes are those of its scale, and its jobs are the cells that they meet, in the order of their keys
 pub record IsPlan (s : Scale) (writes : List BoxWrite) (jobs : List (List ℕ)) (ps : List Pair) : Type 0 where
   pub fits : All (IsWriteOf s) writes
   pub ready : ArePairs s writes ps
-  pub cells : jobs ≡ met_cells s writes
+  pub cells : jobs ≡ in_key_order s (met_cells s writes)

@@ -96,31 +96,24 @@ impl From<OutOfMemory> for PlanRefusal {
 }
 
 impl Chunks for Plan {
-    ghost use Rattle.std.specs.Prelude.{◌≡◌, ◌-◌, ◌≤◌, ℕ, Some, None, IsOk, IsSome, OnOk, IfSome, refl, length, map};
-    ghost use Rattle.std.specs.List.{range_with_len};
-    ghost use Rattle.vol_spec.specs.BoxValues.{first_some};
-    ghost use Rattle.vol_spec.specs.StoredCells.{met_cells};
-    ghost use Rattle.write_plan.specs.Jobs.{HasPrepareCause, Prepares};
-    ghost use Rattle.write_plan.specs.Plans.{no_fault, raw_of, ready_of};
-    ghost use Rattle.write_plan.specs.PlanLaws.{met_in_order, ready_fits};
+    ghost use Rattle.std.specs.Prelude.{◌≡◌, ◌-◌, ◌≤◌, ℕ, IsOk, IsSome, OnOk, IfSome, length};
+    ghost use Rattle.write_plan.specs.Jobs.{AreReady, HasPrepareCause, Prepares, jobs_fault};
+    ghost use Rattle.write_plan.specs.Plans.{planned_cells, ready_of, work_of};
+    ghost use Rattle.write_plan.specs.PlanLaws.{met_jobs, plan_keeps, ready_fits};
 
-    ghost scale = { λ plan. plan.scale };
-
-    ghost cells = { λ plan. met_cells plan.scale plan.writes };
-
-    ghost raw_of = { raw_of };
-
-    ghost fault_of = { no_fault };
+    ghost work = { work_of };
 
     ghost apart = { λ plan dataset s. Unit {0} };
 
+    ghost sure = { λ plan. Unit {0} };
+
     ghost ready = { ready_of };
 
-    ghost ordered = { λ plan. met_in_order plan.scale plan.writes };
+    ghost ordered = { λ plan. met_jobs plan.scale plan.writes };
 
     ghost fits = { ready_fits };
 
-    ghost kept = { λ plan dataset s m bytes i j apart before behind other. (refl, refl) };
+    ghost kept = { λ plan dataset s apart. plan_keeps plan dataset s };
 
     fn jobs(&self) -> &JobList {
         &self.jobs
@@ -133,15 +126,12 @@ impl Chunks for Plan {
         _from: u64,
         _to: u64,
     ) -> Result<(), PrepareFault>
-        requires within { _to ≤ length (met_cells self.old.scale self.old.writes) }
+        requires within { _to ≤ length (planned_cells self.old) }
         ensures done { IsOk result }
         ensures prepared { OnOk result ((job : ℕ) → _from ≤ job → job < _to → IsSome (ready_of self.new job)) }
-        ensures ready { OnOk result (IfSome (S.objects _store.old) (λ m. (job : ℕ) → _from ≤ job → job < _to → ready_of self.new job ≡ Some (raw_of self.old m job))) }
-        ensures answer { IfSome (S.objects _store.old) (λ m. Prepares result (first_some (map (no_fault self.old m) (range_with_len _from (_to - _from))))) }
-        ensures scale { self.new.scale ≡ self.old.scale }
-        ensures cells { met_cells self.new.scale self.new.writes ≡ met_cells self.old.scale self.old.writes }
-        ensures raw { raw_of self.new ≡ raw_of self.old }
-        ensures fault { no_fault self.new ≡ no_fault self.old }
+        ensures ready { OnOk result (IfSome (S.objects _store.old) (λ m. AreReady (ready_of self.new) ((work_of self.old).raw m) _from _to)) }
+        ensures answer { IfSome (S.objects _store.old) (λ m. Prepares result (jobs_fault (work_of self.old) m _from (_to - _from))) }
+        ensures work { work_of self.new ≡ work_of self.old }
         ensures objects { S.objects _store.new ≡ S.objects _store.old }
         ensures draft { S.draft _store.new ≡ S.draft _store.old }
         ensures cause { HasPrepareCause (S.faults _store.old) (S.faults _store.new) result }
