@@ -5,4 +5,5 @@ pub mod PlanLaws
 pub mod Plans
 pub mod Readers
 pub mod Stream
+pub mod StreamTexts
 pub mod WriteLists
