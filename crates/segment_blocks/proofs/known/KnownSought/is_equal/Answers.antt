@@ -5,7 +5,7 @@ use Rattle.vol_spec.specs.SegSizes.{width_of}
 use Rattle.vol_spec.specs.SegWritten.{same, table}
 use Rattle.vol_spec.specs.SegShapes.{sizes_of}
 use Rattle.segment_blocks.proofs.Equal.{AreNarrow, equal_bytes, same_is, same_self}
-use Rattle.segment_blocks.proofs.hashes.is_equal.Goals as goal
+use Rattle.segment_blocks.proofs.known.KnownSought.is_equal.Goals as goal
 
 either : (b : Bool) → (b ≡ true) ⊎ (b ≡ false)
 either true = inl refl
@@ -28,11 +28,14 @@ told false w v m n xs ys p q to from ev em en ep eq nx ny = ⊎_elim
 
 pub returns : goal.returns
 returns c =
+    let b = c.args.self.now in
+    let s = sizes_of b.shape.now in
     let j : ℕ = c.args.j in
-    let k : ℕ = c.args.k in
-    let lens : List ℕ = c.args.known.now.lens.now in
-    let at : List ℕ = c.args.known.now.at.now in
-    told c.is_same.result (width_of c.args.shape.now.wide) c.find_width.result (slice_index lens j) (slice_index lens k) (table (sizes_of c.args.shape.now) c.args._raw.now c.args._c j) (table (sizes_of c.args.shape.now) c.args._raw.now c.args._c k)
-    (drop (slice_index at j) c.args.known.now.bytes.now) (drop (slice_index at k) c.args.known.now.bytes.now) c.is_same.ensures.0 c.is_same.ensures.1 c.find_width.ensures
-    (c.requires.stored.len j (omega (arith, c.requires.before))) (c.requires.stored.len k (omega arith)) (c.requires.stored.here j (omega (arith, c.requires.before))) (c.requires.stored.here k (omega arith))
-    (c.requires.stored.narrow j (omega (arith, c.requires.before))) (c.requires.stored.narrow k (omega arith))
+    let k : ℕ = b.k in
+    let lens : List ℕ = b.lens.now in
+    let at : List ℕ = b.at.now in
+    let stored = c.requires.ready.0 in
+    told c.is_same.result (width_of b.shape.now.wide) c.find_width.result (slice_index lens j) (slice_index lens k) (table s b.raw.now b.c j) (table s b.raw.now b.c k)
+    (drop (slice_index at j) b.bytes.now) (drop (slice_index at k) b.bytes.now) c.is_same.ensures.0 c.is_same.ensures.1 c.find_width.ensures
+    (stored.len j (omega (arith, c.requires.before))) (stored.len k (omega arith)) (stored.here j (omega (arith, c.requires.before))) (stored.here k (omega arith))
+    (stored.narrow j (omega (arith, c.requires.before))) (stored.narrow k (omega arith))
