@@ -1,8 +1,7 @@
 -- For an unsharded scale of raw chunks the objects of all jobs are what their chunks are stored as.
-use Rattle.std.proofs.Common.{◌≡◌, ◌∙◌, ℕ, zero, suc, ◌+◌, ◌<◌, List, [], ◌∷◌, length, map, get_or, Option, Some, None, IfSome, refl, ap, sym, subst, arith}
+use Rattle.std.proofs.Common.{◌≡◌, ◌∙◌, ℕ, suc, ◌+◌, ◌<◌, List, [], ◌∷◌, length, map, get_or, Option, Some, None, IfSome, refl, ap, sym, subst, arith}
 use Rattle.std.specs.List.{range_with_len, sum_by}
 use Rattle.vol_base.specs.Outside.{Objects}
-use Rattle.vol_spec.specs.CellNames.{cell_name}
 use Rattle.vol_spec.specs.Encodings.{raw_size}
 use Rattle.vol_spec.specs.StoredCells.{cell_of, object_list, put_in}
 use Rattle.vol_spec.specs.StoredLists.{stored_list}

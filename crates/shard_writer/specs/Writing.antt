@@ -1,15 +1,13 @@
 -- What a writer of a scale puts into a store.
-use Rattle.std.specs.Prelude.{◌≡◌, ◌≢◌, ◌⊎◌, ℕ, ◌≤◌, List, [], length, map, take, Option, Some, None, IfSome, Result, Ok, Err, IsErrOf, unwrap_or}
+use Rattle.std.specs.Prelude.{◌≡◌, ◌≢◌, ◌⊎◌, ℕ, ◌≤◌, length, map, take, Option, Some, None, IfSome, Result, Ok, Err, IsErrOf}
 use Rattle.std.specs.List.{range_with_len, sum_by}
 use Rattle.vol_base.specs.Causes.{Rose}
 use Rattle.vol_base.specs.Outside.{Draft, Objects}
 use Rattle.vol_base.specs.declared.faults.Fault.{Fault}
-use Rattle.vol_spec.specs.CellNames.{cell_name}
 use Rattle.vol_spec.specs.Encodings.{raw_size}
 use Rattle.vol_spec.specs.StoredCells.{cell_of, put_in}
 use Rattle.vol_spec.specs.StoredLists.{stored_list}
-use Rattle.vol_spec.specs.Types.{Bytes, Cell, Chunks, Listed, Name}
-use Rattle.vol_spec.specs.declared.scale.Scale.{Scale}
+use Rattle.vol_spec.specs.Types.{Cell, Chunks, Listed, Name}
 use Rattle.write_plan.specs.Jobs.{Work, jobs_fault}
 use Rattle.shard_writer.specs.declared.written.WriteFault.{WriteFault}
 use Rattle.shard_writer.specs.declared.written.WriteFault.TheVariants.{StoreFault, Damaged, OutOfMemory}

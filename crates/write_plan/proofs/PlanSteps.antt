@@ -1,29 +1,30 @@
 -- The jobs of a plan are the cells that its writes meet.
-use Rattle.std.proofs.Common.{◌≡◌, ◌↔◌, ℕ, ◌-◌, ◌^◌, ◌<◌, ◌≤◌, min, Some, None, IsSomeAnd, nat_lt, List, [], ◌∷◌, length, map, get_or, Bool, true, false, cond, refl, sym, ap, ◌∙◌, subst, arith}
+use Rattle.std.proofs.Common.{◌≡◌, ℕ, ◌-◌, ◌^◌, ◌<◌, ◌≤◌, min, Some, None, IsSomeAnd, nat_lt, List, [], ◌∷◌, length, map, get_or, Bool, true, false, cond, refl, sym, ap, ◌∙◌, subst, arith}
 use Rattle.std.specs.Prelude.{◌==◌, ◌||◌, All, Contains, filter, if◌then◌else◌, slice_index_or}
 use Rattle.std.specs.List.{list_any}
 use Rattle.std.proofs.lemmas.Bool.Decides.{nat_tests}
 use Rattle.std.proofs.lemmas.List.{get_or-map, length-map}
-use Rattle.std.proofs.lemmas.List.Elements.{All-contains_itself, All-filter, Contains-get_or, filter_passes}
+use Rattle.std.proofs.lemmas.List.Elements.{All-contains, All-contains_itself, All-filter, All-map, Contains-get_or, filter_passes}
 use Rattle.vol_base.specs.declared.boxes.Box3.{Box3}
 use Rattle.vol_base.specs.Outside.{Objects}
 use Rattle.vol_spec.specs.BoxValues.{first_some}
 use Rattle.vol_spec.specs.LastWrite.{zeros}
 use Rattle.vol_spec.specs.Grid.{cell_box, IsCell, meets}
 use Rattle.vol_spec.specs.Raw.{raw_len}
-use Rattle.vol_spec.specs.StoredCells.{AreInOrder, cell_number, cell_of, met, met_cells, written_raw}
-use Rattle.vol_spec.specs.StoredLists.{AreJobs, in_key_order}
+use Rattle.vol_spec.specs.StoredCells.{cell_number, cell_of, met, met_cells, written_raw}
+use Rattle.vol_spec.specs.StoredLists.{in_key_order}
 use Rattle.vol_spec.specs.declared.scale.Scale.{Scale}
 use Rattle.chunk_grid.proofs.GridSteps.{cell_box-short}
 use Rattle.chunk_grid.proofs.ListingSteps.{Contains-filter}
-use Rattle.write_plan.specs.Pairs.{ArePairs, IsPlan, run_of}
+use Rattle.write_plan.specs.Pairs.{ArePairs, AreRead, IsPlan, run_of}
 use Rattle.write_plan.specs.Plans.{no_fault, Planned, planned_cells, ready_of}
 use Rattle.write_plan.specs.WriteLists.{BoxWrite, IsWriteOf}
 use Rattle.write_plan.specs.declared.pairs.Pair.{Pair}
 use Rattle.vol_spec.proofs.RawSteps.{length-written_raw}
-use Rattle.chunk_grid.proofs.JobOrder.{in_key_order-jobs, order_of_jobs}
+use Rattle.chunk_grid.proofs.JobOrder.{in_key_order-jobs, jobs_in_order}
 use Rattle.chunk_grid.proofs.OrderSteps.{cells_in_order}
 use Rattle.write_plan.specs.PlanLaws.{met_jobs}
+use Rattle.write_plan.proofs.FoundSteps.{cell_from}
 use Rattle.write_plan.proofs.RunSteps.{number_from, same_number}
 
 -- a test holds of some element exactly where the filter keeps one
@@ -77,29 +78,22 @@ met_numbered s ws ps cell h is e =
     listed : (pair : Pair) → pair.number ≡ cell_number s cell → Contains ps pair → Contains (map (λ (pair : Pair). pair.number) ps) (cell_number s cell)
     listed pair own (k, l, f) = (k, omega (arith, l, length-map ps (λ (pair : Pair). pair.number)), get_or-map (λ (pair : Pair). pair.number) ps k pair (cell_number s cell) l ∙ ap (λ (pair : Pair). pair.number) f ∙ own)
 
-jobs_met : (s : Scale) (ws : List BoxWrite) (ps : List Pair) (jobs : List (List ℕ)) → ArePairs s ws ps → AreInOrder s jobs
-    → ((cell : List ℕ) → IsCell s cell → Contains jobs cell ↔ Contains (map (λ (pair : Pair). pair.number) ps) (cell_number s cell)) → jobs ≡ met_cells s ws
+-- the cells that are read off the pairs are those that some write meets
+read_met : (s : Scale) (ws : List BoxWrite) (ps : List Pair) (cells : List (List ℕ)) → ArePairs s ws ps → AreRead s ps cells → cells ≡ met_cells s ws
 unfolding met_cells
-jobs_met s ws ps jobs h order same =
-    cells_in_order s (met s ws) jobs order
-    (λ k d l.
-    let is = order.each k d l in
-    numbered_met s ws ps (get_or jobs k d) h is ((same (get_or jobs k d) is).0 (Contains-get_or jobs k d l)))
-    (λ cell is e. (same cell is).1 (met_numbered s ws ps cell h is e))
+read_met s ws ps cells h read =
+    cells_in_order s (met s ws) cells read.order
+    (λ k d l. numbered_met s ws ps (get_or cells k d) h (read.order.each k d l) (read.from k d l))
+    (λ cell is e.
+    let c : Contains (map (λ (pair : Pair). pair.number) ps) (cell_number s cell) = met_numbered s ws ps cell h is e in
+    cell_from s cells cell read.order.each is (All-contains (Contains (map (cell_number s) cells)) (map (λ (pair : Pair). pair.number) ps) (cell_number s cell) (All-map (Contains (map (cell_number s) cells)) (λ (pair : Pair). pair.number) ps read.to) c))
 
-pub planned : (s t : Scale) (ws vs : List BoxWrite) (ps qs : List Pair) (found jobs : List (List ℕ)) → t ≡ s → ws ≡ vs → qs ≡ ps → All (IsWriteOf s) ws → ArePairs s vs ps → s.sharding ≡ None → AreJobs s jobs
-    → ((cell : List ℕ) → Contains jobs cell ↔ Contains found cell)
-    → ((cell : List ℕ) → IsCell s cell → Contains found cell ↔ Contains (map (λ (pair : Pair). pair.number) qs) (cell_number s cell)) → IsPlan t ws jobs ps
-planned s t ws vs ps qs found jobs es ew ep fits pairs unsharded order same found_same =
+pub planned : (s t : Scale) (ws vs : List BoxWrite) (ps qs : List Pair) (cells : List (List ℕ)) → t ≡ s → ws ≡ vs → qs ≡ ps → s.sharding ≡ None → All (IsWriteOf s) ws → ArePairs s vs ps → AreRead s qs cells → IsPlan t ws cells ps
+planned s t ws vs ps qs cells es ew ep unsharded fits pairs read =
     let own : ArePairs s ws ps = subst (λ (xs : List BoxWrite). ArePairs s xs ps) (sym ew) pairs in
-    subst (λ (x : Scale). IsPlan x ws jobs ps) (sym es) (record {
-      fits = fits;
-      ready = own;
-      cells = sym (in_key_order-jobs s jobs order) ∙ ap (in_key_order s) (jobs_met s ws ps jobs own (order_of_jobs s jobs unsharded order) (λ cell is.
-          let P : List Pair → Type 0 = λ xs. Contains found cell ↔ Contains (map (λ (pair : Pair). pair.number) xs) (cell_number s cell) in
-          let h : P ps = subst P ep (found_same cell is) in
-          (λ c. h.0 ((same cell).0 c), λ c. (same cell).1 (h.1 c))));
-    })
+    let met : cells ≡ met_cells s ws = read_met s ws ps cells own (subst (λ xs. AreRead s xs cells) ep read) in
+    subst (λ (x : Scale). IsPlan x ws cells ps) (sym es)
+    (record { fits = fits; ready = own; cells = sym (in_key_order-jobs s cells (jobs_in_order s cells unsharded read.order)) ∙ ap (in_key_order s) met })
 
 below_from : (a b : ℕ) → nat_lt a b ≡ true → a < b
 below_from a b e = grind (arith, nat_tests)

@@ -1,11 +1,11 @@
 -- How many voxels and bytes there are at least and at most.
-use Rattle.std.proofs.Common.{◌≡◌, ℕ, zero, suc, ◌+◌, ◌-◌, ◌*◌, ◌^◌, ◌<◌, ◌≤◌, ◌++◌, List, [], ◌∷◌, length, map, sum, take, drop, get_or, sym, ap, ◌∙◌, subst, arith, lit<}
+use Rattle.std.proofs.Common.{◌≡◌, ℕ, zero, suc, ◌+◌, ◌*◌, ◌^◌, ◌<◌, ◌≤◌, ◌++◌, List, [], ◌∷◌, length, map, sum, take, drop, get_or, sym, ap, ◌∙◌, subst, arith, lit<}
 use Rattle.std.specs.List.{All}
 use Rattle.std.proofs.lemmas.Grind.{common_steps}
 use Rattle.std.proofs.lemmas.List.{get_or-map, length-map, map-append, map_more, take-append-drop}
 use Rattle.std.proofs.lemmas.List.Elements.{All-head, All-tail, All-take}
 use Rattle.std.proofs.Math.Nat.{le-mul_of_pos_right}
-use Rattle.vol_base.specs.Boxes.{size, voxels}
+use Rattle.vol_base.specs.Boxes.{voxels}
 use Rattle.vol_spec.specs.Grid.{cells_in}
 use Rattle.vol_spec.specs.Limits.{first_bytes, first_size}
 use Rattle.vol_spec.specs.declared.scale.Scale.{Scale}

@@ -1,10 +1,11 @@
 -- Pairs of a cell's number in the grid and the number of a write that meets it.
 use Rattle.std.specs.Prelude.{◌≡◌, ℕ, ◌+◌, ◌*◌, ◌<◌, ◌==◌, List, [], ◌∷◌, ◌++◌, length, map, filter, slice_index_or}
-use Rattle.std.specs.List.{All}
+use Rattle.std.specs.List.{All, Contains}
 use Rattle.std.specs.List.Sorted.{IsNonDecreasingBy}
 use Rattle.vol_spec.specs.Grid.{IsCell, cells_in, cells_on, meets}
-use Rattle.vol_spec.specs.StoredCells.{cell_number, met_cells}
+use Rattle.vol_spec.specs.StoredCells.{AreInOrder, cell_number, met_cells}
 use Rattle.vol_spec.specs.StoredLists.{in_key_order}
+use Rattle.vol_spec.specs.Types.{Cell}
 use Rattle.vol_spec.specs.declared.scale.Scale.{Scale}
 use Rattle.write_plan.specs.WriteLists.{BoxWrite, IsWriteOf}
 use Rattle.write_plan.specs.declared.pairs.Pair.{Pair}
@@ -35,6 +36,12 @@ pub record ArePairs (s : Scale) (writes : List BoxWrite) (ps : List Pair) : Type
   pub below : All (λ pair. pair.number < cell_count s) ps
   pub ordered : IsNonDecreasingBy (λ pair. pair.number) ps
   pub runs : (cell : List ℕ) (d : BoxWrite) → IsCell s cell → writes_of_run writes d (run_of ps (cell_number s cell)) ≡ filter (λ w. meets s w.0 cell) writes
+
+-- distinct cells in the order of the grid, which are those of the pairs' numbers
+pub record AreRead (s : Scale) (ps : List Pair) (cells : List Cell) : Type 0 where
+  pub order : AreInOrder s cells
+  pub from : All (λ cell. Contains (map (λ (pair : Pair). pair.number) ps) (cell_number s cell)) cells
+  pub to : All (λ (pair : Pair). Contains (map (cell_number s) cells) pair.number) ps
 
 -- what a plan keeps: its writes are those of its scale, and its jobs are the cells that they meet, in the order of their keys
 pub record IsPlan (s : Scale) (writes : List BoxWrite) (jobs : List (List ℕ)) (ps : List Pair) : Type 0 where

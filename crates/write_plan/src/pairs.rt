@@ -3,12 +3,12 @@ ghost use Rattle.std.specs.Prelude.{◌≡◌, ◌≢◌, ◌≤◌, ◌<◌, �
 ghost use Rattle.std.specs.List.Sorted.{IsNonDecreasingBy};
 ghost use Rattle.vol_spec.specs.Grid.{Inside, IsCell, cells_in};
 ghost use Rattle.vol_spec.specs.StoredCells.{cell_number};
-ghost use Rattle.write_plan.specs.Pairs.{ArePairs, cell_count, pair_of, pairs_from, run_of};
+ghost use Rattle.write_plan.specs.Pairs.{ArePairs, AreRead, cell_count, pair_of, pairs_from, run_of};
 ghost use Rattle.write_plan.specs.Plans.{pairs as count_of};
 ghost use Rattle.write_plan.specs.WriteLists.{IsWriteOf, total, writes_in};
 
 use crate::writes::Write;
-use chunk_grid::{cells, count_cells, grid};
+use chunk_grid::{cells as cells_in_box, count_cells, grid};
 use std::alloc::{AllocError, Global};
 use vol_base::Box3;
 use vol_spec::Scale;
@@ -69,7 +69,7 @@ fn push_pairs(
     requires { Inside scale.now part.now }
     ensures { OnOk result (pairs.new.items ≡ pairs.old.items ++ map (pair_of scale.now write) (cells_in scale.now part.now)) }
 {
-    for cell in cells(scale, part) {
+    for cell in cells_in_box(scale, part) {
         let number = find_number(scale, cell);
         pairs.push(Pair { number, write })?;
     }
@@ -112,25 +112,7 @@ pub(crate) fn find_pairs(
     Ok(pairs)
 }
 
-// The numbers of the cells, pair by pair.
-fn list_numbers(alloc: Global, pairs: &[Pair]) -> Result<Vec<u128>, AllocError>
-    ensures { IfOk result (λ numbers. numbers.items ≡ map (λ pair. pair.number) pairs.now) }
-{
-    pairs.iter().map(|pair| pair.number).collect(alloc)
-}
-
-// The numbers of the cells, each once.
-fn find_numbers(alloc: Global, pairs: &[Pair]) -> Result<Vec<u128>, AllocError>
-    requires { IsNonDecreasingBy (λ pair. pair.number) pairs.now }
-    ensures distinct { IfOk result (λ numbers. AllPairs (λ a b. a ≢ b) numbers.items) }
-    ensures same { IfOk result (λ numbers. (number : ℕ) → Contains numbers.items number ↔ Contains (map (λ pair. pair.number) pairs.now) number) }
-{
-    let mut numbers = list_numbers(alloc, pairs)?;
-    numbers.dedup();
-    Ok(numbers)
-}
-
-/// The cells of pairs, each once.
+/// The cells of pairs, each once, in the order of the pairs.
 pub(crate) fn find_cells(
     alloc: Global,
     scale: &Scale,
@@ -138,16 +120,17 @@ pub(crate) fn find_cells(
 ) -> Result<Vec<[u64; 3]>, AllocError>
     requires below { All (λ pair. pair.number < cell_count scale.now) pairs.now }
     requires ordered { IsNonDecreasingBy (λ pair. pair.number) pairs.now }
-    ensures each { IfOk result (λ found. All (IsCell scale.now) found.items) }
-    ensures distinct { IfOk result (λ found. AllPairs (λ a b. a ≢ b) found.items) }
-    ensures same { IfOk result (λ found. (cell : List ℕ) → IsCell scale.now cell → Contains found.items cell ↔ Contains (map (λ pair. pair.number) pairs.now) (cell_number scale.now cell)) }
+    ensures { IfOk result (λ cells. AreRead scale.now pairs.now cells.items) }
 {
-    let numbers = find_numbers(alloc, pairs)?;
-    let mut found = Vec::with_capacity(alloc, numbers.len())?;
-    for number in &numbers {
-        found.push(find_cell(scale, *number))?;
+    let mut cells = Vec::with_capacity(alloc, pairs.len())?;
+    let mut last = None;
+    for pair in pairs {
+        if last != Some(pair.number) {
+            cells.push(find_cell(scale, pair.number))?;
+            last = Some(pair.number);
+        }
     }
-    Ok(found)
+    Ok(cells)
 }
 
 /// The pairs of a cell, by its number.

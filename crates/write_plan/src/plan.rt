@@ -11,7 +11,7 @@ use crate::pairs::{Pair, count_pairs, find_cells, find_pairs};
 use crate::writes::Writes;
 use std::alloc::{AllocError, Global};
 use std::marker::Model;
-use vol_base::{OutOfMemory, Store};
+use vol_base::Store;
 use vol_spec::Scale;
 
 // The most pairs of a write and a cell that it meets.
@@ -63,8 +63,7 @@ impl Plan {
             return Err(PlanRefusal::TooManyCells { cells });
         }
         let pairs = find_pairs(alloc, scale, writes.list(), cells)?;
-        let met = find_cells(alloc, scale, &pairs)?;
-        let jobs = JobList::of(alloc, scale, met)?;
+        let jobs = JobList::of_ordered(find_cells(alloc, scale, &pairs)?);
         let scale = scale.duplicate();
         Ok(Plan {
             scale,
@@ -81,16 +80,6 @@ impl From<AllocError> for PlanRefusal {
     ghost from_gives = { λ _ e. e ≡ refusals.OutOfMemory };
 
     fn from(_e: AllocError) -> PlanRefusal {
-        PlanRefusal::OutOfMemory
-    }
-}
-
-impl From<OutOfMemory> for PlanRefusal {
-    ghost use Rattle.write_plan.specs.declared.plan.PlanRefusal.TheVariants as refusals;
-
-    ghost from_gives = { λ _ e. e ≡ refusals.OutOfMemory };
-
-    fn from(_e: OutOfMemory) -> PlanRefusal {
         PlanRefusal::OutOfMemory
     }
 }

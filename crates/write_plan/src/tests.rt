@@ -1,7 +1,7 @@
 //! Streams and their answers, worked out by hand from the format.
 
 ghost use Rattle.std.specs.Prelude.{◌≡◌, ◌≤◌, ◌<◌, None, length};
-ghost use Rattle.vol_spec.specs.StoredCells.{met_cells};
+ghost use Rattle.write_plan.specs.Plans.{planned_cells};
 
 use crate::{Chunks, Plan, PlanFault, PlanRefusal, Writes, read_writes, window};
 use chunk_grid::{byte_len, cell_box};
@@ -193,7 +193,7 @@ fn print_stream(alloc: Global, writes: &[(Box3, &[u8])]) -> Result<Vec<u8>, Allo
 // The bytes of a job's cell.
 fn fill_job(alloc: Global, plan: &Plan, scale: &Scale, job: u64) -> Result<Vec<u8>, AllocError>
     requires scale { plan.now.scale ≡ scale.now }
-    requires job { job < length (met_cells plan.now.scale plan.now.writes) }
+    requires job { job < length (planned_cells plan.now) }
 {
     let part = cell_box(scale, plan.jobs().get(job).cell);
     let len = byte_len(&part, scale.channels, scale.width) as usize;

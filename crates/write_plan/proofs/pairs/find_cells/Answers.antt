@@ -1,35 +1,17 @@
-use Rattle.std.proofs.Common.{◌∙◌, List, ℕ, arith, subst}
-use Rattle.std.specs.Prelude.{Contains}
-use Rattle.std.proofs.lemmas.List.{take_all}
-use Rattle.vol_spec.specs.StoredCells.{cell_number}
-use Rattle.write_plan.specs.Pairs.{cell_count}
-use Rattle.write_plan.proofs.FoundSteps.{AreFound, none_found, found_more, found_distinct, found_same, number_below}
+use Rattle.std.proofs.Common.{◌≡◌, ◌∙◌, ap, get_or, vec_items}
+use Rattle.std.proofs.lemmas.List.{get_or_default}
+use Rattle.write_plan.specs.declared.pairs.Pair.{Pair}
+use Rattle.write_plan.proofs.FoundSteps.{next_more, other_number, same_more, same_number}
 use Rattle.write_plan.proofs.pairs.find_cells.Goals as goal
+use Rattle.write_plan.proofs.pairs.find_cells.Goals.{then-ne+in_ok-push, else-ne}
 
-pub loop-number-init : goal.loop-number-init
-loop-number-init c = none_found c.args.scale.now c.deref-number-items.result.now c.in_ok-found.found.items c.in_ok-found.ensures.items
-
-pub find_cell-requires : goal.find_cell-requires
-find_cell-requires c =
-    number_below c.args.pairs.now c.deref-number-items.result.now c.loop-number.number-index (cell_count c.args.scale.now) c.requires.below
-    (λ number h. (c.in_ok-numbers.ensures.same number).0 (subst (λ (xs : List ℕ). Contains xs number) c.deref-number-items.ensures.value h)) c.loop-number-test.true
-
-pub loop-number-preserved : goal.loop-number-preserved
-loop-number-preserved c =
-    found_more c.args.scale.now c.deref-number-items.result.now c.loop-number.number-index c.loop-number.found.items c.push.new.self.items c.find_cell.result c.loop-number.invariant c.loop-number-test.true
-    c.find_cell.ensures.cell c.find_cell.ensures.number c.in_ok-push.ensures.items
-
-pub returns-clause-each : goal.returns-clause-each
-returns-clause-each c = let inv : AreFound c.args.scale.now c.deref-number-items.result.now c.loop-number.number-index c.loop-number.found.items = c.loop-number.invariant in inv.each
-
-pub returns-clause-distinct : goal.returns-clause-distinct
-returns-clause-distinct c =
-    let inv : AreFound c.args.scale.now c.deref-number-items.result.now c.loop-number.number-index c.loop-number.found.items = c.loop-number.invariant in
-    let whole = take_all c.loop-number.number-index c.deref-number-items.result.now (omega (arith, c.loop-number-test.false)) in
-    found_distinct c.args.scale.now c.in_ok-numbers.numbers.items c.loop-number.found.items (inv.same ∙ whole ∙ c.deref-number-items.ensures.value) c.in_ok-numbers.ensures.distinct
-
-pub returns-clause-same : goal.returns-clause-same
-returns-clause-same c cell is =
-    let inv : AreFound c.args.scale.now c.deref-number-items.result.now c.loop-number.number-index c.loop-number.found.items = c.loop-number.invariant in
-    let whole = take_all c.loop-number.number-index c.deref-number-items.result.now (omega (arith, c.loop-number-test.false)) in
-    found_same c.args.scale.now c.in_ok-numbers.numbers.items _ c.loop-number.found.items cell (inv.same ∙ whole ∙ c.deref-number-items.ensures.value) inv.each is (c.in_ok-numbers.ensures.same (cell_number c.args.scale.now cell))
+pub loop-pair-preserved : goal.loop-pair-preserved
+loop-pair-preserved c =
+    let pair : Pair = get_or c.args.pairs.now c.loop-pair.pair-index (record { number = 0; write = 0 }) in
+    let is : pair ≡ get_or c.args.pairs.now c.loop-pair.pair-index pair = get_or_default c.args.pairs.now c.loop-pair.pair-index (record { number = 0; write = 0 }) pair c.loop-pair-test.true in
+    elim c.if-ne.branch [
+      | then-ne+in_ok-push w ↦ rw w.last-is
+          (next_more c.args.scale.now c.args.pairs.now c.loop-pair.pair-index c.loop-pair.last c.loop-pair.cells.items c.if-ne.cells.items pair w.find_cell.result c.requires.ordered c.loop-pair.invariant c.loop-pair-test.true is
+          (other_number c.loop-pair.last pair.number w.if-ne.ensures) w.find_cell.ensures.cell w.find_cell.ensures.number (ap vec_items w.cells-is ∙ w.in_ok-push.ensures.items))
+      | else-ne w ↦ rw (w.last-is, w.cells-is) (same_more c.args.scale.now c.args.pairs.now c.loop-pair.pair-index c.loop-pair.last c.loop-pair.cells.items pair c.loop-pair.invariant c.loop-pair-test.true is (same_number c.loop-pair.last pair.number w.if-ne.ensures))
+    ]

@@ -1,5 +1,6 @@
-use Rattle.write_plan.proofs.FoundSteps.{AreFound}
+use Rattle.std.proofs.Common.{take}
+use Rattle.write_plan.proofs.FoundSteps.{IsSoFar}
 use Rattle.write_plan.proofs.pairs.find_cells.Given as goal
 
-abbrev pub invariant-loop-number : goal.invariant-loop-number
-invariant-loop-number l = AreFound l.scale l.number-items l.number-index l.found.items
+abbrev pub invariant-loop-pair : goal.invariant-loop-pair
+invariant-loop-pair l = IsSoFar l.scale (take l.pair-index l.pairs) l.last l.cells.items
