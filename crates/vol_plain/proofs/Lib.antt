@@ -3,6 +3,7 @@ pub mod CellSteps
 pub mod KnownScales
 pub mod ObjectSteps
 pub mod PartSteps
+pub mod ShapeSteps
 pub mod SpotSteps
 pub mod SumSteps
 pub mod ValueSteps
