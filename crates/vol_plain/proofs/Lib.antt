@@ -1,6 +1,5 @@
 pub mod Bounds
 pub mod CellSteps
-pub mod KnownScales
 pub mod ObjectSteps
 pub mod PartSteps
 pub mod ShapeSteps
