@@ -1,6 +1,6 @@
-use Rattle.std.proofs.Common.{arith}
-use Rattle.vol_plain.proofs.ValueSteps.{few_voxels, reads_within}
-use Rattle.vol_plain.proofs.values.value_by.Goals as goal
+use Rattle.std.proofs.Common.{◌≡◌, ◌==◌, arith, sym}
+use Rattle.vol_plain.proofs.ValueSteps.{few_voxels, no_fault, reads_within}
+use Rattle.vol_plain.proofs.raw.raw_value.Goals as goal
 
 pub local_index-requires-clause-small : goal.local_index-requires-clause-small
 local_index-requires-clause-small c = omega (arith, few_voxels _ _ _ c.requires.small (omega (arith, c.requires.channel)))
@@ -8,4 +8,4 @@ local_index-requires-clause-small c = omega (arith, few_voxels _ _ _ c.requires.
 pub read_value-requires-clause-within : goal.read_value-requires-clause-within
 read_value-requires-clause-within c =
     reads_within c.args.part.now c.args.channels c.args.width c.args.p c.args.c c.local_index.result _ c.requires.position c.requires.channel c.local_index.ensures
-    (omega (arith, c.byte_len-wanted.ensures, c.if-bytes-wanted.false, c.requires.small.bytes))
+    (no_fault c.args.part.now c.args.channels c.args.width c.args.bytes.now c.requires.sound)
