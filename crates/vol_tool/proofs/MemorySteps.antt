@@ -7,7 +7,7 @@ use Rattle.vol_spec.proofs.Told.{in_told}
 use Rattle.vol_spec.specs.Types.{Bytes}
 use Rattle.vol_tool.proofs.Choices.{no_front}
 use Rattle.vol_tool.specs.Runs.{Answers, Causes, Headline, IsCaused, Keeps, Leaves, Succeeds}
-use Rattle.vol_tool.specs.Seen.{Faults, OnlyReads, outlets, Seen, Tells}
+use Rattle.vol_tool.specs.Seen.{Faults, LeavesStore, outlets, Seen, Tells}
 use Rattle.vol_tool.specs.declared.status.Status.TheVariants.{NoMemory}
 
 -- only the error outlet changed
@@ -34,8 +34,8 @@ memory_leaves None before err count said = (refl, said)
 memory_leaves (Some (Cutout dataset key part)) before err count said = said
 memory_leaves (Some (Write dataset key workers)) before err count said = (refl, said)
 
-reads : (before : Seen) (err : Option Bytes) (count : ℕ) → OnlyReads before (said_only before err count)
-reads before err count = record { objects = refl; draft = refl }
+reads : (before : Seen) (err : Option Bytes) (count : ℕ) → LeavesStore before (said_only before err count)
+reads before err count = record { same_objects = refl; same_draft = refl }
 
 pub memory_keeps : (command : Option Command) (before : Seen) (err : Option Bytes) (count : ℕ) → Keeps command NoMemory before (said_only before err count)
 memory_keeps None before err count = (reads before err count, refl, refl)

@@ -73,12 +73,12 @@ shows_line OutFault m now bytes left dataset key o judges writes told = absurd (
 
 -- a refusal whose line isn't fixed puts nothing
 put_none : (refusal : WriteRefusal) (old new : Option Objects) (before after : Option Draft) → fixed_line (write_status refusal) ≡ None → KeepsStore refusal old new before after → new ≡ old
-put_none (NoScale why) old new before after other kept = kept.0
-put_none NotEmpty old new before after other kept = kept.0
-put_none (Stream fault) old new before after other kept = kept.0
-put_none (TooManyCells cells) old new before after other kept = kept.0
+put_none (NoScale why) old new before after other kept = kept.same_objects
+put_none NotEmpty old new before after other kept = kept.same_objects
+put_none (Stream fault) old new before after other kept = kept.same_objects
+put_none (TooManyCells cells) old new before after other kept = kept.same_objects
 put_none StoreFault old new before after other kept = cc other
-put_none FeedFault old new before after other kept = kept.0
+put_none FeedFault old new before after other kept = kept.same_objects
 put_none OutFault old new before after other kept = absurd kept
 put_none NoMemory old new before after other kept = cc other
 

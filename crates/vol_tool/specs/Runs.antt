@@ -7,7 +7,7 @@ use Rattle.command_line.specs.declared.commands.Command.TheVariants.{Cutout, Wri
 use Rattle.shard_writer.specs.Writing.{Drops}
 use Rattle.vol_shell.specs.Lines.{memory_line, usage_line}
 use Rattle.vol_tool.specs.Cutouts.{CanCut, CutoutLeaves, CutoutShows}
-use Rattle.vol_tool.specs.Seen.{Faults, IsLater, OnlyReads, Outlets, outlets, Seen, Silent, Tells}
+use Rattle.vol_tool.specs.Seen.{Faults, IsLater, LeavesStore, Outlets, outlets, Seen, Silent, Tells}
 use Rattle.vol_tool.specs.Storing.{CanWrite, puts, WriteJudges, WriteLeaves, WriteShows, WrittenBack}
 use Rattle.vol_tool.specs.declared.status.Status.{Status}
 use Rattle.vol_tool.specs.declared.status.Status.TheVariants.{Ok, Usage, InfoRefused, StoreFault, FeedFault, OutFault, NoMemory, DoorFault}
@@ -58,13 +58,13 @@ Leaves (Some (Write dataset key workers)) status before after = WriteLeaves stat
 
 -- What stays of the store, the feed and the door.
 abbrev pub Keeps : Option Command → Status → Seen → Seen → Type 0
-Keeps None status before after = OnlyReads before after × (after.left ≡ before.left) × (after.door ≡ before.door)
+Keeps None status before after = LeavesStore before after × (after.left ≡ before.left) × (after.door ≡ before.door)
 Keeps (Some (Cutout dataset key part)) status before after =
-    OnlyReads before after × (after.left ≡ before.left) × (after.door ≡ before.door)
+    LeavesStore before after × (after.left ≡ before.left) × (after.door ≡ before.door)
 -- no object stays half written that was begun in the call; a write that succeeds reads its feed to the end, and one without a scale
 -- doesn't read it
 Keeps (Some (Write dataset key workers)) status before after =
-    Drops before.draft after.draft × (puts status ≡ false → OnlyReads before after)
+    Drops before.draft after.draft × (puts status ≡ false → LeavesStore before after)
     × (status ≡ Ok → after.left ≡ option_map (λ _. []) before.left) × (status ≡ InfoRefused → after.left ≡ before.left)
     × (after.door ≡ before.door)
 

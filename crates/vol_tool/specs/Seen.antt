@@ -1,7 +1,7 @@
 -- What is seen of the outside before or after a call.
 use Rattle.std.specs.Prelude.{◌≡◌, ◌≤◌, ℕ, List, Option}
 use Rattle.vol_shell.specs.Effects.{Says}
-use Rattle.vol_base.specs.Outside.{Draft, Objects}
+use Rattle.vol_base.specs.Outside.{Draft, Objects, OnlyReads}
 use Rattle.vol_spec.specs.Types.{Bytes}
 
 -- how often each part of the outside failed
@@ -89,9 +89,8 @@ outlets before after = record {
 }
 
 -- a call that only reads a store: its objects and the one being written are as before
-pub record OnlyReads (before after : Seen) : Type 0 where
-  pub objects : after.objects ≡ before.objects
-  pub draft : after.draft ≡ before.draft
+abbrev pub LeavesStore : Seen → Seen → Type 0
+LeavesStore before after = OnlyReads before.objects after.objects before.draft after.draft
 
 -- no count falls
 pub record IsLater (before after : Faults) : Type 0 where

@@ -2,7 +2,7 @@
 use Rattle.std.specs.Prelude.{◌≡◌, ◌⊎◌, Bool, true, false, ℕ, ◌≤◌, ◌<◌, ◌^◌, [], length, Option, Some, None, IfSome, Result, Ok, Err, ⊤, IsOkAnd, IsErrAnd, IsSomeAnd}
 use Rattle.std.specs.Option.{option_map}
 use Rattle.vol_base.specs.declared.boxes.Box3.{Box3}
-use Rattle.vol_base.specs.Outside.{any_under, Draft, Objects}
+use Rattle.vol_base.specs.Outside.{any_under, Draft, Objects, OnlyReads}
 use Rattle.vol_spec.specs.CellNames.{folder_of}
 use Rattle.vol_spec.specs.Cut.{cut, first_fault}
 use Rattle.vol_spec.specs.Grid.{Inside}
@@ -115,13 +115,13 @@ abbrev pub KeepsStore : WriteRefusal → Option Objects → Option Objects → O
 KeepsStore refused.StoreFault old new before now = Unit {0}
 KeepsStore refused.NoMemory old new before now = Unit {0}
 KeepsStore refused.OutFault old new before now = ⊥
-KeepsStore other old new before now = (new ≡ old) × (now ≡ before)
+KeepsStore other old new before now = OnlyReads old new before now
 
 -- the same of the writes of a plan, which are refused for nothing else
 abbrev pub KeepsPlan : WriteRefusal → Option Objects → Option Objects → Option Draft → Option Draft → Type 0
 KeepsPlan refused.StoreFault old new before now = Unit {0}
 KeepsPlan refused.NoMemory old new before now = Unit {0}
-KeepsPlan (refused.TooManyCells cells) old new before now = (new ≡ old) × (now ≡ before)
+KeepsPlan (refused.TooManyCells cells) old new before now = OnlyReads old new before now
 KeepsPlan other old new before now = ⊥
 
 -- the statuses of a write after which some object may have been put

@@ -1,6 +1,7 @@
 //! The command `cutout`.
 ghost use Rattle.std.specs.Prelude.{◌≡◌, ◌≤◌, ◌+◌, ◌<◌, length, IfSome};
 ghost use Rattle.vol_base.specs.Causes.{Rose};
+ghost use Rattle.vol_base.specs.Outside.{OnlyReads};
 ghost use Rattle.vol_base.specs.Bytes.{AreBytes};
 ghost use Rattle.vol_spec.specs.Limits.{first_bytes};
 ghost use Rattle.vol_spec.specs.Raw.{raw_len};
@@ -59,8 +60,7 @@ fn read_values<S: Source>(
     requires room { length chunk.old ≡ first_bytes scale.now.width scale.now.channels scale.now.size scale.now.chunk + 1 }
     requires len { length out.old ≡ raw_len part.now scale.now.channels scale.now.width }
     ensures read { IfSome (S.objects store.old) (λ m. HasCut result m dataset.now scale.now part.now out.new) }
-    ensures objects { S.objects store.new ≡ S.objects store.old }
-    ensures draft { S.draft store.new ≡ S.draft store.old }
+    ensures kept { OnlyReads (S.objects store.old) (S.objects store.new) (S.draft store.old) (S.draft store.new) }
     ensures later { S.faults store.old ≤ S.faults store.new }
     ensures fault { result ≡ Err ReadFault.StoreFault → Rose (S.faults store.old) (S.faults store.new) }
 {
@@ -85,8 +85,7 @@ fn cut_into<S: Source, O: Outlet>(
     requires room { length chunk.old ≡ first_bytes scale.now.width scale.now.channels scale.now.size scale.now.chunk + 1 }
     requires len { length values.old ≡ raw_len part.now scale.now.channels scale.now.width }
     ensures cuts { IfSome (S.objects store.old) (λ m. CutsScale result m dataset.now scale.now part.now (O.written out.old) (O.written out.new)) }
-    ensures objects { S.objects store.new ≡ S.objects store.old }
-    ensures draft { S.draft store.new ≡ S.draft store.old }
+    ensures kept { OnlyReads (S.objects store.old) (S.objects store.new) (S.draft store.old) (S.draft store.new) }
     ensures store_later { S.faults store.old ≤ S.faults store.new }
     ensures out_later { O.faults out.old ≤ O.faults out.new }
     ensures store_fault { result ≡ Err CutoutRefusal.StoreFault → Rose (S.faults store.old) (S.faults store.new) }
@@ -112,8 +111,7 @@ fn cut_scale<S: Source, O: Outlet>(
     requires dataset { length dataset.now ≤ 200 }
     requires served { IsServed scale.now }
     ensures cuts { IfSome (S.objects store.old) (λ m. CutsScale result m dataset.now scale.now part.now (O.written out.old) (O.written out.new)) }
-    ensures objects { S.objects store.new ≡ S.objects store.old }
-    ensures draft { S.draft store.new ≡ S.draft store.old }
+    ensures kept { OnlyReads (S.objects store.old) (S.objects store.new) (S.draft store.old) (S.draft store.new) }
     ensures store_later { S.faults store.old ≤ S.faults store.new }
     ensures out_later { O.faults out.old ≤ O.faults out.new }
     ensures store_fault { result ≡ Err CutoutRefusal.StoreFault → Rose (S.faults store.old) (S.faults store.new) }
@@ -139,8 +137,7 @@ pub(crate) fn cut_out<S: Source, O: Outlet>(
     requires dataset { length dataset.now ≤ 200 }
     requires key { length key.now ≤ 200 }
     ensures cuts { IfSome (S.objects store.old) (λ m. Cuts result (stored_scale m dataset.now key.now) m dataset.now part.now (O.written out.old) (O.written out.new)) }
-    ensures objects { S.objects store.new ≡ S.objects store.old }
-    ensures draft { S.draft store.new ≡ S.draft store.old }
+    ensures kept { OnlyReads (S.objects store.old) (S.objects store.new) (S.draft store.old) (S.draft store.new) }
     ensures store_later { S.faults store.old ≤ S.faults store.new }
     ensures out_later { O.faults out.old ≤ O.faults out.new }
     ensures store_fault { result ≡ Err CutoutRefusal.StoreFault → Rose (S.faults store.old) (S.faults store.new) }

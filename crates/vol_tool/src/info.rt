@@ -1,6 +1,7 @@
 //! The scale of a data set and a key.
 ghost use Rattle.std.specs.Prelude.{◌≡◌, ◌≢◌, ◌≤◌, ◌+◌, ◌<◌, ◌^◌, length, IfOk, IfSome};
 ghost use Rattle.vol_base.specs.Causes.{Rose};
+ghost use Rattle.vol_base.specs.Outside.{OnlyReads};
 ghost use Rattle.info_doc.specs.Info.{scale_in};
 ghost use Rattle.vol_tool.specs.Scales.{info_name, is_served, IsServed, judged_info, ReadsScale, served_only, stored_scale};
 
@@ -64,8 +65,7 @@ fn read_scale_into<S: Source>(
     requires room { length buffer.old ≡ 2 ^ 20 + 1 }
     ensures read { IfSome (S.objects store.old) (λ m. ReadsScale result (stored_scale m dataset.now key.now)) }
     ensures form { IfOk result IsServed }
-    ensures objects { S.objects store.new ≡ S.objects store.old }
-    ensures draft { S.draft store.new ≡ S.draft store.old }
+    ensures kept { OnlyReads (S.objects store.old) (S.objects store.new) (S.draft store.old) (S.draft store.new) }
     ensures later { S.faults store.old ≤ S.faults store.new }
     ensures fault { result ≡ Err ScaleRefusal.StoreFault → Rose (S.faults store.old) (S.faults store.new) }
 {
@@ -88,8 +88,7 @@ pub(crate) fn read_scale<S: Source>(
     requires key { length key.now ≤ 200 }
     ensures read { IfSome (S.objects store.old) (λ m. ReadsScale result (stored_scale m dataset.now key.now)) }
     ensures form { IfOk result IsServed }
-    ensures objects { S.objects store.new ≡ S.objects store.old }
-    ensures draft { S.draft store.new ≡ S.draft store.old }
+    ensures kept { OnlyReads (S.objects store.old) (S.objects store.new) (S.draft store.old) (S.draft store.new) }
     ensures later { S.faults store.old ≤ S.faults store.new }
     ensures fault { result ≡ Err ScaleRefusal.StoreFault → Rose (S.faults store.old) (S.faults store.new) }
 {

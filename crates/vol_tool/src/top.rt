@@ -2,7 +2,7 @@
 ghost use Rattle.std.specs.Prelude.{◌≡◌, ◌≤◌, ◌⊎◌, None, Some, IfSome, ℕ, List, map, string_bytes, length, [], false};
 ghost use Rattle.std.specs.Option.{option_map};
 ghost use Rattle.vol_base.specs.Causes.{Rose};
-ghost use Rattle.vol_base.specs.Outside.{Objects};
+ghost use Rattle.vol_base.specs.Outside.{Objects, OnlyReads};
 ghost use Rattle.command_line.specs.Words.{line};
 ghost use Rattle.shard_writer.specs.Writing.{Drops};
 ghost use Rattle.vol_tool.specs.Cutouts.{CanCut, CutoutLeaves, CutoutShows};
@@ -40,8 +40,7 @@ fn run_cutout<S: Store, O: Outlet, E: Outlet>(
     ensures feed { result ≡ Status.FeedFault → ⊥ }
     ensures complete { (m : Objects) → S.objects store.old ≡ Some m → CanCut m dataset.now key.now part.now
         → (Rose (S.faults store.old) (S.faults store.new) → ⊥) → (Rose (O.faults out.old) (O.faults out.new) → ⊥) → (result ≡ Status.Ok) ⊎ (result ≡ Status.NoMemory) }
-    ensures objects { S.objects store.new ≡ S.objects store.old }
-    ensures draft { S.draft store.new ≡ S.draft store.old }
+    ensures kept { OnlyReads (S.objects store.old) (S.objects store.new) (S.draft store.old) (S.draft store.new) }
     ensures store_later { S.faults store.old ≤ S.faults store.new }
     ensures out_later { O.faults out.old ≤ O.faults out.new }
     ensures err_later { E.faults err.old ≤ E.faults err.new }
@@ -82,7 +81,7 @@ fn run_write<S: Store, F: Feed, O: Outlet, E: Outlet>(
     ensures end { result ≡ Status.Ok → F.left feed.new ≡ option_map (λ _. []) (F.left feed.old) }
     ensures unread { result ≡ Status.InfoRefused → F.left feed.new ≡ F.left feed.old }
     ensures draft { Drops (S.draft store.old) (S.draft store.new) }
-    ensures kept { puts result ≡ false → (S.objects store.new ≡ S.objects store.old) × (S.draft store.new ≡ S.draft store.old) }
+    ensures kept { puts result ≡ false → OnlyReads (S.objects store.old) (S.objects store.new) (S.draft store.old) (S.draft store.new) }
     ensures store_later { S.faults store.old ≤ S.faults store.new }
     ensures feed_later { F.faults feed.old ≤ F.faults feed.new }
     ensures out_later { O.faults out.old ≤ O.faults out.new }
