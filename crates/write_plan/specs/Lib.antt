@@ -4,5 +4,6 @@ pub mod Pairs
 pub mod PlanLaws
 pub mod Plans
 pub mod Readers
+pub mod Reading
 pub mod Stream
 pub mod WriteLists
