@@ -1,6 +1,6 @@
 #!/bin/sh
 # Times chunk ids and hashes against a plain Rust program, COUNT calls each (100 million).
-# Needs rustc, and builds the program bench_ids by `rt run`.
+# Needs rustc, and builds the program crates/bench by `rt run`.
 #
 #     bench/ids.sh [COUNT]
 set -eu

@@ -1,4 +1,4 @@
-// The same sums as crates/bench_ids, in plain Rust and with the same words.
+// The same sums of ids as crates/bench, in plain Rust and with the same words.
 
 use std::env;
 

@@ -1,17 +1,17 @@
-# For the scripts beside it, which name a program here: the proved program crates/bench_NAME against bench/NAME_plain.rs,
+# For the scripts beside it, which name a program here: the proved program crates/bench against bench/NAME_plain.rs,
 # which does the same work in plain Rust. Needs rustc, and builds the proved program by `rt run`.
 #
 #     set -- NAME
 #     . "$top/bench/programs.sh"
 
 name=$1
-proved=$top/crates/bench_$name/out/bench_$name
+proved=$top/crates/bench/out/bench
 build=$(mktemp -d)
 trap 'rm -rf "$build"' EXIT
 plain=$build/plain
 
 rustc --edition 2021 -O -o "$plain" "$top/bench/${name}_plain.rs"
-(cd "$top/crates/bench_$name" && rt run >/dev/null)
+(cd "$top/crates/bench" && rt run >/dev/null)
 
 # What both programs print with these words has to be the same.
 check() {

@@ -3,7 +3,7 @@
 # 64 x 64 x 64 wide values (200). And how much longer blocks of one voxel take in 2^20 voxels than in 2^16, both measured
 # over 20 * 2^20 voxels in all: with almost as many values as voxels, with values of which over a third have come before,
 # and with some 40 labels.
-# Needs rustc, and builds the program bench_segments by `rt run`.
+# Needs rustc, and builds the program crates/bench by `rt run`.
 #
 #     bench/segments.sh [COUNT]
 set -eu

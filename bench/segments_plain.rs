@@ -1,4 +1,4 @@
-// The same chunks as crates/bench_segments, written and read by the same steps in plain Rust, with the same words.
+// The same chunks as crates/bench, written and read by the same steps in plain Rust, with the same words.
 
 use std::env;
 

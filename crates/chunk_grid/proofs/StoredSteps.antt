@@ -12,7 +12,7 @@ use Rattle.vol_base.specs.declared.boxes.Box3.{Box3}
 use Rattle.vol_base.specs.declared.faults.ChunkFault.{ChunkFault}
 use Rattle.vol_base.specs.Boxes.{at, end, num, Covers}
 use Rattle.vol_base.specs.Outside.{Objects, any_under, is_under}
-use Rattle.vol_spec.specs.Bytes.{AreBytes}
+use Rattle.vol_base.specs.Bytes.{AreBytes}
 use Rattle.vol_spec.specs.CellNames.{folder_of, cell_name}
 use Rattle.vol_spec.specs.Chunks.{chunk_in, fault_of, fault_in, value_in}
 use Rattle.vol_spec.specs.Chunks as form

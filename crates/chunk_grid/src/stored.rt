@@ -5,7 +5,7 @@ ghost use Rattle.std.specs.FinMap as fin;
 ghost use Rattle.vol_base.specs.declared.boxes.Box3.{Box3};
 ghost use Rattle.vol_base.specs.Boxes.{Covers};
 ghost use Rattle.vol_base.specs.Outside.{Objects, any_under, is_under};
-ghost use Rattle.vol_spec.specs.Bytes.{AreBytes};
+ghost use Rattle.vol_base.specs.Bytes.{AreBytes};
 ghost use Rattle.vol_spec.specs.CellNames.{folder_of, cell_name};
 ghost use Rattle.vol_spec.specs.Chunks.{fault_in, value_in};
 ghost use Rattle.vol_spec.specs.Grid.{IsCell, whole};

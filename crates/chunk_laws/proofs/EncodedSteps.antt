@@ -4,7 +4,7 @@ use Rattle.std.specs.Prelude.{ℤ}
 use Rattle.std.proofs.lemmas.Bool.Decides.{nat_tests}
 use Rattle.vol_base.specs.Boxes.{Covers, from_begin}
 use Rattle.vol_base.specs.declared.faults.ChunkFault.{ChunkFault}
-use Rattle.vol_spec.specs.Bytes.{AreBytes}
+use Rattle.vol_base.specs.Bytes.{AreBytes}
 use Rattle.vol_spec.specs.Encodings.{by_encoding, cell_limit, chunk_fault, encoded, raw_size, sizes_in, value_at}
 use Rattle.vol_spec.specs.Grid.{IsCell, cell_box}
 use Rattle.vol_spec.specs.Limits.{padded_of}

@@ -10,7 +10,7 @@ use Rattle.vol_base.specs.declared.boxes.Box3.{Box3}
 use Rattle.vol_spec.proofs.CutSteps.{flat_map-map, in_channels, none_faulty, position_covered}
 use Rattle.vol_spec.proofs.RawSteps.{zeros_are}
 use Rattle.vol_spec.specs.BoxValues.{bytes_of, channel_of, first_some, position_of}
-use Rattle.vol_spec.specs.Bytes.{AreBytes}
+use Rattle.vol_base.specs.Bytes.{AreBytes}
 use Rattle.vol_spec.specs.CellNames.{folder_of}
 use Rattle.vol_spec.specs.Chunks.{value_in}
 use Rattle.vol_spec.specs.Cut.{cut, faulty, first_fault}

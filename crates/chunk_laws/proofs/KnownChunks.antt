@@ -75,11 +75,11 @@ not_seg block e = absurd (cc e)
 no_sharding : {A : Type 0} (x : Sharding) → None ≡ Some x → A
 no_sharding x e = absurd (cc e)
 
-two_codes : length (pairs (cell_counts (2 ∷ 1 ∷ 1 ∷ []) ones)) ≤ 64
+pub two_codes : length (pairs (cell_counts (2 ∷ 1 ∷ 1 ∷ []) ones)) ≤ 64
 unfolding pairs
 two_codes = lit≤ tt
 
-ones_blocks : (block : List ℕ) → IsSeg (Seg ones) block → AreBlocks block
+pub ones_blocks : (block : List ℕ) → IsSeg (Seg ones) block → AreBlocks block
 ones_blocks block e = subst AreBlocks (ap blocks_of e) (by_axis (λ axis. (1 ≤ slice_index ones axis) × (slice_index ones axis ≤ 2 ^ 24)) (lit≤ tt, lit≤ tt) (lit≤ tt, lit≤ tt) (lit≤ tt, lit≤ tt))
 
 -- one chunk of 2 by 2 voxels, not sharded

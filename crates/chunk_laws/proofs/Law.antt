@@ -9,7 +9,7 @@ use Rattle.vol_base.specs.Boxes.{Covers}
 use Rattle.vol_base.specs.Outside.{Objects, any_under, is_under}
 use Rattle.vol_base.specs.declared.faults.Fault.{Fault}
 use Rattle.vol_spec.proofs.PutSteps.{get-none_under, put_in-other}
-use Rattle.vol_spec.specs.Bytes.{AreBytes}
+use Rattle.vol_base.specs.Bytes.{AreBytes}
 use Rattle.vol_spec.specs.Chunks.{chunk_in, judged, unless, value_of}
 use Rattle.vol_spec.specs.CellNames.{cell_name, folder_of, box_name}
 use Rattle.vol_spec.specs.Encodings.{cell_limit, chunk_fault, encoded, raw_size, value_at}

@@ -1,4 +1,4 @@
-mod KnownChunks
+pub mod KnownChunks
 pub mod Ascending
 pub mod CodeSteps
 pub mod EncodedSteps

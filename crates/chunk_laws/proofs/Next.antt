@@ -6,10 +6,9 @@ use Rattle.minishard.proofs.ColumnSteps.{length-ids, length-starts}
 use Rattle.minishard.proofs.ReadBack.{length-numbers}
 use Rattle.vol_spec.specs.IndexBytes.{index_bytes, stored, numbers}
 use Rattle.vol_spec.specs.declared.row.Row.{Row}
-use Rattle.chunk_laws.proofs.Sums.{pieces_more}
+use Rattle.chunk_laws.specs.Rooms.{room}
 use Rattle.std.proofs.lemmas.Bool.Decides.{nat_tests}
-use Rattle.chunk_laws.proofs.Sums.{room}
-use Rattle.chunk_laws.proofs.Sums.{joint_cons, room_cons, joint_first}
+use Rattle.chunk_laws.proofs.Sums.{joint_cons, joint_first, pieces_more, room_cons}
 use Rattle.vol_spec.specs.Shards.{Chunk, joint, before, of, body, bodies, rows_of, row_of}
 
 room_first : (p : Chunk → Bool) (c : Chunk) (cs : List Chunk) → room (filter p (c ∷ cs)) ≡ (if p c then length c.bytes + 24 else 0) + room (filter p cs)

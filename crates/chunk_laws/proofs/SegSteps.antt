@@ -6,7 +6,7 @@ use Rattle.std.proofs.lemmas.Bool.{cases_eq}
 use Rattle.std.proofs.lemmas.Grind.{not_there}
 use Rattle.std.proofs.lemmas.Nat.{le-div, mul-le}
 use Rattle.vol_base.specs.Boxes.{Covers, at, from_begin, num, size as box_size}
-use Rattle.vol_spec.specs.Bytes.{AreBytes}
+use Rattle.vol_base.specs.Bytes.{AreBytes}
 use Rattle.vol_spec.specs.Encodings.{blocks_of, raw_size, sizes_in}
 use Rattle.vol_spec.specs.Grid.{IsCell, cell_begin, cell_box, cell_size}
 use Rattle.vol_spec.specs.Limits.{first_size, padded_of, padded_voxels, rounded}
@@ -53,7 +53,7 @@ module _ (s : Scale) (cell block : List ℕ) (seg : s.encoding ≡ Seg block) wh
       (λ (n : s.width ≢ 4). ⊎_elim (λ (e : s.width ≡ 8). wide_or_not s.width (inr e)) (λ (k : s.width ≢ 8). absurd (not_there (s.wide_ok block seg) (⊎_elim n k))) (cases_eq s.width 8))
       (cases_eq s.width 4)
 
-  block_limits : (axis : ℕ) → axis < 3 → (0 < slice_index (blocks_of s.encoding) axis) × (slice_index (blocks_of s.encoding) axis ≤ 2 ^ 24)
+  pub block_limits : (axis : ℕ) → axis < 3 → (0 < slice_index (blocks_of s.encoding) axis) × (slice_index (blocks_of s.encoding) axis ≤ 2 ^ 24)
   block_limits axis h = subst (λ (e : Encoding). (0 < slice_index (blocks_of e) axis) × (slice_index (blocks_of e) axis ≤ 2 ^ 24)) (sym seg) (s.block_ok block seg axis h)
 
   padded_same : padded_of s.encoding s.channels s.size s.chunk ≡ padded_voxels (blocks_of s.encoding) s.channels s.size s.chunk
@@ -65,7 +65,7 @@ module _ (s : Scale) (cell block : List ℕ) (seg : s.encoding ≡ Seg block) wh
   pub raw_same : seg_raw_len (sizes_in s cell) ≡ raw_size s cell
   raw_same = ap (λ w. cell_size s cell 0 * cell_size s cell 1 * cell_size s cell 2 * s.channels * w) width_is
 
-  size_limits : IsCell s cell → (axis : ℕ) → axis < 3 → (0 < box_size (cell_box s cell) axis) × (cell_size s cell axis ≤ 2 ^ 40)
+  pub size_limits : IsCell s cell → (axis : ℕ) → axis < 3 → (0 < box_size (cell_box s cell) axis) × (cell_size s cell axis ≤ 2 ^ 40)
   size_limits is axis h = (cell_box-IsSome s cell is axis h, (let c = s.chunk_ok axis h in omega (arith, c.1)))
 
   pub is_shape : IsCell s cell → IsShape (sizes_in s cell)
@@ -107,10 +107,14 @@ module _ (s : Scale) (cell block : List ℕ) (seg : s.encoding ≡ Seg block) wh
       let l = length_seg (sizes_in s cell) raw in
       omega (arith, p, a, l)
 
+  -- a voxel of the cell is one of the chunk
+  pub in_chunk : (p : List ℤ) → Covers (cell_box s cell) p → InChunk (sizes_in s cell) (from_begin (cell_box s cell) p 0) (from_begin (cell_box s cell) p 1) (from_begin (cell_box s cell) p 2)
+  in_chunk p covered =
+      let place = λ (axis : ℕ) (l : axis < 3). place_of (at (cell_box s cell).begin axis) (at p axis) (box_size (cell_box s cell) axis) (covered axis l).0 (covered axis l).1 in
+      record { on_x = place 0 (lit< tt); on_y = place 1 (lit< tt); on_z = place 2 (lit< tt) }
+
   pub seg_value : (raw : List ℕ) (p : List ℤ) (c : ℕ) → IsCell s cell → Writable → AreBytes raw → Covers (cell_box s cell) p → c < s.channels
       → seg_at (seg_bytes (sizes_in s cell) raw) (sizes_in s cell) (from_begin (cell_box s cell) p 0) (from_begin (cell_box s cell) p 1) (from_begin (cell_box s cell) p 2) c ≡ raw_at (cell_box s cell) s.width raw p c
   seg_value raw p c is can bytes covered h =
-      let place = λ (axis : ℕ) (l : axis < 3). place_of (at (cell_box s cell).begin axis) (at p axis) (box_size (cell_box s cell) axis) (covered axis l).0 (covered axis l).1 in
-      let inside : InChunk (sizes_in s cell) (from_begin (cell_box s cell) p 0) (from_begin (cell_box s cell) p 1) (from_begin (cell_box s cell) p 2) = record { on_x = place 0 (lit< tt); on_y = place 1 (lit< tt); on_z = place 2 (lit< tt) } in
-      reads_back (sizes_in s cell) raw (is_shape is) bytes (all_padded can) (one_padded can) (from_begin (cell_box s cell) p 0) (from_begin (cell_box s cell) p 1) (from_begin (cell_box s cell) p 2) c inside h
+      reads_back (sizes_in s cell) raw (is_shape is) bytes (all_padded can) (one_padded can) (from_begin (cell_box s cell) p 0) (from_begin (cell_box s cell) p 1) (from_begin (cell_box s cell) p 2) c (in_chunk p covered) h
       ∙ ap (λ w. digit raw w (num (cell_box s cell) p c)) width_is

@@ -17,7 +17,8 @@ use Rattle.chunk_laws.proofs.Ascending.{lower, nothing}
 use Rattle.chunk_laws.proofs.FoundAgain.{length_entries}
 use Rattle.vol_spec.proofs.PlacedSteps.{Entry, by_key}
 use Rattle.chunk_laws.proofs.Spots.{chunk_at}
-use Rattle.chunk_laws.proofs.Sums.{joint_cons, joint_first, room, room_cons, room_fits}
+use Rattle.chunk_laws.proofs.Sums.{joint_cons, joint_first, room_cons, room_fits}
+use Rattle.chunk_laws.specs.Rooms.{room}
 
 abbrev pub chosen_in : List Entry → ℕ → ℕ → List Chunk
 chosen_in es k m = of (in_shard es k) m

@@ -1,15 +1,12 @@
 -- Sums over chunks, one chunk on.
 use Rattle.std.proofs.Common.{◌≡◌, ℕ, zero, suc, ◌+◌, ◌≤◌, Bool, true, false, if◌then◌else◌, List, [], ◌∷◌, ◌++◌, length, arith, append_assoc, ap, ◌∙◌, sym}
 use Rattle.std.specs.List.{range_with_len}
-use Rattle.std.specs.Prelude.{filter, flat_map, sum_by}
+use Rattle.std.specs.Prelude.{filter, flat_map}
 use Rattle.std.proofs.lemmas.Grind.{flat_map-append}
 use Rattle.std.proofs.lemmas.List.{append-nil}
 use Rattle.std.proofs.lemmas.List.Sums.{sum_by_from}
 use Rattle.vol_spec.specs.Shards.{Chunk, joint}
-
--- what chunks take in a shard: their lengths, and a row of 24 bytes for each
-abbrev pub room : List Chunk → ℕ
-room cs = sum_by (λ (c : Chunk). length c.bytes + 24) cs
+use Rattle.chunk_laws.specs.Rooms.{room}
 
 pub joint_cons : (c : Chunk) (cs : List Chunk) → joint (c ∷ cs) ≡ length c.bytes + joint cs
 joint_cons c cs = sum_by_from (λ (d : Chunk). length d.bytes) (0 + length c.bytes) cs ∙ (omega arith)
@@ -34,7 +31,7 @@ room_fits p (c ∷ cs) = let rest = room_fits p cs in by (p c) rest
     by true rest = omega (arith, room_cons c (filter p cs), room_cons c cs)
     by false rest = omega (arith, room_cons c cs)
 
-range_more : (a n : ℕ) → range_with_len a (n + 1) ≡ range_with_len a n ++ (a + n) ∷ []
+pub range_more : (a n : ℕ) → range_with_len a (n + 1) ≡ range_with_len a n ++ (a + n) ∷ []
 range_more a zero = let e : a ≡ a + 0 = omega arith in ap (λ k. k ∷ []) e
 range_more a (suc n) =
     let up : suc n + 1 ≡ suc (n + 1) = omega arith in

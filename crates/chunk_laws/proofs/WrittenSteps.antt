@@ -8,7 +8,7 @@ use Rattle.vol_base.specs.Boxes.{Covers, voxels}
 use Rattle.vol_base.specs.Outside.{Objects, any_under}
 use Rattle.vol_base.specs.declared.boxes.Box3.{Box3}
 use Rattle.vol_spec.proofs.RawSteps.{length-written_raw, raw_at-written_raw}
-use Rattle.vol_spec.specs.Bytes.{AreBytes}
+use Rattle.vol_base.specs.Bytes.{AreBytes}
 use Rattle.vol_spec.specs.Chunks.{chunk_in, fault_in, fault_of, value_in, value_of}
 use Rattle.vol_spec.specs.CellNames.{folder_of}
 use Rattle.vol_spec.specs.BoxValues.{bytes_of, channel_of, position_of}

@@ -1,6 +1,7 @@
 //! The values of a part, read from the objects of its cells.
 ghost use Rattle.std.specs.Prelude.{◌≡◌, ◌+◌, ◌<◌, ◌≤◌, ◌^◌, length, take, IfSome, None, Some};
 ghost use Rattle.vol_base.specs.Causes.{Rose};
+ghost use Rattle.vol_base.specs.Outside.{OnlyReads};
 ghost use Rattle.std.specs.FinMap as map;
 ghost use Rattle.vol_spec.specs.Chunks.{chunk_in};
 ghost use Rattle.vol_spec.specs.RawChunks.{chunk_of};
@@ -35,8 +36,7 @@ fn read_chunk<S: Source>(
 ) -> Result<bool, CellFault>
     requires room { length chunk.old ≡ raw_len cell.now channels width + 1 }
     ensures shown { IfSome (S.objects store.old) (λ m. Shows result (take (raw_len cell.now channels width) chunk.new) (chunk_of cell.now channels width (map.get m name.now))) }
-    ensures objects { S.objects store.new ≡ S.objects store.old }
-    ensures draft { S.draft store.new ≡ S.draft store.old }
+    ensures kept { OnlyReads (S.objects store.old) (S.objects store.new) (S.draft store.old) (S.draft store.new) }
     ensures later { S.faults store.old ≤ S.faults store.new }
     ensures fault { result ≡ Err CellFault.NotRead → Rose (S.faults store.old) (S.faults store.new) }
 {
@@ -90,8 +90,7 @@ fn read_cell<S: Source>(
     requires limit { length out.old ≤ 2 ^ 30 }
     ensures read { IfSome (S.objects store.old) (λ m. Reads result (chunk_of cell.now channels width (map.get m name.now))
         (Took cell.now part.now channels width (chunk_of cell.now channels width (map.get m name.now)) out.old out.new)) }
-    ensures objects { S.objects store.new ≡ S.objects store.old }
-    ensures draft { S.draft store.new ≡ S.draft store.old }
+    ensures kept { OnlyReads (S.objects store.old) (S.objects store.new) (S.draft store.old) (S.draft store.new) }
     ensures later { S.faults store.old ≤ S.faults store.new }
     ensures fault { result ≡ Err CellFault.NotRead → Rose (S.faults store.old) (S.faults store.new) }
 {
@@ -132,8 +131,7 @@ fn read_one<S: Source>(
     requires limit { length out.old ≤ 2 ^ 30 }
     ensures read { IfSome (S.objects store.old) (λ m. Reads result (chunk_in m dataset.now scale.now cell)
         (Took (box_of scale.now cell) part.now scale.now.channels scale.now.width (chunk_in m dataset.now scale.now cell) out.old out.new)) }
-    ensures objects { S.objects store.new ≡ S.objects store.old }
-    ensures draft { S.draft store.new ≡ S.draft store.old }
+    ensures kept { OnlyReads (S.objects store.old) (S.objects store.new) (S.draft store.old) (S.draft store.new) }
     ensures later { S.faults store.old ≤ S.faults store.new }
     ensures fault { result ≡ Err CellFault.NotRead → Rose (S.faults store.old) (S.faults store.new) }
 {
@@ -179,8 +177,7 @@ pub fn read_cells<S: Source>(
     requires len { length out.old ≡ raw_len part.now scale.now.channels scale.now.width }
     requires limit { length out.old ≤ 2 ^ 30 }
     ensures read { IfSome (S.objects store.old) (λ m. ReadsAll result m dataset.now scale.now part.now out.new) }
-    ensures objects { S.objects store.new ≡ S.objects store.old }
-    ensures draft { S.draft store.new ≡ S.draft store.old }
+    ensures kept { OnlyReads (S.objects store.old) (S.objects store.new) (S.draft store.old) (S.draft store.new) }
     ensures later { S.faults store.old ≤ S.faults store.new }
     ensures fault { result ≡ Err ReadFault.StoreFault → Rose (S.faults store.old) (S.faults store.new) }
 {

@@ -3,7 +3,7 @@ use Rattle.std.proofs.Common.{◌≡◌, ◌⊎◌, inl, inr, ⊎_elim, refl, ap
 use Rattle.std.proofs.Common.{ℕ, ◌+◌, ◌<◌, ◌≤◌, ◌==◌, ◌&&◌, Bool, true, false, IsTrue, List, slice_index, Some, None}
 use Rattle.std.proofs.lemmas.Bool.Decides.{nat_tests}
 use Rattle.equal_values.specs.Earlier.{coded, earlier}
-use Rattle.equal_values.specs.Chains.{group_at, is_first, is_member}
+use Rattle.equal_values.specs.Members.{group_at, is_first, is_member}
 use Rattle.equal_values.proofs.Ranges.{IsFound, IsMissed, first_passes, found, none_passes}
 
 pub eq_is : (a b : ℕ) → IsTrue (a == b) → a ≡ b

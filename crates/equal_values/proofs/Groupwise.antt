@@ -1,6 +1,7 @@
 -- Where another group begins, the index is empty.
 use Rattle.std.proofs.Common.{◌≡◌, ◌≢◌, ℕ, ◌+◌, ◌-◌, ◌<◌, IsTrue, List, length, slice_index, arith, inl}
-use Rattle.equal_values.specs.Chains.{IsIndex, group_at, is_member}
+use Rattle.equal_values.specs.Chains.{IsIndex}
+use Rattle.equal_values.specs.Members.{group_at, is_member}
 use Rattle.equal_values.specs.Orders.{IsOrder}
 use Rattle.equal_values.proofs.Firsts.{member_group}
 

@@ -3,7 +3,7 @@ mod Firsts
 pub mod Homes
 pub mod Indexed
 mod Orderly
-mod Ranges
+pub mod Ranges
 mod Sites
 mod Sorted
 mod Walks

@@ -1,18 +1,17 @@
--- A walk through the index.
-use Rattle.std.proofs.Common.{◌≡◌, ◌≢◌, ⊎_elim, sym, subst, arith}
-use Rattle.std.proofs.Common.{ℕ, ◌+◌, ◌-◌, ◌<◌, IsTrue, List, slice_index, Some}
+-- What the index has of an equal value.
+use Rattle.std.proofs.Common.{◌≡◌, ◌==◌, ap, sym, ℕ, List, Option, Some, None, slice_index}
+use Rattle.equal_values.specs.Chains.{IsFound}
 use Rattle.equal_values.specs.Earlier.{earlier}
-use Rattle.equal_values.specs.Chains.{LeadsTo, is_first, is_member}
-use Rattle.equal_values.proofs.Firsts.{first_here, member_first}
+use Rattle.equal_values.specs.Hashes.{group_of}
+use Rattle.equal_values.specs.Members.{group_at, is_member}
+use Rattle.equal_values.proofs.Firsts.{eq_is, first_here, first_member, is_eq, member_first, none_here}
 
--- an equal one in the chain is the first
-pub walk_finds : (hash : ℕ → ℕ) (xs : List ℕ) (q k h cursor : ℕ) → cursor ≢ 0
-    → LeadsTo hash (is_member xs q) h k cursor → slice_index xs (cursor - 1) ≡ slice_index xs k
-    → Some (cursor - 1) ≡ earlier xs k
-walk_finds hash xs q k h cursor some leads equal = ⊎_elim
-    (λ (z : cursor ≡ 0). absurd (some z))
-    (λ (t : (j : ℕ) × (cursor ≡ j + 1) × (j < k) × IsTrue (is_member xs q j) × (hash j ≡ h)).
-    let e : t.0 ≡ cursor - 1 = omega (arith, t.1) in
-    let first : IsTrue (is_first xs (cursor - 1)) = subst (λ i. IsTrue (is_first xs i)) e (member_first xs q t.0 t.3) in
-    sym (first_here xs k (cursor - 1) (omega (arith, t.1, t.2)) equal first))
-    leads
+-- it is the first of it
+pub found_is : (xs : List ℕ) (k : ℕ) (found : Option ℕ)
+    → IsFound (is_member xs (group_at xs k)) (λ j. slice_index xs j == slice_index xs k) k found → found ≡ earlier xs k
+found_is xs k None none =
+    let group = group_at xs k in
+    sym (none_here xs k (λ j l p e. none j l (first_member xs group j (ap group_of e) p) (is_eq (slice_index xs j) (slice_index xs k) e)))
+found_is xs k (Some j) t =
+    let equal = eq_is (slice_index xs j) (slice_index xs k) t.2 in
+    sym (first_here xs k j t.0 equal (member_first xs (group_at xs k) j t.1))

@@ -8,6 +8,7 @@ ghost use Rattle.equal_values.specs.Reserved.{most_of};
 mod finder;
 mod group;
 mod hash;
+pub mod index;
 mod search;
 #[cfg(test)]
 mod tests;

@@ -3,18 +3,36 @@
 ghost use Rattle.std.specs.Prelude.{◌≡◌, ◌+◌, ◌*◌, ◌/◌, ◌^◌, ◌<◌, ◌≤◌, ℕ, length, slice_index, slice_set, IsTrue, max};
 ghost use Rattle.equal_values.specs.Earlier.{earlier as earlier_of, coded};
 ghost use Rattle.equal_values.specs.Orders.{IsOrder};
-ghost use Rattle.equal_values.specs.Chains.{IsIndex, group_at, home_at, is_member, spread};
+ghost use Rattle.equal_values.specs.Chains.{IsIndex};
+ghost use Rattle.equal_values.specs.Members.{group_at, home_at, is_member};
 
 use crate::hash::{GROUPS, find_group, hash};
+use crate::index::{Sought, add, clear, find_equal, spread_hash};
 
-// The place of a hash among so many, by its high half.
-fn spread_hash(h: u64, places: usize) -> usize
-    requires some { 0 < places }
-    requires few { places < 2 ^ 32 }
-    ensures value { result ≡ spread h places }
-    ensures below { result < places }
-{
-    (((h >> 32) * places as u64) >> 32) as usize
+// A position whose value is sought among those before it, in the index of its group.
+#[derive(Clone, Copy)]
+struct Position<'a> {
+    moved: &'a [u64],
+    at: usize,
+}
+
+impl Sought for Position<'_> {
+    ghost use Rattle.std.specs.Prelude.{◌==◌, ◌<◌, slice_index, length};
+    ghost use Rattle.equal_values.specs.Members.{group_at, home_at, is_member};
+
+    ghost number = { λ p. p.at };
+
+    ghost home_of = { λ p. home_at p.moved.now };
+
+    ghost placed = { λ p. is_member p.moved.now (group_at p.moved.now p.at) };
+
+    ghost equals = { λ p j. slice_index p.moved.now j == slice_index p.moved.now p.at };
+
+    ghost ready = { λ p. p.at < length p.moved.now };
+
+    fn is_equal(&self, j: usize) -> bool {
+        self.moved[j] == self.moved[self.at]
+    }
 }
 
 // The first position whose value equals that of position a, if it is before a.
@@ -26,31 +44,7 @@ fn find_position(moved: &[u64], heads: &[u32], next: &[u32], home: usize, a: usi
     requires moved { a < length moved.now }
     ensures { result ≡ earlier_of moved.now a }
 {
-    let value = moved[a];
-    let mut cursor = heads[home] as usize;
-    while cursor != 0 {
-        let b = cursor - 1;
-        if moved[b] == value {
-            return Some(b);
-        }
-        cursor = next[b] as usize;
-    }
-    None
-}
-
-// Puts position a, whose value is there for the first time, into the index.
-fn add_position(_moved: &[u64], heads: &mut [u32], next: &mut [u32], home: usize, a: usize)
-    requires index { IsIndex (home_at _moved.now (length heads.old)) (is_member _moved.now (group_at _moved.now a)) heads.old next.old a }
-    requires home { home ≡ home_at _moved.now (length heads.old) a }
-    requires some { 0 < length heads.old }
-    requires heads { home < length heads.old }
-    requires next { a < length next.old }
-    requires small { a + 1 < 2 ^ 32 }
-    requires first { IsTrue (is_member _moved.now (group_at _moved.now a) a) }
-    ensures { IsIndex (home_at _moved.now (length heads.old)) (is_member _moved.now (group_at _moved.now a)) heads.new next.new (a + 1) }
-{
-    next[a] = heads[home];
-    heads[home] = (a + 1) as u32;
+    find_equal(&Position { moved, at: a }, heads, next, home)
 }
 
 // The answer for the value at position a, which is put into the index where it is new.
@@ -78,16 +72,10 @@ fn search_position(
     match find_position(moved, heads, next, home, a) {
         Some(b) => order[b] + 1,
         None => {
-            add_position(moved, heads, next, home, a);
+            add(heads, next, home, a);
             0
         }
     }
-}
-
-fn clear(numbers: &mut [u32])
-    ensures { (i : ℕ) → i < length numbers.new → slice_index numbers.new i ≡ 0 }
-{
-    numbers.fill(0);
 }
 
 // Puts a number at a place that has 0. Where most values stand once, most numbers are 0, and places far from each other

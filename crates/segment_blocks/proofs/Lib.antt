@@ -12,15 +12,12 @@ pub mod Field
 pub mod Fills
 pub mod Firsts
 pub mod Gathered
-pub mod Homes
-pub mod Indexed
 pub mod Judged
 pub mod Limits
 pub mod Lines
 pub mod Members
 pub mod Numbered
 pub mod Offsets
-pub mod Owners
 pub mod Packing
 pub mod Packs
 pub mod Places
@@ -38,6 +35,5 @@ pub mod Tables
 pub mod Tabulated
 pub mod Values
 pub mod VoxelSteps
-pub mod Walks
 pub mod Wholes
 pub mod Zeros

@@ -15,7 +15,7 @@ use Rattle.segment_blocks.specs.Stored.{AreStored, Candidate, HasTables, hash_at
 use Rattle.segment_blocks.proofs.Equal.{same_is}
 use Rattle.equal_values.proofs.Indexed.{skipped}
 use Rattle.segment_blocks.proofs.Members.{indexed_places}
-use Rattle.segment_blocks.proofs.Owners.{first_passes, none_passes}
+use Rattle.equal_values.proofs.Ranges.{first_passes, none_passes}
 use Rattle.segment_blocks.proofs.VoxelSteps.{either}
 
 -- the first of a range that passes, or none does

@@ -14,7 +14,7 @@ use Rattle.segment_blocks.specs.Shape.{IsShape}
 use Rattle.segment_blocks.specs.Singles.{is_single, numbered}
 use Rattle.segment_blocks.proofs.Equal.{same_is}
 use Rattle.segment_blocks.proofs.Offsets.{first_inside}
-use Rattle.segment_blocks.proofs.Owners.{first_passes, none_passes}
+use Rattle.equal_values.proofs.Ranges.{first_passes, none_passes}
 use Rattle.segment_blocks.proofs.Settling.{equal, first_or_none, is_placed, owner_self}
 use Rattle.segment_blocks.proofs.VoxelSteps.{either}
 

@@ -5,13 +5,13 @@ use Rattle.std.proofs.Math.Nat.{min-le_left}
 use Rattle.vol_spec.specs.Limits.{rounded}
 use Rattle.vol_spec.specs.SegSizes.{width_of}
 
-rounded_small : (s b : ℕ) → s ≤ 32 → b ≤ 32 → rounded (min s s) b ≤ 64
+rounded_small : (s b : ℕ) → s ≤ 32 → b ≤ 33 → rounded (min s s) b ≤ 64
 rounded_small s b hs hb =
     let e = div-add-mod' (min s s + b - 1) b in
     let m = min-le_left s s in
     omega arith
 
-pub padded_small : (x y z p q r n : ℕ) → x ≤ 32 → y ≤ 32 → z ≤ 32 → p ≤ 32 → q ≤ 32 → r ≤ 32 → n ≤ 4
+pub padded_small : (x y z p q r n : ℕ) → x ≤ 32 → y ≤ 32 → z ≤ 32 → p ≤ 33 → q ≤ 33 → r ≤ 33 → n ≤ 4
     → rounded (min x x) p * rounded (min y y) q * rounded (min z z) r * n ≤ 2 ^ 20
 padded_small x y z p q r n hx hy hz hp hq hr hn =
     let a : rounded (min x x) p * rounded (min y y) q ≤ 64 * 64 = mul-le _ _ _ _ (rounded_small x p hx hp) (rounded_small y q hy hq) in

@@ -26,7 +26,7 @@ struct Known {
 }
 
 // Spelled as this writer does. The words were found by hand or by another program.
-const SPELLED: [Known; 13] = [
+const SPELLED: [Known; 14] = [
     // wide values in blocks of one voxel, the third as the first
     Known {
         size: [3, 1, 1],
@@ -149,6 +149,24 @@ const SPELLED: [Known; 13] = [
         ],
         values: &[8, 7, 9, 9, 7, 1099511627776],
     },
+    // sizes and blocks that differ on each axis
+    Known {
+        size: [3, 4, 5],
+        block: [2, 2, 2],
+        channels: 1,
+        wide: false,
+        words: &[
+            1, 0x02000019, 24, 0x0100001e, 29, 0x02000021, 32, 0x01000025, 36, 0x02000019, 39,
+            0x01000025, 40, 0x02000019, 41, 0x0100001e, 42, 0x02000021, 43, 0x01000025, 44,
+            0x0200002e, 45, 0x01000025, 49, 17844, 1, 3, 4, 5, 65, 2, 4, 9794, 1, 4, 5, 16, 1, 2,
+            33624, 4, 17844, 65, 38, 1, 88, 1, 3, 4, 4,
+        ],
+        values: &[
+            1, 3, 4, 5, 4, 2, 5, 1, 1, 1, 4, 1, 3, 3, 2, 1, 3, 4, 5, 4, 2, 5, 1, 1, 1, 4, 1, 3, 3,
+            2, 1, 3, 4, 5, 4, 2, 5, 1, 1, 1, 4, 1, 3, 3, 2, 1, 3, 4, 5, 4, 2, 5, 1, 1, 1, 4, 1, 3,
+            3, 2,
+        ],
+    },
 ];
 
 // Spelled otherwise: two channels that share their bytes, 32 bits to an index, and a word that nothing refers to.
@@ -184,7 +202,7 @@ fn shape(size: [u64; 3], block: [u64; 3], channels: u32, wide: bool) -> Option<S
     ensures { IfSome result (λ s. padded_in (sizes_of s) ≤ 2 ^ 20) }
 {
     for axis in 0..3 {
-        if size[axis] < 1 || size[axis] > 32 || block[axis] < 1 || block[axis] > 32 {
+        if size[axis] < 1 || size[axis] > 32 || block[axis] < 1 || block[axis] > 33 {
             return None;
         }
     }
@@ -289,28 +307,48 @@ fn most_zeros(alloc: Global) -> Result<Vec<u8>, OutOfMemory>
     }
 }
 
-fn encoded(alloc: Global, shape: &SegShape, raw: &[u8]) -> Result<Vec<u8>, OutOfMemory>
+// The length of what is written of a chunk's values.
+fn encoded(
+    alloc: Global,
+    shape: &SegShape,
+    raw: &[u8],
+    out: &mut [u8],
+) -> Result<usize, OutOfMemory>
     requires limit { padded_in (sizes_of shape.now) ≤ 2 ^ 20 }
     requires raw { length raw.now ≡ raw_len (sizes_of shape.now) }
+    requires out { length out.old ≡ MOST }
+    ensures { IfOk result (λ len. len ≤ MOST) }
 {
-    let mut out = most_zeros(alloc)?;
     let mut scratch = Scratch::reserve(alloc, shape)?;
-    let len = encode(raw, shape, &mut scratch, &mut out);
-    out.truncate(len);
-    Ok(out)
+    let len = encode(raw, shape, &mut scratch, out);
+    Ok(len)
+}
+
+fn test_spelled(rt: &impl Abort, alloc: Global, known: &Known, out: &mut [u8]) -> Result<(), Fail>
+    requires { length out.old ≡ MOST }
+{
+    let shape = shape(known.size, known.block, known.channels, known.wide).ok_or("shape")?;
+    let raw = values_to_raw(alloc, known.values, known.wide)?;
+    assert_eq!(rt; raw.len(), count_bytes(&shape));
+    let len = encoded(alloc, &shape, &raw, out).ok().ok_or("memory")?;
+    let wanted = words_to_bytes(alloc, known.words)?;
+    assert_eq!(rt; &out[..len], wanted.as_slice());
+    Ok(())
+}
+
+fn test_all_spelled(rt: &impl Abort, alloc: Global, out: &mut [u8]) -> Result<(), Fail>
+    requires { length out.old ≡ MOST }
+{
+    for known in &SPELLED {
+        test_spelled(rt, alloc, known, out)?;
+    }
+    Ok(())
 }
 
 #[test]
 fn encodes_known_words(rt: HostRuntime) -> Result<(), Fail> {
-    for known in &SPELLED {
-        let shape = shape(known.size, known.block, known.channels, known.wide).ok_or("shape")?;
-        let raw = values_to_raw(rt.alloc(), known.values, known.wide)?;
-        assert_eq!(rt; raw.len(), count_bytes(&shape));
-        let bytes = encoded(rt.alloc(), &shape, &raw).ok().ok_or("memory")?;
-        let wanted = words_to_bytes(rt.alloc(), known.words)?;
-        assert_eq!(rt; bytes.as_slice(), wanted.as_slice());
-    }
-    Ok(())
+    let mut out = most_zeros(rt.alloc()).ok().ok_or("memory")?;
+    test_all_spelled(&rt, rt.alloc(), &mut out)
 }
 
 // Values that rise from 0 in one block: 288 of them take 16 bits to an index.
@@ -328,10 +366,14 @@ fn encodes_sixteen_bits(rt: HostRuntime) -> Result<(), Fail> {
     }
     let raw = values_to_raw(rt.alloc(), &values, false)?;
     assert_eq!(rt; raw.len(), count_bytes(&shape));
-    let bytes = encoded(rt.alloc(), &shape, &raw).ok().ok_or("memory")?;
+    let mut out = most_zeros(rt.alloc()).ok().ok_or("memory")?;
+    let len = encoded(rt.alloc(), &shape, &raw, &mut out)
+        .ok()
+        .ok_or("memory")?;
+    let bytes = &out[..len];
     let wanted = words_to_bytes(rt.alloc(), &words)?;
-    assert_eq!(rt; bytes.as_slice(), wanted.as_slice());
-    let read = decoded(rt.alloc(), &bytes, &shape)?.ok().ok_or("fault")?;
+    assert_eq!(rt; bytes, wanted.as_slice());
+    let read = decoded(rt.alloc(), bytes, &shape)?.ok().ok_or("fault")?;
     assert_eq!(rt; read, values);
     Ok(())
 }
@@ -341,7 +383,10 @@ fn tells_the_first_fault(rt: HostRuntime) -> Result<(), Fail> {
     let pair = shape([2, 1, 1], [2, 1, 1], 1, false).ok_or("shape")?;
     let clipped = shape([1, 1, 1], [2, 1, 1], 1, false).ok_or("shape")?;
     let double = shape([1, 1, 1], [1, 1, 1], 2, false).ok_or("shape")?;
-    let cases: [(&SegShape, &[u32], Result<&[u64], ChunkFault>); 9] = [
+    let narrow = shape([3, 2, 1], [2, 2, 1], 1, false).ok_or("shape")?;
+    let mostly_padding = shape([1, 1, 1], [33, 1, 1], 1, false).ok_or("shape")?;
+    let singles = shape([2, 1, 1], [1, 1, 1], 1, false).ok_or("shape")?;
+    let cases: [(&SegShape, &[u32], Result<&[u64], ChunkFault>); 12] = [
         // bits 3
         (
             &pair,
@@ -380,6 +425,24 @@ fn tells_the_first_fault(rt: HostRuntime) -> Result<(), Fail> {
             Err(ChunkFault::SegTable { c: 0, b: 0, n: 0 }),
         ),
         (&double, &[2, 9, 1, 2], Err(ChunkFault::SegChannel { c: 1 })),
+        // the voxel's number counts the padding before it
+        (
+            &narrow,
+            &[1, 0x02000005, 4, 0x01000009, 8, 164, 1, 2, 4, 4, 3],
+            Err(ChunkFault::SegTable { c: 0, b: 1, n: 2 }),
+        ),
+        // the packed indices are those of the whole block
+        (
+            &mostly_padding,
+            &[1, 0x01000002, 3, 7, 0],
+            Err(ChunkFault::SegValues { c: 0, b: 0 }),
+        ),
+        // a table fault of the first block comes before the bits of the second
+        (
+            &singles,
+            &[1, 99, 4, 0x03000004, 4],
+            Err(ChunkFault::SegTable { c: 0, b: 0, n: 0 }),
+        ),
     ];
     for (shape, words, wanted) in &cases {
         let bytes = words_to_bytes(rt.alloc(), words)?;

@@ -17,8 +17,8 @@ ghost use Rattle.segment_blocks.specs.Singles.{IsSingles, KnowsSpots, SameSingle
 ghost use Rattle.segment_blocks.specs.Stored.{Candidate, HasTables, IsBegun};
 
 use crate::append::{put_values, put_words};
-use crate::hashes::{Known, hash_table};
-use crate::known::{add_block, locate_table};
+use crate::hashes::hash_table;
+use crate::known::{Known, add_block, locate_table};
 use crate::locate::{count_blocks, find_block};
 use crate::pack::{find_bits, put_places};
 use crate::room::Room;
@@ -26,6 +26,7 @@ use crate::scratch::Scratch;
 use crate::single::{Singles, find_singles};
 use crate::voxels::tabulate;
 use crate::word::find_width;
+use equal_values::index::clear;
 use vol_spec::SegShape;
 
 /// Where a block's indices end, and how many entries its table has.
@@ -98,13 +99,15 @@ fn settle(
     room.at[k] = ends.indices as u32;
     room.lens[k] = ends.entries as u32;
     let known = Known {
+        raw,
+        shape,
+        c,
+        k,
         bytes: out,
         at: &room.at,
         lens: &room.lens,
-        heads: &room.heads,
-        next: &room.next,
     };
-    let spot = locate_table(raw, shape, c, spots, &known, hash, k);
+    let spot = locate_table(&known, spots, &room.heads, &room.next, hash);
     room.at[k] = spot;
     // a block is the first with its table where that stays behind its own indices
     if spot as usize == ends.indices {
@@ -158,13 +161,6 @@ fn encode_block(
     next
 }
 
-// Forgets the tables of another channel.
-fn clear_heads(heads: &mut [u32])
-    ensures { (h : ℕ) → h < length heads.new → slice_index heads.new h ≡ 0 }
-{
-    heads.fill(0);
-}
-
 // The blocks of channel c behind the place of their headers; tells where they end.
 fn encode_blocks(
     raw: &[u8],
@@ -188,7 +184,8 @@ fn encode_blocks(
     ensures singles { SameSingles singles.old singles.new }
 {
     find_singles(raw, shape, c, singles);
-    clear_heads(&mut room.heads);
+    // forget the tables of another channel
+    clear(&mut room.heads);
     let mut at = 8 * blocks;
     for k in 0..blocks {
         at = encode_block(raw, shape, c, k, &singles.spots, room, out, at);

@@ -7,7 +7,7 @@ use Rattle.std.proofs.lemmas.List.{append-nil, drop_at, take-append-drop, take_a
 use Rattle.byteorder.specs.Endian.{little_bytes, little_number, little_from}
 use Rattle.vol_spec.proofs.CutSteps.{bytes_part}
 use Rattle.byteorder.specs.Numbers.{little_from-cons, little_number-reads_back, length-bytes_low_first}
-use Rattle.vol_spec.specs.Bytes.{AreBytes}
+use Rattle.vol_base.specs.Bytes.{AreBytes}
 use Rattle.vol_spec.specs.Entries.{entry_bytes, entry_of}
 use Rattle.vol_spec.specs.declared.entry.Entry.{Entry}
 

@@ -1,6 +1,8 @@
 pub mod Axes
+pub mod Clamps
 pub mod Found
 pub mod GridBits
+pub mod Held
 pub mod Joined
 pub mod NameBytes
 pub mod Numbers

@@ -1,5 +1,5 @@
 -- The text of a box, as `[0:5,-3:4,0:1]`.
-use Rattle.std.specs.Prelude.{ℕ, ◌+◌, ◌^◌, ◌&&◌, ◌==◌, nat_le, not, Bool, ℤ, pos, neg_ℤ, ◌-ℤ◌, int_lt, nat_abs, min, List, [], ◌∷◌, length, take, drop, slice_index, Option, Some, None, Result, Ok, Err, if◌then◌else◌, position}
+use Rattle.std.specs.Prelude.{ℕ, ◌+◌, ◌^◌, ◌&&◌, ◌==◌, nat_le, not, Bool, ℤ, pos, neg_ℤ, ◌-ℤ◌, int_lt, nat_abs, List, [], ◌∷◌, length, take, drop, slice_index, Option, Some, None, Result, Ok, Err, if◌then◌else◌, position}
 use Rattle.std.specs.List.{list_all}
 use Rattle.std.specs.Option.{option_map}
 use Rattle.std.specs.Char.{is_ascii_digit}
@@ -18,9 +18,9 @@ None >>= f = None
 abbrev pub is_natural : List ℕ → Bool
 is_natural digits = nat_le 1 (length digits) && not (slice_index digits 0 == 48) && list_all is_ascii_digit digits
 
--- their number, or one past the limit for every number past it
+-- their number
 abbrev pub natural : List ℕ → Option ℕ
-natural digits = if is_natural digits then Some (min (digits_value 10 digits) (2 ^ 41 + 1)) else None
+natural digits = if is_natural digits then Some (digits_value 10 digits) else None
 
 -- `0`, or an optional `-` and such digits
 unfoldable pub number : List ℕ → Option ℤ

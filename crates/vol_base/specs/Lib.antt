@@ -1,6 +1,10 @@
+pub mod BoxDisplay
+pub mod BoxKept
 pub mod BoxText
 pub mod Boxes
+pub mod Bytes
 pub mod Causes
+pub mod FaultTexts
 pub mod Grids
 pub mod Memory
 pub mod Names

@@ -1,16 +1,21 @@
 -- What a source and a store mean, and a feed.
 use Rattle.std.specs.Prelude.{◌≡◌, ◌<◌, ◌≤◌, IsSome, IfSome, ℕ, ◌+◌, ◌-◌, ◌^◌, min, Bool, List, [], ◌++◌, length, take, drop, Option, Some, None, nat_eq, ◌&&◌, ◌==◌, slice_index}
-use Rattle.std.specs.Option.{option_map}
+use Rattle.std.specs.Option.{is_some, option_map}
 use Rattle.std.specs.List.{list_any, starts_with}
 use Rattle.std.specs.FinMap as map
 use Rattle.std.specs.Ordering.{nat_cmp}
 use Rattle.std.specs.Cmp.Lexicographic.{slice_cmp}
+use Rattle.vol_base.specs.Bytes.{AreBytes}
 use Rattle.vol_base.specs.declared.outside.Got.{Got}
 use Rattle.vol_base.specs.declared.outside.Got.TheVariants.{Absent, Bytes}
 
 -- a finite map from names to bytes
 abbrev pub Objects : Type 0
 Objects = map.FinMap (slice_cmp nat_cmp) (List ℕ)
+
+-- what each object holds is bytes
+abbrev pub HaveBytes : Objects → Type 0
+HaveBytes objects = (name : List ℕ) → IfSome (map.get objects name) AreBytes
 
 -- the n bytes from a place on, or what is left
 abbrev pub part : List ℕ → ℕ → ℕ → List ℕ
@@ -29,11 +34,22 @@ abbrev pub KeepsRest : List ℕ → List ℕ → Got → Type 0
 KeepsRest old new Absent = new ≡ old
 KeepsRest old new (Bytes n) = (n ≤ length old) × (drop n new ≡ drop n old)
 
+-- what stands behind some bytes
+abbrev pub IsEndOf : List ℕ → List ℕ → Type 0
+IsEndOf whole end = (n : ℕ) × (end ≡ drop n whole)
+
 -- the front of what was left, n bytes of it: none only at the end
 pub record Gives (n : ℕ) (out bytes : List ℕ) : Type 0 where
   pub front : take n out ≡ take n bytes
   pub within : n ≤ length bytes
   pub some : 0 < length bytes → 0 < n
+
+-- of a connection the stream that comes in, what is left of it and what was sent: all told, or none, and what is left is
+-- what stands behind some bytes of the stream
+pub record IsCourse (stream left sent : Option (List ℕ)) : Type 0 where
+  pub left_told : is_some left ≡ is_some stream
+  pub sent_told : is_some sent ≡ is_some stream
+  pub end : IfSome stream (λ whole. IfSome left (IsEndOf whole))
 
 -- a read from a place of an object, into these bytes
 pub record Reads (object : Option (List ℕ)) (at : ℕ) (old new : List ℕ) (answer : Got) : Type 0 where
@@ -61,6 +77,11 @@ pub record Draft : Type 0 where
 pub record IsTold (objects : Option Objects) (draft : Draft) : Type 0 where
   pub told : IsSome objects → IsSome draft.told
   pub len : IfSome draft.told (λ d. length d.1 ≡ draft.len)
+
+-- the objects and the object being written stay as they are, as far as they are told
+pub record OnlyReads (old_objects objects : Option Objects) (old_draft draft : Option Draft) : Type 0 where
+  pub same_objects : objects ≡ old_objects
+  pub same_draft : draft ≡ old_draft
 
 abbrev pub begun : Option Objects → List ℕ → Draft
 begun objects name = record { len = 0; told = option_map (λ _. (name, [])) objects }

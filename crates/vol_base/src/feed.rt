@@ -3,7 +3,7 @@ ghost use Rattle.std.specs.Prelude.{◌≡◌, ◌+◌, ◌-◌, ◌<◌, ◌≤
 ghost use Rattle.std.specs.List.{list_any};
 ghost use Rattle.std.specs.Option.{option_map};
 ghost use Rattle.std.specs.Prelude.{nat_eq};
-ghost use Rattle.vol_base.specs.Causes.{HasCause};
+ghost use Rattle.vol_base.specs.Causes.{HasCause, counted, is_count};
 ghost use Rattle.vol_base.specs.Outside.{Gives};
 
 use crate::calls::tick;
@@ -76,7 +76,9 @@ impl Feed for MemoryFeed {
 
     ghost left = { λ s. Some s.left };
 
-    ghost faults = { λ s. s.faults };
+    ghost faults = { λ s. counted s.faults };
+
+    ghost counts = { λ s. is_count s.faults };
 
     fn read(&mut self, out: &mut [u8]) -> Result<usize, Failed>
         requires { 0 < length out.old }
@@ -84,7 +86,7 @@ impl Feed for MemoryFeed {
         ensures read { IfOk result (λ n. IfSome (Some self.old.left) (Gives n out.new)) }
         ensures left { IfOk result (λ n. Some self.new.left ≡ option_map (drop n) (Some self.old.left)) }
         ensures refused { OnErr result (Some self.new.left ≡ Some self.old.left) }
-        ensures cause { HasCause self.old.faults self.new.faults result }
+        ensures cause { HasCause (counted self.old.faults) (counted self.new.faults) result }
         ensures fails { IsErr result ↔ IsTrue (list_any (λ n. nat_eq n self.old.calls) self.old.failing) }
         ensures count { IfOk result (λ n. n ≡ min self.old.piece (min (length self.old.left) (length out.old))) }
         ensures ok { IfOk result (λ n. self.new ≡ record self.old { left = drop n self.old.left; calls = one_more self.old.calls }) }

@@ -10,6 +10,8 @@ mod memory;
 mod name;
 mod outlet;
 mod outside;
+#[cfg(test)]
+mod tests;
 
 pub use boxes::{Box3, BoxFault};
 pub use faults::{ChunkFault, Fault, IndexFault, ShardFault};

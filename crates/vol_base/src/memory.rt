@@ -5,8 +5,9 @@ ghost use Rattle.std.specs.FinMap as map;
 ghost use Rattle.vol_base.specs.Stored.{objects_of};
 ghost use Rattle.std.specs.Prelude.{◌↔◌, IsErr, IfErr, nat_eq, List, drop};
 ghost use Rattle.std.specs.List.{list_any};
-ghost use Rattle.vol_base.specs.Causes.{HasCause, HasStoreCause};
-ghost use Rattle.vol_base.specs.Outside.{KeepsRest, Reads, part, asked_after, is_under, any_under, begun, appended, patched, finished, overwritten};
+ghost use Rattle.vol_base.specs.Bytes.{AreBytes};
+ghost use Rattle.vol_base.specs.Causes.{HasCause, HasStoreCause, counted, is_count};
+ghost use Rattle.vol_base.specs.Outside.{HaveBytes, KeepsRest, OnlyReads, Reads, part, asked_after, is_under, any_under, begun, appended, patched, finished, overwritten};
 
 use crate::calls::tick;
 use crate::{Failed, Got, Name, OutOfMemory, Source, Store, StoreRefusal};
@@ -33,11 +34,20 @@ fn lookup<'a>(objects: &'a [Object], name: &Name) -> Option<&'a [u8]>
     None
 }
 
+// Knows that the elements of bytes are bytes.
+fn tell_bytes(bytes: &[u8])
+    ensures { AreBytes bytes.now }
+{
+    let _ = bytes.len();
+}
+
 // Puts an object in front.
 fn put_newest(objects: &mut Vec<Object>, name: Name, bytes: Vec<u8>) -> Result<(), AllocError>
     ensures ok { OnOk result (objects_of objects.new.items ≡ map.insert (objects_of objects.old.items) name bytes.items) }
     ensures err { OnErr result (objects.new.items ≡ objects.old.items) }
+    ensures bytes { HaveBytes (objects_of objects.old.items) → HaveBytes (objects_of objects.new.items) }
 {
+    tell_bytes(&bytes);
     objects.insert(0, Object { name, bytes })?;
     Ok(())
 }
@@ -79,6 +89,7 @@ pub struct MemoryStore {
 
 impl Model for MemoryStore {
     ghost use Rattle.vol_base.specs.Memory.{Memory, memory_code};
+    ghost use Rattle.vol_base.specs.Outside.{HaveBytes};
     ghost use Rattle.vol_base.specs.Stored.{objects_of, writing_of};
 
     ghost Value = { Memory };
@@ -93,6 +104,8 @@ impl Model for MemoryStore {
       calls = s.calls;
       failing = s.failing.items;
     } };
+
+    ghost invariant = { λ s. HaveBytes (objects_of s.objects.items) };
 }
 
 impl MemoryStore {
@@ -150,16 +163,18 @@ impl Source for MemoryStore {
 
     ghost draft = { draft_of };
 
-    ghost asked = { λ m. m.asked };
+    ghost asked = { λ m. counted m.asked };
 
-    ghost faults = { λ m. m.faults };
+    ghost faults = { λ m. counted m.faults };
+
+    ghost counts = { λ m. (is_count m.asked, is_count m.faults) };
 
     fn size(&mut self, name: &Name) -> Result<Option<u64>, Failed>
         ensures found { IfOk result (λ size. IfSome (Some self.old.objects) (λ m. size ≡ option_map length (map.get m name.now))) }
-        ensures objects { Some self.new.objects ≡ Some self.old.objects }
-        ensures draft { draft_of self.new ≡ draft_of self.old }
-        ensures asked { self.new.asked ≡ self.old.asked }
-        ensures cause { HasCause self.old.faults self.new.faults result }
+        ensures bytes { HaveBytes self.old.objects }
+        ensures kept { OnlyReads (Some self.old.objects) (Some self.new.objects) (draft_of self.old) (draft_of self.new) }
+        ensures asked { counted self.new.asked ≡ counted self.old.asked }
+        ensures cause { HasCause (counted self.old.faults) (counted self.new.faults) result }
         ensures fails { IsErr result ↔ IsTrue (fails self.old) }
         ensures ok { OnOk result (self.new ≡ called self.old) }
         ensures err { OnErr result (self.new ≡ failed self.old) }
@@ -175,11 +190,11 @@ impl Source for MemoryStore {
         requires { at + length out.old < 2 ^ 64 }
         ensures read { IfOk result (λ got. IfSome (Some self.old.objects) (λ m. Reads (map.get m name.now) at out.old out.new got)) }
         ensures rest { IfOk result (KeepsRest out.old out.new) }
-        ensures objects { Some self.new.objects ≡ Some self.old.objects }
-        ensures draft { draft_of self.new ≡ draft_of self.old }
-        ensures asked { OnOk result (self.new.asked ≡ asked_after self.old.asked (length out.old)) }
-        ensures asked_err { OnErr result ((self.old.asked ≤ self.new.asked) × (self.new.asked ≤ self.old.asked + length out.old)) }
-        ensures cause { HasCause self.old.faults self.new.faults result }
+        ensures bytes { HaveBytes self.old.objects }
+        ensures kept { OnlyReads (Some self.old.objects) (Some self.new.objects) (draft_of self.old) (draft_of self.new) }
+        ensures asked { OnOk result (counted self.new.asked ≡ asked_after (counted self.old.asked) (length out.old)) }
+        ensures asked_err { OnErr result ((counted self.old.asked ≤ counted self.new.asked) × (counted self.new.asked ≤ counted self.old.asked + length out.old)) }
+        ensures cause { HasCause (counted self.old.faults) (counted self.new.faults) result }
         ensures fails { IsErr result ↔ IsTrue (fails self.old) }
         ensures ok { OnOk result (self.new ≡ record (called self.old) { asked = asked_after self.old.asked (length out.old) }) }
         ensures err { OnErr result (self.new ≡ failed self.old) }
@@ -222,10 +237,10 @@ impl Store for MemoryStore {
 
     fn any_under(&mut self, folder: &Name) -> Result<bool, Failed>
         ensures found { IfOk result (λ found. IfSome (Some self.old.objects) (λ m. found ≡ any_under m folder.now)) }
-        ensures objects { Some self.new.objects ≡ Some self.old.objects }
-        ensures draft { draft_of self.new ≡ draft_of self.old }
-        ensures asked { self.new.asked ≡ self.old.asked }
-        ensures cause { HasCause self.old.faults self.new.faults result }
+        ensures bytes { HaveBytes self.old.objects }
+        ensures kept { OnlyReads (Some self.old.objects) (Some self.new.objects) (draft_of self.old) (draft_of self.new) }
+        ensures asked { counted self.new.asked ≡ counted self.old.asked }
+        ensures cause { HasCause (counted self.old.faults) (counted self.new.faults) result }
         ensures fails { IsErr result ↔ IsTrue (fails self.old) }
         ensures ok { OnOk result (self.new ≡ called self.old) }
         ensures err { OnErr result (self.new ≡ failed self.old) }
@@ -238,8 +253,8 @@ impl Store for MemoryStore {
         ensures begun { OnOk result (draft_of self.new ≡ Some (begun (Some self.old.objects) name.now)) }
         ensures refused { OnErr result (draft_of self.new ≡ None) }
         ensures objects { Some self.new.objects ≡ Some self.old.objects }
-        ensures asked { self.new.asked ≡ self.old.asked }
-        ensures cause { HasStoreCause self.old.faults self.new.faults result }
+        ensures asked { counted self.new.asked ≡ counted self.old.asked }
+        ensures cause { HasStoreCause (counted self.old.faults) (counted self.new.faults) result }
         ensures fails { IsErr result ↔ IsTrue (fails self.old) }
         ensures ok { OnOk result (self.new ≡ record (called self.old) { writing = Some (name.now, []) }) }
         ensures err { OnErr result (self.new ≡ record (failed self.old) { writing = None }) }
@@ -260,8 +275,8 @@ impl Store for MemoryStore {
         ensures appended { OnOk result (draft_of self.new ≡ option_map (λ d. appended d piece.now) (draft_of self.old)) }
         ensures refused { OnErr result (draft_of self.new ≡ None) }
         ensures objects { Some self.new.objects ≡ Some self.old.objects }
-        ensures asked { self.new.asked ≡ self.old.asked }
-        ensures cause { HasStoreCause self.old.faults self.new.faults result }
+        ensures asked { counted self.new.asked ≡ counted self.old.asked }
+        ensures cause { HasStoreCause (counted self.old.faults) (counted self.new.faults) result }
         ensures fails { IsTrue (fails self.old) → IsErr result }
         ensures refusal { IfErr result (λ refusal. FailsAs refusal (fails self.old)) }
         ensures ok { OnOk result (self.new ≡ record (called self.old) { writing = option_map (λ d. (d.0, d.1 ++ piece.now)) self.old.writing }) }
@@ -288,8 +303,8 @@ impl Store for MemoryStore {
         ensures patched { OnOk result (draft_of self.new ≡ option_map (λ d. patched d at piece.now) (draft_of self.old)) }
         ensures refused { OnErr result (draft_of self.new ≡ None) }
         ensures objects { Some self.new.objects ≡ Some self.old.objects }
-        ensures asked { self.new.asked ≡ self.old.asked }
-        ensures cause { HasStoreCause self.old.faults self.new.faults result }
+        ensures asked { counted self.new.asked ≡ counted self.old.asked }
+        ensures cause { HasStoreCause (counted self.old.faults) (counted self.new.faults) result }
         ensures fails { IsErr result ↔ IsTrue (fails self.old) }
         ensures ok { OnOk result (self.new ≡ record (called self.old) { writing = option_map (λ d. (d.0, overwritten d.1 at piece.now)) self.old.writing }) }
         ensures err { OnErr result (self.new ≡ record (failed self.old) { writing = None }) }
@@ -312,8 +327,8 @@ impl Store for MemoryStore {
         ensures finished { OnOk result (IfSome (draft_of self.old) (λ d. Some self.new.objects ≡ option_map (finished d.told) (Some self.old.objects))) }
         ensures draft { draft_of self.new ≡ None }
         ensures refused { OnErr result (Some self.new.objects ≡ Some self.old.objects) }
-        ensures asked { self.new.asked ≡ self.old.asked }
-        ensures cause { HasStoreCause self.old.faults self.new.faults result }
+        ensures asked { counted self.new.asked ≡ counted self.old.asked }
+        ensures cause { HasStoreCause (counted self.old.faults) (counted self.new.faults) result }
         ensures fails { IsTrue (fails self.old) → IsErr result }
         ensures refusal { IfErr result (λ refusal. FailsAs refusal (fails self.old)) }
         ensures ok { OnOk result (self.new ≡ record (called self.old) { objects = finished self.old.writing self.old.objects; writing = None }) }

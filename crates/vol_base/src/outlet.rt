@@ -1,7 +1,7 @@
 //! An outlet in memory.
 ghost use Rattle.std.specs.Prelude.{◌≡◌, ◌+◌, ◌-◌, ◌<◌, ◌≤◌, ◌++◌, ◌↔◌, Some, IfOk, IfSome, OnErr, OnOk, IsErr, IsTrue, length, take, min, vec_capacity};
 ghost use Rattle.std.specs.Option.{option_map};
-ghost use Rattle.vol_base.specs.Causes.{HasCause};
+ghost use Rattle.vol_base.specs.Causes.{HasCause, counted, is_count};
 
 use crate::calls::{count_fault, tick};
 use crate::{Failed, OutOfMemory, Outlet};
@@ -93,14 +93,16 @@ impl Outlet for MemoryOutlet {
 
     ghost written = { λ s. Some s.bytes };
 
-    ghost faults = { λ s. s.faults };
+    ghost faults = { λ s. counted s.faults };
+
+    ghost counts = { λ s. is_count s.faults };
 
     fn write(&mut self, piece: &[u8]) -> Result<usize, Failed>
         requires { 0 < length piece.now }
         ensures some { IfOk result (λ n. (0 < n) × (n ≤ length piece.now)) }
         ensures written { IfOk result (λ n. Some self.new.bytes ≡ option_map (λ w. w ++ take n piece.now) (Some self.old.bytes)) }
         ensures refused { OnErr result (Some self.new.bytes ≡ Some self.old.bytes) }
-        ensures cause { HasCause self.old.faults self.new.faults result }
+        ensures cause { HasCause (counted self.old.faults) (counted self.new.faults) result }
         ensures fails { IsErr result ↔ IsTrue (refuses_bytes self.old) }
         ensures count { IfOk result (λ n. n ≡ min (min (self.old.room - length self.old.bytes) self.old.piece) (length piece.now)) }
         ensures ok { IfOk result (λ n. self.new ≡ record self.old { bytes = self.old.bytes ++ take n piece.now; calls = one_more self.old.calls }) }

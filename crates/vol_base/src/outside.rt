@@ -6,8 +6,8 @@
 ghost use Rattle.std.specs.Prelude.{◌≡◌, ◌+◌, ◌<◌, ◌≤◌, ◌^◌, [], ◌∷◌, ◌++◌, List, take, drop, Option, Some, None, ℕ, length, IfOk, IfSome, OnOk, OnErr, IsSome, IsTrue};
 ghost use Rattle.std.specs.Option.{option_map};
 ghost use Rattle.std.specs.FinMap as map;
-ghost use Rattle.vol_base.specs.Causes.{HasCause, HasStoreCause};
-ghost use Rattle.vol_base.specs.Outside.{Objects, Draft, IsTold, Gives, KeepsRest, Reads, asked_after, any_under, begun, appended, patched, finished};
+ghost use Rattle.vol_base.specs.Causes.{HasCause, HasStoreCause, IsCount};
+ghost use Rattle.vol_base.specs.Outside.{Objects, Draft, HaveBytes, IsCourse, IsTold, Gives, KeepsRest, OnlyReads, Reads, asked_after, any_under, begun, appended, patched, finished};
 
 use crate::Name;
 
@@ -50,8 +50,8 @@ pub trait Source {
     /// The length of an object in bytes, or None exactly where there is no such object.
     fn size(&mut self, name: &Name) -> Result<Option<u64>, Failed>
         ensures found { IfOk result (λ size. IfSome (objects self.old) (λ m. size ≡ option_map length (map.get m name.now))) }
-        ensures objects { objects self.new ≡ objects self.old }
-        ensures draft { draft self.new ≡ draft self.old }
+        ensures bytes { IfSome (objects self.old) HaveBytes }
+        ensures kept { OnlyReads (objects self.old) (objects self.new) (draft self.old) (draft self.new) }
         ensures asked { asked self.new ≡ asked self.old }
         ensures cause { HasCause (faults self.old) (faults self.new) result };
 
@@ -61,11 +61,14 @@ pub trait Source {
         requires { at + length out.old < 2 ^ 64 }
         ensures read { IfOk result (λ got. IfSome (objects self.old) (λ m. Reads (map.get m name.now) at out.old out.new got)) }
         ensures rest { IfOk result (KeepsRest out.old out.new) }
-        ensures objects { objects self.new ≡ objects self.old }
-        ensures draft { draft self.new ≡ draft self.old }
+        ensures bytes { IfSome (objects self.old) HaveBytes }
+        ensures kept { OnlyReads (objects self.old) (objects self.new) (draft self.old) (draft self.new) }
         ensures asked { OnOk result (asked self.new ≡ asked_after (asked self.old) (length out.old)) }
         ensures asked_err { OnErr result ((asked self.old ≤ asked self.new) × (asked self.new ≤ asked self.old + length out.old)) }
         ensures cause { HasCause (faults self.old) (faults self.new) result };
+
+    /// Both counts are at most 2^64 - 1.
+    ghost counts: { (s : Self) → IsCount (asked s) × IsCount (faults s) };
 }
 
 /// A source that objects can be put into, one being written at a time.
@@ -73,8 +76,8 @@ pub trait Store: Source {
     /// Whether some object's name begins with the folder and `/`.
     fn any_under(&mut self, folder: &Name) -> Result<bool, Failed>
         ensures found { IfOk result (λ found. IfSome (Self.objects self.old) (λ m. found ≡ any_under m folder.now)) }
-        ensures objects { Self.objects self.new ≡ Self.objects self.old }
-        ensures draft { Self.draft self.new ≡ Self.draft self.old }
+        ensures bytes { IfSome (Self.objects self.old) HaveBytes }
+        ensures kept { OnlyReads (Self.objects self.old) (Self.objects self.new) (Self.draft self.old) (Self.draft self.new) }
         ensures asked { Self.asked self.new ≡ Self.asked self.old }
         ensures cause { HasCause (Self.faults self.old) (Self.faults self.new) result };
 
@@ -137,6 +140,9 @@ pub trait Feed {
         ensures left { IfOk result (λ n. left self.new ≡ option_map (drop n) (left self.old)) }
         ensures refused { OnErr result (left self.new ≡ left self.old) }
         ensures cause { HasCause (faults self.old) (faults self.new) result };
+
+    /// The count of faults is at most 2^64 - 1.
+    ghost counts: { (s : Self) → IsCount (faults s) };
 }
 
 /// Bytes that go out, in order.
@@ -154,6 +160,9 @@ pub trait Outlet {
         ensures written { IfOk result (λ n. written self.new ≡ option_map (λ w. w ++ take n piece.now) (written self.old)) }
         ensures refused { OnErr result (written self.new ≡ written self.old) }
         ensures cause { HasCause (faults self.old) (faults self.new) result };
+
+    /// The count of faults is at most 2^64 - 1.
+    ghost counts: { (s : Self) → IsCount (faults s) };
 }
 
 /// A connection to a peer.
@@ -188,6 +197,12 @@ pub trait Link {
         ensures left { left self.new ≡ left self.old }
         ensures stream { stream self.new ≡ stream self.old }
         ensures cause { HasCause (faults self.old) (faults self.new) result };
+
+    /// The count of faults is at most 2^64 - 1.
+    ghost counts: { (s : Self) → IsCount (faults s) };
+
+    /// What is left is the end of the stream, and the three are told together.
+    ghost course: { (s : Self) → IsCourse (stream s) (left s) (sent s) };
 }
 
 /// A place where peers connect.
@@ -216,10 +231,12 @@ pub trait Door {
         ensures accepted { accepted self.new ≡ accepted self.old }
         ensures cause { HasCause (faults self.old) (faults self.new) result };
 
-    /// Gives the next peer's end, on which nothing was received or sent.
+    /// Gives the next peer's end, on which nothing was received or sent. A door that tells the ends that
+    /// were closed gives ends that tell what they are.
     fn accept(&mut self) -> Result<Self::End, Failed>
         requires { IsSome (bound self.old) }
         ensures fresh { IfOk result (λ end. (Self.End.left end ≡ Self.End.stream end) × (Self.End.sent end ≡ option_map (λ _. []) (Self.End.stream end)) × (Self.End.faults end ≡ 0)) }
+        ensures told { IfOk result (λ end. IsSome (served self.old) → IsSome (Self.End.stream end)) }
         ensures accepted { OnOk result (accepted self.new ≡ accepted self.old + 1) }
         ensures refused { OnErr result (accepted self.new ≡ accepted self.old) }
         ensures bound { bound self.new ≡ bound self.old }
@@ -232,6 +249,9 @@ pub trait Door {
         ensures accepted { accepted self.new ≡ accepted self.old }
         ensures bound { bound self.new ≡ bound self.old }
         ensures faults { faults self.new ≡ faults self.old };
+
+    /// The count of faults is at most 2^64 - 1.
+    ghost counts: { (s : Self) → IsCount (faults s) };
 }
 
 /// What a worker just did.

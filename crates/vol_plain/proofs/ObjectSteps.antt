@@ -5,10 +5,9 @@ use Rattle.std.specs.List.{range_with_len}
 use Rattle.std.proofs.lemmas.List.{map-append}
 use Rattle.std.proofs.lemmas.List.Elements.{filter-append}
 use Rattle.vol_plain.proofs.CellSteps.{Entry, room_cons as room_of_cons}
-use Rattle.vol_plain.proofs.PartSteps.{range_more}
-use Rattle.vol_plain.proofs.SumSteps.{room_cons}
+use Rattle.chunk_laws.proofs.Sums.{range_more, room_cons}
 use Rattle.vol_plain.specs.CellParts.{room_of}
-use Rattle.vol_plain.specs.ShardParts.{room}
+use Rattle.chunk_laws.specs.Rooms.{room}
 use Rattle.vol_spec.specs.StoredShards.{chunk_of, has_chunk, in_shard, objects_in, shard_object}
 use Rattle.vol_spec.specs.declared.scale.Scale.{Scale}
 use Rattle.vol_spec.specs.declared.sharding.Sharding.{Sharding}

@@ -30,18 +30,3 @@ pub bytes_more : (out : List ℕ) (cs : List ShardChunk) (i : ℕ) (d : ShardChu
 bytes_more out cs i d m h is =
     append_assoc out (bytes_in (take i (chunks_of cs)) m) (bytes_in (chunk_of d ∷ []) m)
     ∙ ap (λ xs. out ++ xs) (sym (flat_map-append (λ (c : Chunk). c.bytes) (of (take i (chunks_of cs)) m) (of (chunk_of d ∷ []) m)) ∙ ap (flat_map (λ (c : Chunk). c.bytes)) (sym (of_more cs i d m h is)))
-
-pub range_more : (a n : ℕ) → range_with_len a (n + 1) ≡ range_with_len a n ++ (a + n) ∷ []
-range_more a zero = let e : a ≡ a + 0 = omega arith in ap (λ k. k ∷ []) e
-range_more a (suc n) =
-    let up : suc n + 1 ≡ suc (n + 1) = omega arith in
-    let last : a + 1 + n ≡ a + suc n = omega arith in
-    ap (range_with_len a) up ∙ ap (λ ks. a ∷ ks) (range_more (a + 1) n) ∙ ap (λ k. a ∷ (range_with_len (a + 1) n ++ k ∷ [])) last
-
--- what the first minishards have, and the next one
-pub pieces_more : (out : List ℕ) (f : ℕ → List ℕ) (n : ℕ) → out ++ flat_map f (range_with_len 0 n) ++ f n ≡ out ++ flat_map f (range_with_len 0 (n + 1))
-pieces_more out f n =
-    let e : n ≡ 0 + n = omega arith in
-    append_assoc out (flat_map f (range_with_len 0 n)) (f n)
-    ∙ ap (λ xs. out ++ xs) (ap (λ k. flat_map f (range_with_len 0 n) ++ f k) e ∙ ap (λ xs. flat_map f (range_with_len 0 n) ++ xs) (sym (append-nil (f (0 + n))))
-    ∙ sym (flat_map-append f (range_with_len 0 n) ((0 + n) ∷ [])) ∙ ap (flat_map f) (sym (range_more 0 n)))

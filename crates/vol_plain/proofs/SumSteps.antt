@@ -1,23 +1,9 @@
 -- Sums over chunks, one chunk on.
 use Rattle.std.proofs.Common.{◌≡◌, ◌+◌, ◌*◌, ◌≤◌, Bool, true, false, if◌then◌else◌, List, [], ◌∷◌, length, arith, refl, ap, ◌∙◌}
 use Rattle.std.specs.Prelude.{filter, ◌&&◌}
-use Rattle.std.proofs.lemmas.List.Sums.{sum_by_from}
-use Rattle.vol_plain.specs.ShardParts.{room}
+use Rattle.chunk_laws.proofs.Sums.{joint_cons, room_cons}
+use Rattle.chunk_laws.specs.Rooms.{room}
 use Rattle.vol_spec.specs.Shards.{Chunk, joint}
-
-pub joint_cons : (c : Chunk) (cs : List Chunk) → joint (c ∷ cs) ≡ length c.bytes + joint cs
-joint_cons c cs = sum_by_from (λ (d : Chunk). length d.bytes) (0 + length c.bytes) cs ∙ (omega arith)
-
-pub room_cons : (c : Chunk) (cs : List Chunk) → room (c ∷ cs) ≡ length c.bytes + 24 + room cs
-room_cons c cs = sum_by_from (λ (d : Chunk). length d.bytes + 24) (0 + (length c.bytes + 24)) cs ∙ (omega arith)
-
--- the first chunk counts where it is meant
-pub joint_first : (p : Chunk → Bool) (c : Chunk) (cs : List Chunk) → joint (filter p (c ∷ cs)) ≡ (if p c then length c.bytes else 0) + joint (filter p cs)
-joint_first p c cs = by (p c)
-  where
-    by : (b : Bool) → joint (if b then c ∷ filter p cs else filter p cs) ≡ (if b then length c.bytes else 0) + joint (filter p cs)
-    by true = joint_cons c (filter p cs)
-    by false = omega arith
 
 -- no choice takes more than all chunks
 pub joint_fits : (p : Chunk → Bool) (cs : List Chunk) → joint (filter p cs) ≤ room cs
@@ -26,14 +12,6 @@ joint_fits p (c ∷ cs) = let rest = joint_fits p cs in by (p c) rest
   where
     by : (b : Bool) → joint (filter p cs) ≤ room cs → joint (if b then c ∷ filter p cs else filter p cs) ≤ room (c ∷ cs)
     by true rest = omega (arith, joint_cons c (filter p cs), room_cons c cs)
-    by false rest = omega (arith, room_cons c cs)
-
-pub room_fits : (p : Chunk → Bool) (cs : List Chunk) → room (filter p cs) ≤ room cs
-room_fits p [] = omega arith
-room_fits p (c ∷ cs) = let rest = room_fits p cs in by (p c) rest
-  where
-    by : (b : Bool) → room (filter p cs) ≤ room cs → room (if b then c ∷ filter p cs else filter p cs) ≤ room (c ∷ cs)
-    by true rest = omega (arith, room_cons c (filter p cs), room_cons c cs)
     by false rest = omega (arith, room_cons c cs)
 
 -- lengths, and 24 bytes for each

@@ -1,22 +1,25 @@
--- Values within the bytes of a small box, and what a cell's object says.
-use Rattle.std.proofs.Common.{◌≡◌, ◌⊎◌, ⊎_elim, ℕ, ◌+◌, ◌*◌, ◌^◌, ◌<◌, ◌≤◌, ℤ, List, Option, arith, lit<, refl, sym, ap, ◌∙◌, None}
+-- Values within the bytes of a small box, and what a shard says of a voxel.
+use Rattle.std.proofs.Common.{◌≡◌, ◌⊎◌, ⊎_elim, ℕ, ◌+◌, ◌*◌, ◌^◌, ◌<◌, ◌≤◌, ◌==◌, Bool, true, false, if◌then◌else◌, ℤ, List, length, arith, lit<, refl, ap, sym, ◌∙◌, None, Some}
+use Rattle.std.specs.Prelude.{Ok}
 use Rattle.std.proofs.Math.Logic.{∥∥₁_elim}
 use Rattle.std.proofs.Math.Nat.{le-mul_of_pos_right, pow-le-pow_right}
 use Rattle.std.proofs.Props.{props}
-use Rattle.std.specs.FinMap as map
+use Rattle.std.proofs.lemmas.Bool.Decides.{nat_tests}
+use Rattle.vol_base.specs.declared.faults.ChunkFault.TheVariants.{ChunkLength}
 use Rattle.vol_base.specs.Boxes.{size, voxels, Covers, num}
-use Rattle.vol_base.specs.Outside.{Objects}
 use Rattle.vol_base.specs.declared.boxes.Box3.{Box3}
 use Rattle.vol_plain.specs.Objects.{IsSmall}
-use Rattle.vol_spec.specs.CellNames.{cell_name}
-use Rattle.vol_spec.specs.Chunks.{chunk_in, value_in}
-use Rattle.vol_spec.specs.Chunks as form
-use Rattle.vol_spec.specs.RawChunks.{chunk_of, value_of}
-use Rattle.vol_spec.specs.declared.encoding.Encoding.TheVariants.{Raw}
-use Rattle.vol_spec.proofs.Plain.{chunk_in-plain, value_of-raw}
-use Rattle.vol_spec.specs.Grid.{cell_at, cell_box}
+use Rattle.vol_base.specs.Outside.{part}
+use Rattle.vol_spec.specs.Chunks.{judged, unless, value_of}
+use Rattle.vol_spec.specs.Encodings.{cell_limit, chunk_fault}
+use Rattle.vol_spec.specs.FoundChunks.{found}
+use Rattle.vol_spec.specs.Grid.{cell_box}
+use Rattle.vol_spec.specs.Places.{id_of}
+use Rattle.vol_spec.specs.StoredBytes.{spanned}
+use Rattle.vol_spec.specs.declared.sharding.Sharding.{Sharding}
+use Rattle.vol_spec.specs.declared.span.ChunkSpan.{ChunkSpan}
 use Rattle.vol_spec.specs.Limits.{IsWidth, first_bytes}
-use Rattle.vol_spec.specs.Raw.{raw_len}
+use Rattle.vol_spec.specs.Raw.{raw_fault, raw_len}
 use Rattle.vol_spec.specs.declared.scale.Scale.{Scale}
 use Rattle.vol_spec.proofs.RawSteps.{voxel_fits}
 use Rattle.chunk_grid.proofs.GridSteps.{cell_box-short}
@@ -52,14 +55,18 @@ few_voxels b channels w small some =
 pub reads_within : (b : Box3) (channels w : ℕ) (p : List ℤ) (c n len : ℕ) → Covers b p → c < channels → n ≡ num b p c → len ≡ raw_len b channels w → w * n + w ≤ len
 reads_within b channels w p c n len cov lc e f = rw (e, f) (voxel_fits b channels w p c cov lc)
 
-value_in-is : (m : Objects) (dataset : List ℕ) (s : Scale) (p : List ℤ) (c : ℕ) → s.encoding ≡ Raw → s.sharding ≡ None
-    → value_in m dataset s p c ≡ value_of (cell_box s (cell_at s p)) s.width (chunk_of (cell_box s (cell_at s p)) s.channels s.width (map.get m (cell_name dataset s (cell_at s p)))) p c
-value_in-is m dataset s p c raw unsharded =
-    value_of-raw s raw (cell_at s p) (chunk_in m dataset s (cell_at s p)) p c
-    ∙ ap (λ seen. value_of (cell_box s (cell_at s p)) s.width seen p c) (chunk_in-plain s raw unsharded m dataset (cell_at s p))
+-- bytes with no fault are as long as the values
+pub no_fault : (b : Box3) (channels w : ℕ) (bytes : List ℕ) → raw_fault b channels w bytes ≡ None → length bytes ≡ raw_len b channels w
+no_fault b channels w bytes h = by (length bytes == raw_len b channels w) refl h
+  where
+    by : (t : Bool) → (length bytes == raw_len b channels w) ≡ t → (if t then None else Some (ChunkLength (length bytes) (raw_len b channels w))) ≡ None → length bytes ≡ raw_len b channels w
+    by true e none = grind (arith, nat_tests)
+    by false e none = absurd (cc none)
 
--- what the object of a voxel's cell says of it is its value
-pub told : (m : Objects) (dataset : List ℕ) (s : Scale) (p : List ℤ) (c : ℕ) (cell : List ℕ) (b : Box3) (name : List ℕ) (object : Option (List ℕ))
-    → s.encoding ≡ Raw → s.sharding ≡ None → cell ≡ cell_at s p → b ≡ cell_box s cell → name ≡ cell_name dataset s cell → object ≡ map.get m name
-    → value_of b s.width (chunk_of b s.channels s.width object) p c ≡ value_in m dataset s p c
-told m dataset s p c cell b name object raw unsharded at_cell is named found = rw (found, named, is, at_cell) (sym (value_in-is m dataset s p c raw unsharded))
+-- what the bytes of a span that is found say of a voxel
+pub shard_said : (s : Scale) (cell object bytes : List ℕ) (sharding : Sharding) (span : ChunkSpan) (limit id : ℕ) (p : List ℤ) (c : ℕ)
+    → limit ≡ cell_limit s cell → id ≡ id_of s cell → found object sharding limit id ≡ Ok (Some span) → bytes ≡ part object span.start span.len
+    → value_of s cell (unless (chunk_fault s cell bytes) bytes) p c ≡ value_of s cell (judged s cell (spanned object (found object sharding (cell_limit s cell) (id_of s cell)))) p c
+shard_said s cell object bytes sharding span limit id p c most code at is =
+    ap (λ b. value_of s cell (unless (chunk_fault s cell b) b) p c) is
+    ∙ ap (λ o. value_of s cell (judged s cell (spanned object o)) p c) (sym at ∙ ap (λ n. found object sharding n id) most ∙ ap (found object sharding (cell_limit s cell)) code)

@@ -1,5 +1,5 @@
 -- The chunks of a shard, and which of them a sum is over.
-use Rattle.std.specs.Prelude.{ℕ, ◌+◌, ◌==◌, ◌&&◌, nat_lt, Bool, List, length, map, sum_by}
+use Rattle.std.specs.Prelude.{◌==◌, ◌&&◌, nat_lt, Bool, List, map}
 use Rattle.vol_plain.specs.declared.sums.Choice.{Choice}
 use Rattle.vol_plain.specs.declared.sums.Choice.TheVariants.{Below, In, InBelow}
 use Rattle.vol_plain.specs.declared.sums.ShardChunk.{ShardChunk}
@@ -16,7 +16,3 @@ abbrev pub is_meant : Choice → Chunk → Bool
 is_meant (Below m) c = nat_lt c.minishard m
 is_meant (In m) c = c.minishard == m
 is_meant (InBelow m id) c = (c.minishard == m) && nat_lt c.id id
-
--- what chunks take in a shard: their lengths, and a row of 24 bytes for each
-abbrev pub room : List Chunk → ℕ
-room cs = sum_by (λ (c : Chunk). length c.bytes + 24) cs

@@ -1,9 +1,10 @@
 -- Objects as names and bytes.
-use Rattle.std.specs.Prelude.{ℕ, List, map}
+use Rattle.std.specs.Prelude.{List, map}
 use Rattle.vol_plain.specs.declared.objects.StoredObject.{StoredObject}
+use Rattle.vol_spec.specs.Types.{Bytes, Listed, Name}
 
-abbrev pub stored_entry : StoredObject → List ℕ × List ℕ
+abbrev pub stored_entry : StoredObject → Name × Bytes
 stored_entry o = (o.name, o.bytes.items)
 
-abbrev pub stored_entries : List StoredObject → List (List ℕ × List ℕ)
+abbrev pub stored_entries : List StoredObject → Listed
 stored_entries os = map stored_entry os

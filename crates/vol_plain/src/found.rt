@@ -1,5 +1,6 @@
 //! Where a shard has the chunk of an id, looked up the plain slow way.
-ghost use Rattle.std.specs.Prelude.{◌≡◌, ◌+◌, ◌*◌, ◌<◌, ◌≤◌, ◌^◌, length, Ok};
+ghost use Rattle.std.specs.Prelude.{◌≡◌, ◌+◌, ◌*◌, ◌<◌, ◌≤◌, ◌^◌, length, IfOk, Ok};
+ghost use Rattle.std.specs.Option.{ForSome};
 ghost use Rattle.vol_spec.specs.FoundChunks.{entry_in, found, row_in, rows_in, span_of};
 
 use minishard::find;
@@ -54,7 +55,8 @@ fn span_of(
     limit: u64,
     row: Option<Row>,
 ) -> Result<Option<ChunkSpan>, ShardFault>
-    ensures { result ≡ span_of base len limit row }
+    ensures span { result ≡ span_of base len limit row }
+    ensures within { IfOk result (λ span. ForSome span (λ span. span.start + span.len ≤ len)) }
 {
     let Some(row) = row else {
         return Ok(None);
@@ -84,7 +86,8 @@ pub fn plain_found(
     limit: u64,
     id: u64,
 ) -> Result<Option<ChunkSpan>, Fault>
-    ensures { result ≡ found object.now sharding.now limit id }
+    ensures span { result ≡ found object.now sharding.now limit id }
+    ensures within { IfOk result (λ span. ForSome span (λ span. span.start + span.len ≤ length object.now)) }
 {
     let minishard = place(sharding, id).minishard;
     let rows = match rows_in(object, sharding, minishard) {

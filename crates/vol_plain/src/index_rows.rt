@@ -2,7 +2,8 @@
 ghost use Rattle.std.specs.Prelude.{◌≡◌, ◌+◌, ◌<◌, ◌≤◌, ◌^◌, ◌++◌, ◌∷◌, [], ℕ, map, length, slice_index, OnOk, IfOk};
 ghost use Rattle.vol_spec.specs.IndexBytes.{eight, ends, ids, index_bytes, numbers, over, sizes, starts, stored};
 ghost use Rattle.vol_spec.specs.Shards.{of, row_of, rows_of};
-ghost use Rattle.vol_plain.specs.ShardParts.{chunk_of, chunks_of, room};
+ghost use Rattle.vol_plain.specs.ShardParts.{chunk_of, chunks_of};
+ghost use Rattle.chunk_laws.specs.Rooms.{room};
 
 use crate::sums::{ShardChunk, start_of};
 use byteorder::{ByteOrder, LittleEndian};

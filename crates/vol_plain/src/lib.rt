@@ -1,12 +1,16 @@
-//! Plain slow programs to compare others with: the value of one voxel, and the bytes of a shard.
+//! Plain slow programs to compare others with: the value of one voxel, the objects that chunks are
+//! stored as, and the bytes of a shard.
 #![tactic(auto)]
 
+mod chunks;
 mod found;
 mod index_rows;
 mod numbers;
 mod objects;
 mod placing;
 mod positions;
+mod raw;
+mod segments;
 mod shards;
 mod sums;
 #[cfg(test)]

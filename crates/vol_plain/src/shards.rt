@@ -1,7 +1,8 @@
 //! The bytes of a shard, made the plain slow way: every position is summed up anew over all chunks.
 ghost use Rattle.std.specs.Prelude.{◌≡◌, ◌+◌, ◌<◌, ◌≤◌, ◌^◌, ◌++◌, ◌∷◌, [], flat_map, OnOk, IfOk};
 ghost use Rattle.vol_spec.specs.Shards.{bodies, body, Chunk, entries, entry_at, of, shard_bytes};
-ghost use Rattle.vol_plain.specs.ShardParts.{chunk_of, chunks_of, room};
+ghost use Rattle.vol_plain.specs.ShardParts.{chunk_of, chunks_of};
+ghost use Rattle.chunk_laws.specs.Rooms.{room};
 
 use crate::index_rows::{push_index, rows_of};
 use crate::sums::{Choice, ShardChunk, count, joint_len, room_below};

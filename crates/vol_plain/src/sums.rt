@@ -1,7 +1,8 @@
 //! Sums over the chunks of a shard.
 ghost use Rattle.std.specs.Prelude.{◌≡◌, ◌+◌, ◌*◌, ◌<◌, ◌≤◌, ◌^◌, filter, length, if◌then◌else◌};
 ghost use Rattle.vol_spec.specs.Shards.{before, joint, start_of};
-ghost use Rattle.vol_plain.specs.ShardParts.{chunk_of, chunks_of, is_meant, room};
+ghost use Rattle.vol_plain.specs.ShardParts.{chunk_of, chunks_of, is_meant};
+ghost use Rattle.chunk_laws.specs.Rooms.{room};
 
 /// A chunk of a shard: the number of its minishard, its id and its bytes.
 #[derive(Drop)]
@@ -41,7 +42,7 @@ fn len_if(choice: Choice, chunk: &ShardChunk) -> u64
 }
 
 /// The joint length of the chunks that are meant.
-#[tactic(auto, using(crate::proofs::SumSteps::joint_first))]
+#[tactic(auto, using(chunk_laws::proofs::Sums::joint_first))]
 pub(crate) fn joint_len(choice: Choice, chunks: &[ShardChunk]) -> u64
     requires { room (chunks_of chunks.now) < 2 ^ 62 }
     ensures { result ≡ joint (filter (is_meant choice) (chunks_of chunks.now)) }

@@ -1,14 +1,21 @@
-//! The bytes of known shards, and what is found in sound and in damaged ones.
-ghost use Rattle.std.specs.Prelude.{◌≡◌, ◌≤◌, IfOk, length, [], ◌∷◌};
+//! The bytes of known shards, and what is found and read in sound and in damaged ones.
+ghost use Rattle.std.specs.Prelude.{◌≡◌, ◌<◌, ◌≤◌, IfOk, length, [], ◌∷◌};
 ghost use Rattle.vol_spec.specs.Grid.{IsCell};
 ghost use Rattle.vol_spec.specs.ShardNames.{shard_bits_of};
+ghost use Rattle.vol_spec.specs.declared.encoding.Encoding.TheVariants.{Raw};
+ghost use Rattle.vol_plain.specs.ShardParts.{chunks_of};
+ghost use Rattle.chunk_laws.specs.Rooms.{room};
 
-use crate::{CellChunk, StoredObject, plain_found, plain_objects};
+use crate::{
+    CellChunk, ShardChunk, StoredObject, covers, plain_found, plain_objects, plain_shard,
+    plain_value,
+};
 use byteorder::{ByteOrder, LittleEndian};
+use chunk_grid::whole;
 use std::alloc::{AllocError, Global};
 use std::process::Abort;
 use std::test::Fail;
-use vol_base::{Fault, IndexFault, Name, ShardFault};
+use vol_base::{ChunkFault, Fault, IndexFault, MemoryStore, Name, ShardFault};
 use vol_spec::{ChunkSpan, Encoding, HashKind, Scale, Sharding};
 
 // Two minishards with a chunk of a byte each.
@@ -38,11 +45,11 @@ const SECOND: [u8; 57] = [
     1, 0, 0, 0, 0, 0, 0, 0, 0, 0, 0, 0, 0, 0, 0, 0, 1, 0, 0, 0, 0, 0, 0, 0,
 ];
 
-// Two cells of a voxel each, in one shard.
-fn two_cells(key: Name, minishard_bits: u32) -> Scale
+// Two cells of a voxel of one byte each.
+fn two_cells(key: Name, sharding: Option<Sharding>) -> Scale
     requires key { length key ≤ 200 }
-    requires bits { minishard_bits ≤ 24 }
-    ensures shards { shard_bits_of result ≡ 0 }
+    ensures sharding { result.sharding ≡ sharding }
+    ensures raw { result.encoding ≡ Raw }
     ensures first { IsCell result (0 ∷ 0 ∷ 0 ∷ []) }
     ensures second { IsCell result (1 ∷ 0 ∷ 0 ∷ []) }
 {
@@ -54,8 +61,38 @@ fn two_cells(key: Name, minishard_bits: u32) -> Scale
         offset: [0, 0, 0],
         chunk: [1, 1, 1],
         encoding: Encoding::Raw,
-        sharding: Some(unhashed(0, minishard_bits)),
+        sharding,
     }
+}
+
+// In one shard.
+fn sharded(key: Name, minishard_bits: u32) -> Scale
+    requires key { length key ≤ 200 }
+    requires bits { minishard_bits ≤ 24 }
+    ensures shards { shard_bits_of result ≡ 0 }
+    ensures raw { result.encoding ≡ Raw }
+    ensures first { IsCell result (0 ∷ 0 ∷ 0 ∷ []) }
+    ensures second { IsCell result (1 ∷ 0 ∷ 0 ∷ []) }
+{
+    two_cells(key, Some(unhashed(0, minishard_bits)))
+}
+
+// In 16 shards of eight minishards by the hashes of the ids.
+fn hashed(key: Name, preshift: u32) -> Scale
+    requires key { length key ≤ 200 }
+    requires preshift { preshift ≤ 64 }
+    ensures shards { shard_bits_of result ≡ 4 }
+    ensures raw { result.encoding ≡ Raw }
+    ensures first { IsCell result (0 ∷ 0 ∷ 0 ∷ []) }
+    ensures second { IsCell result (1 ∷ 0 ∷ 0 ∷ []) }
+{
+    let sharding = Sharding {
+        preshift,
+        hash: HashKind::Murmur,
+        minishard_bits: 3,
+        shard_bits: 4,
+    };
+    two_cells(key, Some(sharding))
 }
 
 fn short_name(rt: &impl Abort, text: &[u8]) -> Name
@@ -88,8 +125,8 @@ fn check_object(rt: &impl Abort, objects: &[StoredObject], bytes: &[u8]) {
 fn stores_known_shards(rt: HostRuntime) -> Result<(), Fail> {
     let alloc = rt.alloc();
     let dataset = short_name(&rt, b"d");
-    let halved = two_cells(short_name(&rt, b"s"), 1);
-    let whole = two_cells(short_name(&rt, b"s"), 0);
+    let halved = sharded(short_name(&rt, b"s"), 1);
+    let whole = sharded(short_name(&rt, b"s"), 0);
     let both = [
         one_byte(alloc, [1, 0, 0], 11)?,
         one_byte(alloc, [0, 0, 0], 10)?,
@@ -212,4 +249,228 @@ fn tells_faults(rt: HostRuntime) {
     let short_chunk = shard_fault(ShardFault::ShortChunk);
     let far = one_with(50, [0, 1], 1000, 1);
     assert_eq!(rt; plain_found(&far, &plain, 1, 0), short_chunk);
+}
+
+// Two minishards, the first with two chunks.
+const THREE: [u8; 107] = [
+    2, 0, 0, 0, 0, 0, 0, 0, 50, 0, 0, 0, 0, 0, 0, 0, // the first entry
+    51, 0, 0, 0, 0, 0, 0, 0, 75, 0, 0, 0, 0, 0, 0, 0, // the second entry
+    10, 12, // the chunks of the first
+    0, 0, 0, 0, 0, 0, 0, 0, 2, 0, 0, 0, 0, 0, 0, 0, // ids
+    0, 0, 0, 0, 0, 0, 0, 0, 0, 0, 0, 0, 0, 0, 0, 0, // starts
+    1, 0, 0, 0, 0, 0, 0, 0, 1, 0, 0, 0, 0, 0, 0, 0, // sizes
+    11, // the chunk of the second, and its row
+    1, 0, 0, 0, 0, 0, 0, 0, 50, 0, 0, 0, 0, 0, 0, 0, 1, 0, 0, 0, 0, 0, 0, 0,
+];
+
+// Three chunks of a byte, two of them in the first minishard.
+fn three_chunks(alloc: Global) -> Result<[ShardChunk; 3], AllocError>
+    ensures { IfOk result (λ chunks. room (chunks_of chunks) ≡ 75) }
+{
+    Ok([
+        ShardChunk {
+            minishard: 0,
+            id: 0,
+            bytes: Vec::from_slice(alloc, &[10])?,
+        },
+        ShardChunk {
+            minishard: 0,
+            id: 2,
+            bytes: Vec::from_slice(alloc, &[12])?,
+        },
+        ShardChunk {
+            minishard: 1,
+            id: 1,
+            bytes: Vec::from_slice(alloc, &[11])?,
+        },
+    ])
+}
+
+// A row takes 24 bytes, and not a minishard.
+#[test]
+fn counts_rows(rt: HostRuntime) -> Result<(), Fail> {
+    let alloc = rt.alloc();
+    let bytes = plain_shard(alloc, 1, &three_chunks(alloc)?)?;
+    assert_eq!(rt; bytes.as_slice(), THREE.as_slice());
+    Ok(())
+}
+
+fn put(store: &mut MemoryStore, name: &Name, bytes: Vec<u8>) -> Result<(), Fail> {
+    store.put(name, bytes)?;
+    Ok(())
+}
+
+fn store_all(alloc: Global, objects: Vec<StoredObject>) -> Result<MemoryStore, Fail> {
+    let mut store = MemoryStore::new(alloc, Vec::new(alloc));
+    for object in objects {
+        let StoredObject { name, bytes } = object;
+        put(&mut store, &name, bytes)?;
+    }
+    Ok(store)
+}
+
+fn check_value(
+    rt: &impl Abort,
+    store: &MemoryStore,
+    scale: &Scale,
+    x: i64,
+    wanted: Result<u64, Fault>,
+) {
+    let dataset = short_name(rt, b"d");
+    assert!(rt; covers(&whole(scale), [x, 0, 0]));
+    assert_eq!(rt; plain_value(store, &dataset, scale, [x, 0, 0], 0), wanted);
+}
+
+// What two chunks are stored as is read back.
+fn check_scale(rt: &impl Abort, alloc: Global, scale: &Scale, names: &[&[u8]]) -> Result<(), Fail>
+    requires raw { scale.now.encoding ≡ Raw }
+    requires shards { shard_bits_of scale.now < 64 }
+    requires first { IsCell scale.now (0 ∷ 0 ∷ 0 ∷ []) }
+    requires second { IsCell scale.now (1 ∷ 0 ∷ 0 ∷ []) }
+{
+    let dataset = short_name(rt, b"d");
+    let both = [
+        one_byte(alloc, [0, 0, 0], 10)?,
+        one_byte(alloc, [1, 0, 0], 11)?,
+    ];
+    let objects = plain_objects(alloc, &dataset, scale, &both)?;
+    assert_eq!(rt; objects.len(), names.len());
+    for (object, name) in objects.iter().zip(names) {
+        assert_eq!(rt; object.name.as_bytes(), *name);
+    }
+    let store = store_all(alloc, objects)?;
+    check_value(rt, &store, scale, 0, Ok(10));
+    check_value(rt, &store, scale, 1, Ok(11));
+    Ok(())
+}
+
+// By hash8 the id 0 is in minishard 1 of shard 8, and the id 1 in minishard 2 of shard 3; without its
+// lowest bit it goes with 0.
+#[test]
+fn stores_and_reads(rt: HostRuntime) -> Result<(), Fail> {
+    let alloc = rt.alloc();
+    let apart = hashed(short_name(&rt, b"s"), 0);
+    check_scale(&rt, alloc, &apart, &[b"d/s/3.shard", b"d/s/8.shard"])?;
+    let together = hashed(short_name(&rt, b"s"), 1);
+    check_scale(&rt, alloc, &together, &[b"d/s/8.shard"])?;
+    let own = two_cells(short_name(&rt, b"s"), None);
+    check_scale(&rt, alloc, &own, &[b"d/s/0-1_0-1_0-1", b"d/s/1-2_0-1_0-1"])
+}
+
+fn store_one(
+    rt: &impl Abort,
+    alloc: Global,
+    name: &[u8],
+    bytes: &[u8],
+) -> Result<MemoryStore, Fail> {
+    let mut store = MemoryStore::new(alloc, Vec::new(alloc));
+    put(
+        &mut store,
+        &short_name(rt, name),
+        Vec::from_slice(alloc, bytes)?,
+    )?;
+    Ok(store)
+}
+
+fn check_shard(
+    rt: &impl Abort,
+    alloc: Global,
+    scale: &Scale,
+    bytes: &[u8],
+    x: i64,
+    wanted: Result<u64, Fault>,
+) -> Result<(), Fail> {
+    let store = store_one(rt, alloc, b"d/s/0.shard", bytes)?;
+    check_value(rt, &store, scale, x, wanted);
+    Ok(())
+}
+
+#[test]
+fn reads_damaged_shards(rt: HostRuntime) -> Result<(), Fail> {
+    let alloc = rt.alloc();
+    let halved = sharded(short_name(&rt, b"s"), 1);
+    let whole = sharded(short_name(&rt, b"s"), 0);
+    check_shard(&rt, alloc, &halved, &TWO, 0, Ok(10))?;
+    check_shard(&rt, alloc, &halved, &TWO, 1, Ok(11))?;
+    check_shard(&rt, alloc, &halved, &SECOND, 0, Ok(0))?;
+    let bad_length = Err(Fault::Shard(ShardFault::BadLength { bytes: 23 }));
+    check_shard(&rt, alloc, &halved, &two_with(2, 25), 0, bad_length)?;
+    let short_index = Err(Fault::Shard(ShardFault::ShortIndex));
+    check_shard(&rt, alloc, &halved, &TWO[..8], 0, short_index)?;
+    let short_minishard = Err(Fault::Shard(ShardFault::ShortMinishard));
+    check_shard(&rt, alloc, &halved, &TWO[..33], 0, short_minishard)?;
+    let bad_id = Err(Fault::Index(IndexFault::BadId { row: 1 }));
+    let same_id = one_with(50, [0, 0], 0, 1);
+    check_shard(&rt, alloc, &whole, &same_id, 0, Ok(10))?;
+    check_shard(&rt, alloc, &whole, &same_id, 1, bad_id)?;
+    let short_chunk = Err(Fault::Shard(ShardFault::ShortChunk));
+    let far = one_with(50, [0, 1], 1000, 1);
+    check_shard(&rt, alloc, &whole, &far, 0, short_chunk)?;
+    let too_long = Err(Fault::Shard(ShardFault::ChunkTooLong { found: 2, limit: 1 }));
+    let long = one_with(50, [0, 1], 0, 2);
+    check_shard(&rt, alloc, &whole, &long, 0, too_long)
+}
+
+#[test]
+fn reads_own_objects(rt: HostRuntime) -> Result<(), Fail> {
+    let alloc = rt.alloc();
+    let scale = two_cells(short_name(&rt, b"s"), None);
+    let store = store_one(&rt, alloc, b"d/s/0-1_0-1_0-1", &[10, 11, 12])?;
+    let fault = ChunkFault::ChunkLength {
+        found: 2,
+        wanted: 1,
+    };
+    check_value(&rt, &store, &scale, 0, Err(Fault::Chunk(fault)));
+    check_value(&rt, &store, &scale, 1, Ok(0));
+    Ok(())
+}
+
+// A segmentation of the value 7 in a shard.
+const SEVEN: [u8; 56] = [
+    16, 0, 0, 0, 0, 0, 0, 0, 40, 0, 0, 0, 0, 0, 0, 0, // the entry
+    1, 0, 0, 0, 2, 0, 0, 0, 2, 0, 0, 0, 7, 0, 0, 0, // the chunk
+    0, 0, 0, 0, 0, 0, 0, 0, 0, 0, 0, 0, 0, 0, 0, 0, 16, 0, 0, 0, 0, 0, 0, 0, // its row
+];
+
+// Two cells of a voxel of four bytes each, in one shard.
+fn segments(key: Name) -> Scale
+    requires { length key ≤ 200 }
+{
+    Scale {
+        key,
+        width: 4,
+        channels: 1,
+        size: [2, 1, 1],
+        offset: [0, 0, 0],
+        chunk: [1, 1, 1],
+        encoding: Encoding::Seg { block: [1, 1, 1] },
+        sharding: Some(unhashed(0, 0)),
+    }
+}
+
+// The shard with another word.
+fn seven_with(at: usize, word: u32) -> [u8; 56]
+    requires { at ≤ 52 }
+{
+    let mut shard = SEVEN;
+    LittleEndian::write_u32(&mut shard[at..], word);
+    shard
+}
+
+#[test]
+fn reads_segments(rt: HostRuntime) -> Result<(), Fail> {
+    let alloc = rt.alloc();
+    let scale = segments(short_name(&rt, b"s"));
+    check_shard(&rt, alloc, &scale, &SEVEN, 0, Ok(7))?;
+    check_shard(&rt, alloc, &scale, &SEVEN, 1, Ok(0))?;
+    let table = Err(Fault::Chunk(ChunkFault::SegTable { c: 0, b: 0, n: 0 }));
+    check_shard(&rt, alloc, &scale, &seven_with(20, 3), 0, table)?;
+    let bits = Err(Fault::Chunk(ChunkFault::SegBits {
+        c: 0,
+        b: 0,
+        bits: 3,
+    }));
+    check_shard(&rt, alloc, &scale, &seven_with(20, 0x03000002), 0, bits)?;
+    let channel = Err(Fault::Chunk(ChunkFault::SegChannel { c: 0 }));
+    check_shard(&rt, alloc, &scale, &seven_with(16, 3), 0, channel)
 }

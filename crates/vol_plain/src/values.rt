@@ -1,17 +1,18 @@
 //! The value of a voxel by what a store has.
-ghost use Rattle.std.specs.Prelude.{◌≡◌, ◌+◌, ◌*◌, ◌<◌, ◌≤◌, ◌^◌, length, take, None, Some};
-ghost use Rattle.vol_base.specs.Boxes.{Covers, value};
-ghost use Rattle.vol_spec.specs.Chunks.{value_in};
-ghost use Rattle.vol_spec.specs.RawChunks.{chunk_of, value_of};
-ghost use Rattle.vol_spec.specs.declared.encoding.Encoding.TheVariants.{Raw};
-ghost use Rattle.vol_spec.specs.Grid.{whole};
-ghost use Rattle.vol_spec.specs.Raw.{digit, raw_len};
-ghost use Rattle.vol_plain.specs.Objects.{IsSmall};
+ghost use Rattle.std.specs.Prelude.{◌≡◌, ◌+◌, ◌<◌, ◌≤◌, ◌^◌, length, take, None, Some};
+ghost use Rattle.vol_base.specs.Boxes.{Covers};
+ghost use Rattle.vol_spec.specs.Chunks.{judged, unless, value_in, value_of};
+ghost use Rattle.vol_spec.specs.Encodings.{chunk_fault};
+ghost use Rattle.vol_spec.specs.Grid.{IsCell, cell_box, whole};
+ghost use Rattle.vol_spec.specs.StoredBytes.{held_by, object_of};
 
-use crate::numbers::read_number;
-use chunk_grid::{byte_len, cell_box, cell_of, local_index, object_name};
-use vol_base::{Box3, ChunkFault, Fault, MemoryStore, Name};
-use vol_spec::Scale;
+use crate::chunks::{find_fault, find_value, limit};
+use crate::plain_found;
+use chunk_grid::{cell_of, grid, object_name};
+use morton_code::code;
+use shard_index::{place, shard_name};
+use vol_base::{Fault, MemoryStore, Name};
+use vol_spec::{Scale, Sharding};
 
 // The first bytes of an object, at most so many.
 fn front(object: &[u8], most: usize) -> &[u8]
@@ -20,45 +21,106 @@ fn front(object: &[u8], most: usize) -> &[u8]
     &object[..object.len().min(most)]
 }
 
-// The n-th value of at most eight bytes.
-fn read_value(bytes: &[u8], width: u32, n: u64) -> u64
-    requires width { width ≤ 8 }
-    requires within { width * n + width ≤ length bytes.now }
-    ensures { result ≡ digit bytes.now width n }
-{
-    let width = width as usize;
-    let at = width * n as usize;
-    read_number(&bytes[at..at + width])
-}
-
-// The value of a voxel of a box and a channel by the box's object. What is read of the object is at most one
-// byte more than the values have.
-fn value_by(
-    object: &[u8],
-    part: &Box3,
-    channels: u32,
-    width: u32,
+// By the bytes of the cell's chunk.
+fn bytes_value(
+    bytes: &[u8],
+    scale: &Scale,
+    cell: [u64; 3],
     p: [i64; 3],
     c: u32,
 ) -> Result<u64, Fault>
-    requires small { IsSmall part.now channels width }
-    requires position { Covers part.now p }
-    requires channel { c < channels }
-    ensures { result ≡ value_of part.now width (chunk_of part.now channels width (Some object.now)) p c }
+    requires cell { IsCell scale.now cell }
+    requires position { Covers (cell_box scale.now cell) p }
+    requires channel { c < scale.now.channels }
+    ensures { result ≡ value_of scale.now cell (unless (chunk_fault scale.now cell bytes.now) bytes.now) p c }
 {
-    let wanted = byte_len(part, channels, width) as usize;
-    let bytes = front(object, wanted + 1);
-    if bytes.len() != wanted {
-        return Err(Fault::Chunk(ChunkFault::ChunkLength {
-            found: bytes.len() as u64,
-            wanted: wanted as u64,
-        }));
+    match find_fault(bytes, scale, cell) {
+        Some(fault) => Err(Fault::Chunk(fault)),
+        None => Ok(find_value(bytes, scale, cell, p, c)),
     }
-    Ok(read_value(bytes, width, local_index(part, p, c)))
 }
 
-/// The value that a store's objects give a voxel of a scale and a channel: 0 where the voxel's cell has no object,
-/// and the fault of that object where it has one.
+// By the cell's own object, of which no more is read than one byte over the longest chunk.
+fn own_value(
+    object: &[u8],
+    scale: &Scale,
+    cell: [u64; 3],
+    p: [i64; 3],
+    c: u32,
+) -> Result<u64, Fault>
+    requires cell { IsCell scale.now cell }
+    requires position { Covers (cell_box scale.now cell) p }
+    requires channel { c < scale.now.channels }
+    ensures { result ≡ value_of scale.now cell (judged scale.now cell (held_by None scale.now cell object.now)) p c }
+{
+    let bytes = front(object, limit(scale, cell) as usize + 1);
+    bytes_value(bytes, scale, cell, p, c)
+}
+
+// By the object of the cell's shard.
+fn shard_value(
+    object: &[u8],
+    sharding: &Sharding,
+    scale: &Scale,
+    cell: [u64; 3],
+    p: [i64; 3],
+    c: u32,
+) -> Result<u64, Fault>
+    requires sharded { scale.now.sharding ≡ Some sharding.now }
+    requires cell { IsCell scale.now cell }
+    requires position { Covers (cell_box scale.now cell) p }
+    requires channel { c < scale.now.channels }
+    ensures { result ≡ value_of scale.now cell (judged scale.now cell (held_by (Some sharding.now) scale.now cell object.now)) p c }
+{
+    let id = code(&grid(scale), cell);
+    match plain_found(object, sharding, limit(scale, cell), id) {
+        Err(fault) => Err(fault),
+        Ok(None) => Ok(0),
+        Ok(Some(span)) => {
+            let start = span.start as usize;
+            let bytes = &object[start..start + span.len as usize];
+            bytes_value(bytes, scale, cell, p, c)
+        }
+    }
+}
+
+fn object_value(
+    object: &[u8],
+    scale: &Scale,
+    cell: [u64; 3],
+    p: [i64; 3],
+    c: u32,
+) -> Result<u64, Fault>
+    requires cell { IsCell scale.now cell }
+    requires position { Covers (cell_box scale.now cell) p }
+    requires channel { c < scale.now.channels }
+    ensures { result ≡ value_of scale.now cell (judged scale.now cell (held_by scale.now.sharding scale.now cell object.now)) p c }
+{
+    match scale.sharding {
+        None => own_value(object, scale, cell, p, c),
+        Some(sharding) => shard_value(object, &sharding, scale, cell, p, c),
+    }
+}
+
+// The name of the object that has a cell's chunk: the cell's own, or its shard's.
+fn object_of(dataset: &Name, scale: &Scale, cell: [u64; 3]) -> Name
+    requires dataset { length dataset.now ≤ 200 }
+    requires cell { IsCell scale.now cell }
+    ensures { result ≡ object_of dataset.now scale.now cell }
+{
+    match scale.sharding {
+        None => object_name(dataset, scale, cell),
+        Some(sharding) => {
+            let id = code(&grid(scale), cell);
+            shard_name(dataset, scale, place(&sharding, id).shard)
+        }
+    }
+}
+
+/// The value that a store's objects give a voxel of a scale and a channel, in every form of scale: 0
+/// where they have no chunk of the voxel's cell, and else what the chunk says, or the first fault on
+/// the way to it.
+#[tactic(auto, unfolding(vol_spec::specs::Chunks::chunk_in, vol_spec::specs::StoredBytes::stored_bytes))]
 pub fn plain_value(
     store: &MemoryStore,
     dataset: &Name,
@@ -67,18 +129,13 @@ pub fn plain_value(
     c: u32,
 ) -> Result<u64, Fault>
     requires dataset { length dataset.now ≤ 200 }
-    requires unsharded { scale.now.sharding ≡ None }
-    requires raw { scale.now.encoding ≡ Raw }
     requires position { Covers (whole scale.now) p }
     requires channel { c < scale.now.channels }
     ensures { result ≡ value_in store.now.objects dataset.now scale.now p c }
 {
     let cell = cell_of(scale, p);
-    match store.get(&object_name(dataset, scale, cell)) {
+    match store.get(&object_of(dataset, scale, cell)) {
         None => Ok(0),
-        Some(object) => {
-            let part = cell_box(scale, cell);
-            value_by(object, &part, scale.channels, scale.width, p, c)
-        }
+        Some(object) => object_value(object, scale, cell, p, c),
     }
 }

@@ -12,7 +12,7 @@ use Rattle.std.proofs.lemmas.List.{nil_from_length, take-append-drop}
 use Rattle.vol_base.specs.declared.boxes.Box3.{Box3}
 use Rattle.vol_base.specs.declared.faults.Fault.{Fault}
 use Rattle.vol_base.specs.Boxes.{at, size, num, voxels, value, Covers, IsSome}
-use Rattle.vol_spec.specs.Bytes.{AreBytes}
+use Rattle.vol_base.specs.Bytes.{AreBytes}
 use Rattle.vol_spec.specs.BoxValues.{place_on, position_of, channel_of, bytes_of, before_fault, values_of}
 use Rattle.vol_spec.specs.Cut.{cut}
 use Rattle.vol_base.specs.Outside.{Objects}

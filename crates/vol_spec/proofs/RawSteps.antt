@@ -9,7 +9,7 @@ use Rattle.std.proofs.lemmas.Nat.{div_below, div-mul-add, mod-mul-add, mul-add-l
 use Rattle.std.proofs.Math.Nat.{mul-le-mul_left}
 use Rattle.vol_base.specs.declared.boxes.Box3.{Box3}
 use Rattle.vol_base.specs.Boxes.{at, on_axes, size, num, voxels, value, from_begin, Covers, IsSome}
-use Rattle.vol_spec.specs.Bytes.{AreBytes}
+use Rattle.vol_base.specs.Bytes.{AreBytes}
 use Rattle.vol_spec.specs.BoxValues.{position_of, channel_of, bytes_of}
 use Rattle.vol_spec.specs.Grid.{cell_box}
 use Rattle.vol_spec.specs.LastWrite.{AreValues, Before, covers, last, newest, zeros}

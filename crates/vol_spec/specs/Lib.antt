@@ -1,5 +1,4 @@
 pub mod BoxValues
-pub mod Bytes
 pub mod CellNames
 pub mod Chunks
 pub mod Codes

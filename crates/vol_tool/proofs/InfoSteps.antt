@@ -9,9 +9,9 @@ use Rattle.vol_base.specs.declared.outside.Got.{Got}
 use Rattle.vol_base.specs.declared.outside.Got.TheVariants.{Absent, Bytes}
 use Rattle.info_doc.specs.Info.{scale_in}
 use Rattle.vol_spec.specs.declared.scale.Scale.{Scale}
-use Rattle.vol_tool.specs.Answers.{info_name, judged_info, scale_from, stored_scale, ReadsScale}
+use Rattle.vol_tool.specs.Scales.{info_name, judged_info, scale_from, stored_scale, ReadsScale}
 use Rattle.vol_tool.specs.declared.refusal.NoScale.TheVariants.{Absent as Missing}
-use Rattle.vol_tool.specs.declared.refusal.Refusal.{Refusal}
+use Rattle.vol_tool.specs.declared.refusal.ScaleRefusal.{ScaleRefusal}
 
 stored_scale-is : (m : Objects) (dataset key : List ℕ) → stored_scale m dataset key ≡ scale_from (fin.get m (info_name dataset)) key
 unfolding stored_scale
@@ -45,7 +45,7 @@ same_part : (bytes old new : List ℕ) (n k : ℕ) → n ≡ length (part bytes 
 same_part bytes old new n k count is =
     ap (take n) is ∙ ap (λ j. take j (part bytes 0 k ++ drop (length (part bytes 0 k)) old)) count ∙ take-append_seam (part bytes 0 k) (drop (length (part bytes 0 k)) old)
 
-found_info : (o : Option (List ℕ)) (key old new : List ℕ) (n : ℕ) (r : Result Scale Refusal) → length old ≡ 2 ^ 20 + 1 → Reads o 0 old new (Bytes n)
+found_info : (o : Option (List ℕ)) (key old new : List ℕ) (n : ℕ) (r : Result Scale ScaleRefusal) → length old ≡ 2 ^ 20 + 1 → Reads o 0 old new (Bytes n)
     → ReadsScale r (judged_info (scale_in (take n new) key)) → ReadsScale r (scale_from o key)
 unfolding bytes_in
 found_info None key old new n r len read h = absurd (cc read.got)
@@ -54,7 +54,7 @@ found_info (Some bytes) key old new n r len read h =
     subst (λ x. ReadsScale r (judged_info x))
     (ap (λ xs. scale_in xs key) (same_part bytes old new n (length old) count read.bytes ∙ ap (λ k. take k bytes) len) ∙ cut_judgement bytes key) h
 
-pub stored_info : (m : Objects) (dataset key name old new : List ℕ) (n : ℕ) (r : Result Scale Refusal) (got : Got) → got ≡ Bytes n → name ≡ info_name dataset → length old ≡ 2 ^ 20 + 1
+pub stored_info : (m : Objects) (dataset key name old new : List ℕ) (n : ℕ) (r : Result Scale ScaleRefusal) (got : Got) → got ≡ Bytes n → name ≡ info_name dataset → length old ≡ 2 ^ 20 + 1
     → Reads (fin.get m name) 0 old new got → ReadsScale r (judged_info (scale_in (take n new) key)) → ReadsScale r (stored_scale m dataset key)
 stored_info m dataset key name old new n r got is named len read h =
     subst (ReadsScale r) (ap (λ k. scale_from (fin.get m k) key) named ∙ sym (stored_scale-is m dataset key)) (found_info (fin.get m name) key old new n r len (subst (Reads (fin.get m name) 0 old new) is read) h)

@@ -1,7 +1,9 @@
 pub mod AnswerSteps
+pub mod Choices
+pub mod CutoutSteps
 pub mod InfoSteps
 pub mod MemorySteps
 pub mod PlanSteps
-pub mod ShowSteps
-pub mod StoreSteps
-pub mod WriteShows
+pub mod ReportSteps
+pub mod StreamSteps
+pub mod WriteSteps

@@ -1,30 +1,27 @@
 -- What a plan's objects are.
-use Rattle.std.proofs.Common.{◌≡◌, ◌↔◌, ⊎_elim, ◌∙◌, ℕ, zero, suc, ◌+◌, ◌^◌, ◌<◌, ◌≤◌, List, [], ◌∷◌, Bool, true, false, length, map, sum, Option, Some, None, Ok, Err, IfSome, refl, ap, sym, subst, arith, get_or, inr}
+use Rattle.std.proofs.Common.{◌≡◌, ◌↔◌, ⊎_elim, ◌∙◌, ℕ, zero, suc, ◌+◌, ◌^◌, ◌<◌, ◌≤◌, List, [], ◌∷◌, Bool, true, false, length, map, sum, Option, Some, None, Result, Ok, Err, IfSome, refl, ap, sym, subst, arith, get_or, inl, inr}
 use Rattle.std.specs.Prelude.{◌||◌, cond, filter}
 use Rattle.std.specs.List.{list_any, range_with_len}
 use Rattle.std.proofs.lemmas.List.Sums.{sum_by-cons}
 use Rattle.std.proofs.lemmas.Bool.{cases_lt}
 use Rattle.vol_base.specs.Outside.{Objects}
-use Rattle.vol_base.specs.declared.faults.Fault.{Fault}
-use Rattle.vol_spec.specs.CellNames.{cell_name}
 use Rattle.vol_spec.specs.LastWrite.{zeros}
-use Rattle.vol_spec.specs.BoxValues.{first_some}
 use Rattle.vol_spec.specs.Grid.{cells_on, meets, numbers_on}
 use Rattle.vol_spec.specs.StoredCells.{chunks_of, met_cells, put_in, written_raw}
 use Rattle.vol_spec.specs.StoredLists.{stored_list}
+use Rattle.vol_spec.specs.Types.{Bytes, Cell, Listed, Name, Writes}
 use Rattle.vol_spec.specs.declared.scale.Scale.{Scale}
-use Rattle.chunk_grid.proofs.StoredSteps.{object_list-chunks_of}
-use Rattle.shard_writer.specs.Writing.{job_objects, PutsFront, WritesAll}
-use Rattle.shard_writer.specs.declared.written.WriteFault.{WriteFault}
-use Rattle.shard_writer.specs.declared.written.WriteFault.TheVariants as faults
+use Rattle.chunk_grid.proofs.JobOrder.{in_key_order-jobs, jobs_in_order}
+use Rattle.chunk_grid.proofs.OrderSteps.{AreInOrder-met_cells}
+use Rattle.shard_writer.specs.Writing.{job_chunks, job_objects, PutsFront, PutsJobs, PutsSome}
 use Rattle.shard_writer.specs.declared.written.Written.{Written}
-use Rattle.write_plan.specs.Plans.{no_fault, pairs, Planned, raw_of}
+use Rattle.write_plan.specs.Plans.{pairs, Planned, planned_cells, work_of}
+use Rattle.write_plan.specs.declared.plan.PlanRefusal.{PlanRefusal}
 use Rattle.write_plan.specs.declared.plan.PlanRefusal.TheVariants as refusals
-use Rattle.write_plan.specs.WriteLists.{BoxWrite}
-use Rattle.vol_spec.proofs.Plain.{stored_list-plain}
-use Rattle.vol_tool.specs.Answers.{IsServed}
+use Rattle.vol_tool.specs.Refusals.{unplanned}
+use Rattle.vol_tool.specs.Scales.{IsServed}
 use Rattle.vol_tool.specs.Storing.{PutsWrites}
-use Rattle.vol_tool.specs.declared.refusal.Refusal.TheVariants.{StoreFault, NoMemory}
+use Rattle.vol_tool.specs.declared.refusal.WriteRefusal.TheVariants.{StoreFault, NoMemory}
 
 -- a list by its places
 by_place : {A B : Type 0} (h : A → B) (all xs : List A) (d : A) (a : ℕ) → ((i : ℕ) → i < length xs → get_or all (a + i) d ≡ get_or xs i d) → map (λ n. h (get_or all n d)) (range_with_len a (length xs)) ≡ map h xs
@@ -38,15 +35,24 @@ by_place h all (x ∷ xs) d a same =
     ap (λ k. get_or all k d) e ∙ same (suc i) (omega arith)) in
     ap (λ y. y ∷ map (λ n. h (get_or all n d)) (range_with_len (a + 1) (length xs))) first ∙ ap (λ ys. h x ∷ ys) rest
 
--- the objects of a plan's jobs are those of its writes' chunks
-pub plan_objects : (plan : Planned) (m : Objects) (dataset : List ℕ) (s : Scale) → IsServed s → plan.scale ≡ s
-    → job_objects dataset s (met_cells plan.scale plan.writes) (raw_of plan m) ≡ stored_list dataset s (chunks_of s zeros plan.writes)
+-- the jobs of a plan are the cells that its writes meet,
+pub planned_met : (plan : Planned) (s : Scale) → IsServed s → plan.scale ≡ s → planned_cells plan ≡ met_cells s plan.writes
+planned_met plan s served e =
+    let here : planned_cells (record plan { scale = s }) ≡ met_cells s plan.writes = in_key_order-jobs s (met_cells s plan.writes) (jobs_in_order s (met_cells s plan.writes) served.unsharded (AreInOrder-met_cells s plan.writes)) in
+    ap (λ x. planned_cells (record plan { scale = x })) e ∙ here
+
+-- and their chunks those of the writes
+plan_chunks : (plan : Planned) (m : Objects) (s : Scale) → IsServed s → plan.scale ≡ s → job_chunks (work_of plan) m ≡ chunks_of s zeros plan.writes
+unfolding chunks_of
+plan_chunks plan m s served e =
+    by_place (λ (cell : Cell). let chunk : Cell × Bytes = (cell, written_raw plan.scale zeros plan.writes cell) in chunk) (planned_cells plan) (planned_cells plan) [] 0
+    (λ i l. let z : 0 + i ≡ i = omega arith in ap (λ k. get_or (planned_cells plan) k []) z)
+    ∙ ap (λ cells. map (λ (cell : Cell). let chunk : Cell × Bytes = (cell, written_raw plan.scale zeros plan.writes cell) in chunk) cells) (planned_met plan s served e)
+    ∙ ap (λ x. map (λ (cell : Cell). let chunk : Cell × Bytes = (cell, written_raw x zeros plan.writes cell) in chunk) (met_cells s plan.writes)) e
+
+plan_objects : (plan : Planned) (m : Objects) (dataset : Name) (s : Scale) → IsServed s → plan.scale ≡ s → job_objects dataset (work_of plan) m ≡ stored_list dataset s (chunks_of s zeros plan.writes)
 plan_objects plan m dataset s served e =
-    by_place (λ cell. (cell_name dataset s cell, written_raw plan.scale zeros plan.writes cell)) (met_cells plan.scale plan.writes) (met_cells plan.scale plan.writes) [] 0
-    (λ i l. let z : 0 + i ≡ i = omega arith in ap (λ k. get_or (met_cells plan.scale plan.writes) k []) z)
-    ∙ ap (λ x. map (λ cell. (cell_name dataset s cell, written_raw x zeros plan.writes cell)) (met_cells x plan.writes)) e
-    ∙ sym (object_list-chunks_of dataset s zeros plan.writes)
-    ∙ sym (stored_list-plain s served.raw served.unsharded dataset (chunks_of s zeros plan.writes))
+    ap (λ x. stored_list dataset x (job_chunks (work_of plan) m)) e ∙ ap (stored_list dataset s) (plan_chunks plan m s served e)
 
 -- no more cells are met than there are pairs of a write and a cell that it meets
 first_or : {X : Type 0} (b c : Bool) (x : X) (xs ys zs : List X) → length xs ≤ length ys + length zs
@@ -72,52 +78,49 @@ any_few p (w ∷ ws) xs =
     let all : sum (map (λ v. length (filter (p v) xs)) (w ∷ ws)) ≡ length (filter (p w) xs) + sum (map (λ v. length (filter (p v) xs)) ws) = sum_by-cons (λ n. n) (length (filter (p w) xs)) (map (λ v. length (filter (p v) xs)) ws) in
     omega (arith, both, rest, all)
 
-pub few_cells : (s : Scale) (ws : List BoxWrite) → length (met_cells s ws) ≤ pairs s ws
+pub few_cells : (s : Scale) (ws : Writes) → length (met_cells s ws) ≤ pairs s ws
 unfolding met_cells
 few_cells s ws = any_few (λ w. meets s w.0) ws (numbers_on (cells_on s))
 
+-- a plan has few jobs
+pub few_jobs : (plan : Planned) (s : Scale) → IsServed s → plan.scale ≡ s → pairs s plan.writes ≤ 2 ^ 22 → length (planned_cells plan) ≤ 2 ^ 22
+few_jobs plan s served e few =
+    let cells = few_cells s plan.writes in
+    let same : length (planned_cells plan) ≡ length (met_cells s plan.writes) = ap length (planned_met plan s served e) in
+    omega (arith, cells, same)
+
 -- what putting a plan's objects answers
-pub put_done : (written : Written) (o now : Option Objects) (plan : Planned) (dataset : List ℕ) (s : Scale) → IsServed s → plan.scale ≡ s → pairs s plan.writes ≤ 2 ^ 22
-    → written.objects ≡ length (met_cells plan.scale plan.writes) → written.cells ≡ length (met_cells plan.scale plan.writes)
-    → IfSome o (λ m. now ≡ Some (put_in m (job_objects dataset s (met_cells plan.scale plan.writes) (raw_of plan m))))
+pub put_done : (written : Written) (o now : Option Objects) (plan : Planned) (dataset : Name) (s : Scale) → IsServed s → plan.scale ≡ s → pairs s plan.writes ≤ 2 ^ 22
+    → written.objects ≡ length (planned_cells plan) → written.cells ≡ length (planned_cells plan) → PutsJobs dataset (work_of plan) o now
     → IfSome o (λ m. PutsWrites (Ok written) m now dataset s plan.writes)
 put_done written None now plan dataset s served e few objects cells put = tt
 put_done written (Some m) now plan dataset s served e few objects cells put =
-    let same : length (met_cells plan.scale plan.writes) ≡ length (met_cells s plan.writes) = ap (λ x. length (met_cells x plan.writes)) e in
+    let same : length (planned_cells plan) ≡ length (met_cells s plan.writes) = ap length (planned_met plan s served e) in
     (put ∙ ap (λ xs. Some (put_in m xs)) (plan_objects plan m dataset s served e), few, record { objects = objects ∙ same; cells = cells ∙ same })
 
-front_done : (o now : Option Objects) (plan : Planned) (dataset : List ℕ) (s : Scale) → IsServed s → plan.scale ≡ s
-    → IfSome o (λ m. PutsFront (job_objects dataset s (met_cells plan.scale plan.writes) (raw_of plan m)) m now)
-    → IfSome o (λ m. PutsFront (stored_list dataset s (chunks_of s zeros plan.writes)) m now)
-front_done None now plan dataset s served e front = tt
-front_done (Some m) now plan dataset s served e front = subst (λ xs. PutsFront xs m now) (plan_objects plan m dataset s served e) front
+front_done : (m : Objects) (now : Option Objects) (plan : Planned) (dataset : Name) (s : Scale) → IsServed s → plan.scale ≡ s → PutsSome dataset (work_of plan) (Some m) now
+    → PutsFront (stored_list dataset s (chunks_of s zeros plan.writes)) m now
+front_done m now plan dataset s served e front = subst (λ xs. PutsFront xs m now) (plan_objects plan m dataset s served e) front
 
-pub store_failed : (o now : Option Objects) (plan : Planned) (dataset : List ℕ) (s : Scale) → IsServed s → plan.scale ≡ s → pairs s plan.writes ≤ 2 ^ 22
-    → IfSome o (λ m. PutsFront (job_objects dataset s (met_cells plan.scale plan.writes) (raw_of plan m)) m now)
+pub store_failed : (o now : Option Objects) (plan : Planned) (dataset : Name) (s : Scale) → IsServed s → plan.scale ≡ s → pairs s plan.writes ≤ 2 ^ 22 → PutsSome dataset (work_of plan) o now
     → IfSome o (λ m. PutsWrites (Err StoreFault) m now dataset s plan.writes)
 store_failed None now plan dataset s served e few front = tt
-store_failed (Some m) now plan dataset s served e few front = (few, front_done (Some m) now plan dataset s served e front)
+store_failed (Some m) now plan dataset s served e few front = (few, front_done m now plan dataset s served e front)
 
-pub memory_failed : (o now : Option Objects) (plan : Planned) (dataset : List ℕ) (s : Scale) → IsServed s → plan.scale ≡ s → pairs s plan.writes ≤ 2 ^ 22
-    → IfSome o (λ m. PutsFront (job_objects dataset s (met_cells plan.scale plan.writes) (raw_of plan m)) m now)
+pub memory_failed : (o now : Option Objects) (plan : Planned) (dataset : Name) (s : Scale) → IsServed s → plan.scale ≡ s → pairs s plan.writes ≤ 2 ^ 22 → PutsSome dataset (work_of plan) o now
     → IfSome o (λ m. PutsWrites (Err NoMemory) m now dataset s plan.writes)
 memory_failed None now plan dataset s served e few front = tt
-memory_failed (Some m) now plan dataset s served e few front = inr (few, front_done (Some m) now plan dataset s served e front)
-
--- no job of a plan has a fault
-no_first : (plan : Planned) (m : Objects) (n a : ℕ) → first_some (map (no_fault plan m) (range_with_len a n)) ≡ None
-no_first plan m zero a = refl
-no_first plan m (suc n) a = no_first plan m n (a + 1)
-
-pub never_damaged : (o : Option Objects) (plan : Planned) (n : ℕ) (fault : WriteFault) (cell : List ℕ) (what : Fault) → fault ≡ faults.Damaged cell what
-    → IfSome o (λ m. WritesAll {A = Written} (Err fault) (first_some (map (no_fault plan m) (range_with_len 0 n)))) → IfSome o (λ m. ⊥)
-never_damaged None plan n fault cell what is answer = tt
-never_damaged (Some m) plan n fault cell what is answer =
-    let some : first_some (map (no_fault plan m) (range_with_len 0 n)) ≡ Some (cell, what) = subst (λ f. WritesAll {A = Written} (Err f) (first_some (map (no_fault plan m) (range_with_len 0 n)))) is answer in
-    let none = no_first plan m n 0 in
-    cc (some, none)
+memory_failed (Some m) now plan dataset s served e few front = inr (few, front_done m now plan dataset s served e front)
 
 -- a plan has few pairs
 pub few_pairs : (plan : Planned) (count n : ℕ) → ((cells : ℕ) → (Ok plan ≡ Err (refusals.TooManyCells cells)) ↔ ((n < count) × (cells ≡ count))) → count ≤ n
 few_pairs plan count n exact =
     ⊎_elim (λ (more : n < count). let e : Ok plan ≡ Err (refusals.TooManyCells count) = (exact count).1 (more, refl) in cc e) (λ (few : count ≤ n). few) (cases_lt n count)
+
+-- and writes that aren't planned
+pub unplanned_told : (refusal : PlanRefusal) (told : Option Objects) (dataset : Name) (s : Scale) (writes : Writes)
+    → ((cells : ℕ) → (let r : Result Planned PlanRefusal = Err refusal in r ≡ Err (refusals.TooManyCells cells)) ↔ ((2 ^ 22 < pairs s writes) × (cells ≡ pairs s writes)))
+    → IfSome told (λ m. PutsWrites (Err (unplanned refusal)) m told dataset s writes)
+unplanned_told refusal None dataset s writes exact = tt
+unplanned_told (refusals.TooManyCells cells) (Some m) dataset s writes exact = let many = (exact cells).0 refl in (many.1, many.0)
+unplanned_told refusals.OutOfMemory (Some m) dataset s writes exact = inl refl

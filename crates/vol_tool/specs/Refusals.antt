@@ -1,42 +1,100 @@
--- The status and the line of a refusal.
+-- The statuses and the lines of refusals.
 use Rattle.std.specs.Prelude.{List, ℕ, codes}
+use Rattle.cutout.specs.declared.reading.ReadFault.{ReadFault}
+use Rattle.cutout.specs.declared.reading.ReadFault.TheVariants.{StoreFault as UnreadStore, Damaged as UnreadDamaged}
 use Rattle.info_doc.specs.Texts.{fault_text as info_fault_text}
-use Rattle.tool_lines.specs.Lines.{cells_line, damaged_line, feed_line, folder_line, info_line, large_line, memory_line, outside_line, output_line, store_line, stream_line}
-use Rattle.vol_tool.specs.declared.refusal.NoScale.{NoScale as Why}
+use Rattle.info_doc.specs.declared.fault.InfoFault.{InfoFault}
+use Rattle.info_doc.specs.declared.fault.InfoFault.TheVariants.{OutOfMemory as InfoMemory}
+use Rattle.vol_shell.specs.Lines.{cells_line, damaged_line, feed_line, folder_line, info_line, large_line, memory_line, outside_line, output_line, store_line, stream_line}
+use Rattle.vol_spec.specs.Types.{Bytes, Name}
+use Rattle.vol_tool.specs.declared.refusal.CutoutRefusal.{CutoutRefusal}
+use Rattle.vol_tool.specs.declared.refusal.CutoutRefusal.TheVariants as cutout
+use Rattle.vol_tool.specs.declared.refusal.NoScale.{NoScale}
 use Rattle.vol_tool.specs.declared.refusal.NoScale.TheVariants.{Absent, Refused, NotBuilt}
-use Rattle.vol_tool.specs.declared.refusal.Refusal.{Refusal}
-use Rattle.vol_tool.specs.declared.refusal.Refusal.TheVariants.{NoScale, Outside, TooLarge, Damaged, NotEmpty, Stream, TooManyCells, StoreFault, FeedFault, OutFault, NoMemory}
+use Rattle.vol_tool.specs.declared.refusal.ScaleRefusal.{ScaleRefusal}
+use Rattle.vol_tool.specs.declared.refusal.ScaleRefusal.TheVariants as scale
+use Rattle.vol_tool.specs.declared.refusal.WriteRefusal.{WriteRefusal}
+use Rattle.vol_tool.specs.declared.refusal.WriteRefusal.TheVariants as write
 use Rattle.vol_tool.specs.declared.status.Status.{Status}
-use Rattle.vol_tool.specs.declared.status.Status.TheVariants.{InfoRefused, RequestRefused, Damaged as DamagedStatus, StoreFault as StoreStatus, FeedFault as FeedStatus, OutFault as OutStatus, NoMemory as MemoryStatus}
-
-abbrev pub status_of : Refusal → Status
-status_of (NoScale why) = InfoRefused
-status_of (Outside part whole) = RequestRefused
-status_of (TooLarge bytes) = RequestRefused
-status_of (Damaged cell fault) = DamagedStatus
-status_of NotEmpty = RequestRefused
-status_of (Stream fault) = RequestRefused
-status_of (TooManyCells cells) = RequestRefused
-status_of StoreFault = StoreStatus
-status_of FeedFault = FeedStatus
-status_of OutFault = OutStatus
-status_of NoMemory = MemoryStatus
+use Rattle.vol_tool.specs.declared.status.Status.TheVariants.{InfoRefused, RequestRefused, Damaged, StoreFault, FeedFault, OutFault, NoMemory}
+use Rattle.write_plan.specs.declared.fault.PlanFault.{PlanFault}
+use Rattle.write_plan.specs.declared.fault.PlanFault.TheVariants.{FeedFault as StreamFeed, OutOfMemory as StreamMemory}
+use Rattle.write_plan.specs.declared.plan.PlanRefusal.{PlanRefusal}
+use Rattle.write_plan.specs.declared.plan.PlanRefusal.TheVariants.{TooManyCells as PlanCells, OutOfMemory as PlanMemory}
 
 -- why a data set has no scale of a key that can be read
-abbrev pub info_text : Why → List ℕ
+abbrev pub info_text : NoScale → Bytes
 info_text Absent = codes "absent"
 info_text (Refused fault) = info_fault_text fault
 info_text NotBuilt = codes "not built"
 
-abbrev pub line_of : List ℕ → Refusal → List ℕ
-line_of dataset (NoScale why) = info_line dataset (info_text why)
-line_of dataset (Outside part whole) = outside_line part whole
-line_of dataset (TooLarge bytes) = large_line bytes
-line_of dataset (Damaged cell fault) = damaged_line cell fault
-line_of dataset NotEmpty = folder_line
-line_of dataset (Stream fault) = stream_line fault
-line_of dataset (TooManyCells cells) = cells_line cells
-line_of dataset StoreFault = store_line
-line_of dataset FeedFault = feed_line
-line_of dataset OutFault = output_line
-line_of dataset NoMemory = memory_line
+-- what a fault of the info document is, as a refusal of its scale
+abbrev pub scale_refused : InfoFault → ScaleRefusal
+scale_refused InfoMemory = scale.NoMemory
+scale_refused fault = scale.NoScale (Refused fault)
+
+-- what a scale that isn't read is, as a refusal of a cutout,
+abbrev pub cutout_without : ScaleRefusal → CutoutRefusal
+cutout_without (scale.NoScale why) = cutout.NoScale why
+cutout_without scale.StoreFault = cutout.StoreFault
+cutout_without scale.NoMemory = cutout.NoMemory
+
+-- and cells that aren't read
+abbrev pub unread : ReadFault → CutoutRefusal
+unread UnreadStore = cutout.StoreFault
+unread (UnreadDamaged cell fault) = cutout.Damaged cell fault
+
+abbrev pub cutout_status : CutoutRefusal → Status
+cutout_status (cutout.NoScale why) = InfoRefused
+cutout_status (cutout.Outside part whole) = RequestRefused
+cutout_status (cutout.TooLarge bytes) = RequestRefused
+cutout_status (cutout.Damaged cell fault) = Damaged
+cutout_status cutout.StoreFault = StoreFault
+cutout_status cutout.OutFault = OutFault
+cutout_status cutout.NoMemory = NoMemory
+
+abbrev pub cutout_line : Name → CutoutRefusal → Bytes
+cutout_line dataset (cutout.NoScale why) = info_line dataset (info_text why)
+cutout_line dataset (cutout.Outside part whole) = outside_line part whole
+cutout_line dataset (cutout.TooLarge bytes) = large_line bytes
+cutout_line dataset (cutout.Damaged cell fault) = damaged_line cell fault
+cutout_line dataset cutout.StoreFault = store_line
+cutout_line dataset cutout.OutFault = output_line
+cutout_line dataset cutout.NoMemory = memory_line
+
+-- what a scale that isn't read is, as a refusal of a write,
+abbrev pub write_without : ScaleRefusal → WriteRefusal
+write_without (scale.NoScale why) = write.NoScale why
+write_without scale.StoreFault = write.StoreFault
+write_without scale.NoMemory = write.NoMemory
+
+-- a stream that isn't read,
+abbrev pub unstreamed : PlanFault → WriteRefusal
+unstreamed StreamFeed = write.FeedFault
+unstreamed StreamMemory = write.NoMemory
+unstreamed fault = write.Stream fault
+
+-- and writes that aren't planned
+abbrev pub unplanned : PlanRefusal → WriteRefusal
+unplanned (PlanCells cells) = write.TooManyCells cells
+unplanned PlanMemory = write.NoMemory
+
+abbrev pub write_status : WriteRefusal → Status
+write_status (write.NoScale why) = InfoRefused
+write_status write.NotEmpty = RequestRefused
+write_status (write.Stream fault) = RequestRefused
+write_status (write.TooManyCells cells) = RequestRefused
+write_status write.StoreFault = StoreFault
+write_status write.FeedFault = FeedFault
+write_status write.OutFault = OutFault
+write_status write.NoMemory = NoMemory
+
+abbrev pub write_line : Name → WriteRefusal → Bytes
+write_line dataset (write.NoScale why) = info_line dataset (info_text why)
+write_line dataset write.NotEmpty = folder_line
+write_line dataset (write.Stream fault) = stream_line fault
+write_line dataset (write.TooManyCells cells) = cells_line cells
+write_line dataset write.StoreFault = store_line
+write_line dataset write.FeedFault = feed_line
+write_line dataset write.OutFault = output_line
+write_line dataset write.NoMemory = memory_line

@@ -1,19 +1,16 @@
 -- What a call of the program means: six facts, each by an equation for every command.
-use Rattle.std.specs.Prelude.{◌≡◌, ◌⊎◌, false, [], Option, None, Some, IfSome, IsOkAnd, IsSomeAnd}
+use Rattle.std.specs.Prelude.{◌≡◌, ◌⊎◌, false, [], Option, None, Some, IfSome}
 use Rattle.std.specs.Option.{option_map}
 use Rattle.vol_base.specs.Causes.{Rose}
-use Rattle.vol_base.specs.declared.boxes.Box3.{Box3}
-use Rattle.vol_spec.specs.Grid.{Inside}
 use Rattle.command_line.specs.declared.commands.Command.{Command}
 use Rattle.command_line.specs.declared.commands.Command.TheVariants.{Cutout, Write}
 use Rattle.shard_writer.specs.Writing.{Drops}
-use Rattle.write_plan.specs.Stream.{writes_of}
-use Rattle.vol_tool.specs.Answers.{stored_scale}
-use Rattle.vol_tool.specs.Seen.{Faults, IsLater, OnlyReads, outlets, Seen}
-use Rattle.vol_tool.specs.Statuses.{CanCut, CutoutLeaves, CutoutShows, UsageLeaves}
-use Rattle.vol_tool.specs.Storing.{CanWrite, puts, ReadsBack, WriteLeaves, WriteShows}
+use Rattle.vol_shell.specs.Lines.{memory_line, usage_line}
+use Rattle.vol_tool.specs.Cutouts.{CanCut, CutoutLeaves, CutoutShows}
+use Rattle.vol_tool.specs.Seen.{Faults, IsLater, LeavesStore, Outlets, outlets, Seen, Silent, Tells}
+use Rattle.vol_tool.specs.Storing.{CanWrite, puts, WriteJudges, WriteLeaves, WriteShows, WrittenBack}
 use Rattle.vol_tool.specs.declared.status.Status.{Status}
-use Rattle.vol_tool.specs.declared.status.Status.TheVariants.{Ok, Usage, StoreFault, FeedFault, OutFault, NoMemory, DoorFault}
+use Rattle.vol_tool.specs.declared.status.Status.TheVariants.{Ok, Usage, InfoRefused, StoreFault, FeedFault, OutFault, NoMemory, DoorFault}
 
 -- What is answered, where what it hangs on is told.
 abbrev pub Answers : Option Command → Status → Seen → Seen → Type 0
@@ -21,8 +18,8 @@ Answers None status before after = (status ≡ Usage) ⊎ (status ≡ NoMemory)
 Answers (Some (Cutout dataset key part)) status before after =
     IfSome before.objects (λ m. CutoutShows status m dataset key part (outlets before after))
 Answers (Some (Write dataset key workers)) status before after =
-    IfSome before.objects (λ m. IfSome before.left (λ bytes.
-    WriteShows status m after.objects bytes after.left dataset key (outlets before after)))
+    IfSome before.objects (λ m. WriteJudges status m dataset key before.left after.left (outlets before after)
+    × IfSome before.left (λ bytes. WriteShows status m after.objects bytes after.left dataset key (outlets before after)))
 
 -- it succeeds, or wants memory
 abbrev pub EndsWell : Status → Type 0
@@ -45,25 +42,31 @@ abbrev pub Headline : Option Command → Status → Seen → Seen → Type 0
 Headline None status before after = Unit {0}
 Headline (Some (Cutout dataset key part)) status before after = Unit {0}
 Headline (Some (Write dataset key workers)) status before after =
-    status ≡ Ok → IfSome before.objects (λ m. IfSome before.left (λ bytes.
-    IsOkAnd (stored_scale m dataset key) (λ s. IsOkAnd (writes_of bytes s) (λ writes.
-    IsSomeAnd after.objects (λ now. (b : Box3) → Inside s b → ReadsBack now dataset s writes b)))))
+    status ≡ Ok → IfSome before.objects (λ m. IfSome before.left (λ bytes. WrittenBack m after.objects bytes dataset key))
+
+-- what words that are no command line leave
+abbrev pub UsageLeaves : Status → Outlets → Type 0
+UsageLeaves Usage o = Silent o × Tells o usage_line
+UsageLeaves NoMemory o = Silent o × Tells o memory_line
+UsageLeaves other o = ⊥
 
 -- What the two outlets gained, also where nothing is told, and so with which statuses a command can end.
 abbrev pub Leaves : Option Command → Status → Seen → Seen → Type 0
 Leaves None status before after = UsageLeaves status (outlets before after)
-Leaves (Some (Cutout dataset key part)) status before after = CutoutLeaves status dataset (outlets before after)
+Leaves (Some (Cutout dataset key part)) status before after = CutoutLeaves status dataset part (outlets before after)
 Leaves (Some (Write dataset key workers)) status before after = WriteLeaves status dataset (outlets before after)
 
 -- What stays of the store, the feed and the door.
 abbrev pub Keeps : Option Command → Status → Seen → Seen → Type 0
-Keeps None status before after = OnlyReads before after × (after.left ≡ before.left) × (after.door ≡ before.door)
+Keeps None status before after = LeavesStore before after × (after.left ≡ before.left) × (after.door ≡ before.door)
 Keeps (Some (Cutout dataset key part)) status before after =
-    OnlyReads before after × (after.left ≡ before.left) × (after.door ≡ before.door)
--- no object stays half written that was begun in the call, and a write that succeeds reads its feed to the end
+    LeavesStore before after × (after.left ≡ before.left) × (after.door ≡ before.door)
+-- no object stays half written that was begun in the call; a write that succeeds reads its feed to the end, and one without a scale
+-- doesn't read it
 Keeps (Some (Write dataset key workers)) status before after =
-    Drops before.draft after.draft × (puts status ≡ false → OnlyReads before after)
-    × (status ≡ Ok → after.left ≡ option_map (λ _. []) before.left) × (after.door ≡ before.door)
+    Drops before.draft after.draft × (puts status ≡ false → LeavesStore before after)
+    × (status ≡ Ok → after.left ≡ option_map (λ _. []) before.left) × (status ≡ InfoRefused → after.left ≡ before.left)
+    × (after.door ≡ before.door)
 
 -- no count falls, a fault comes only where its count rose, and at success nothing was told, so nothing failed to be
 pub record IsCaused (status : Status) (before after : Faults) : Type 0 where

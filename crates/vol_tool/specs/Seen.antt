@@ -1,8 +1,8 @@
 -- What is seen of the outside before or after a call.
 use Rattle.std.specs.Prelude.{◌≡◌, ◌≤◌, ℕ, List, Option}
-use Rattle.vol_base.specs.Outside.{Draft, Objects}
+use Rattle.vol_shell.specs.Effects.{Says}
+use Rattle.vol_base.specs.Outside.{Draft, Objects, OnlyReads}
 use Rattle.vol_spec.specs.Types.{Bytes}
-use Rattle.vol_tool.specs.Statuses.{Outlets}
 
 -- how often each part of the outside failed
 pub record Faults : Type 0 where
@@ -22,11 +22,12 @@ pub record Doorway : Type 0 where
   pub accepted : ℕ
   pub served : Option Ends
 
--- the objects and the one being written, what is left of the feed, and what was written to the two outlets, where
--- they are told; the door, and how often each part failed
+-- the objects and the one being written, how many bytes were asked for, what is left of the feed, and what was written
+-- to the two outlets, where they are told; the door, and how often each part failed
 pub record Seen : Type 0 where
   pub objects : Option Objects
   pub draft : Option Draft
+  pub asked : ℕ
   pub left : Option Bytes
   pub out : Option Bytes
   pub err : Option Bytes
@@ -34,17 +35,46 @@ pub record Seen : Type 0 where
   pub faults : Faults
 
 -- the same by what a store, a feed, two outlets and a door tell
-abbrev pub view : {S F O E D : Type 0} → (S → Option Objects) → (S → Option Draft) → (S → ℕ) → (F → Option Bytes) → (F → ℕ)
+abbrev pub view : {S F O E D : Type 0} → (S → Option Objects) → (S → Option Draft) → (S → ℕ) → (S → ℕ) → (F → Option Bytes) → (F → ℕ)
     → (O → Option Bytes) → (O → ℕ) → (E → Option Bytes) → (E → ℕ) → (D → Option ℕ) → (D → ℕ) → (D → Option Ends) → (D → ℕ)
     → S → F → O → E → D → Seen
-view objects draft store_faults left feed_faults out out_faults err err_faults bound accepted served door_faults s f o e d = record {
+view objects draft asked store_faults left feed_faults out out_faults err err_faults bound accepted served door_faults s f o e d = record {
   objects = objects s;
   draft = draft s;
+  asked = asked s;
   left = left f;
   out = out o;
   err = err e;
   door = record { bound = bound d; accepted = accepted d; served = served d };
   faults = record { store = store_faults s; feed = feed_faults f; out = out_faults o; err = err_faults e; door = door_faults d };
+}
+
+-- the outlets of a call: what was written before and after it, and the error outlet's counts of faults
+pub record Outlets : Type 0 where
+  pub out_old : Option Bytes
+  pub out_new : Option Bytes
+  pub err_old : Option Bytes
+  pub err_new : Option Bytes
+  pub err_before : ℕ
+  pub err_now : ℕ
+
+-- the error outlet gained a line, or a front of it where it failed
+abbrev pub Tells : Outlets → Bytes → Type 0
+Tells o line = Says o.err_old o.err_new o.err_before o.err_now line
+
+-- the output gained nothing
+abbrev pub Silent : Outlets → Type 0
+Silent o = o.out_new ≡ o.out_old
+
+-- the same by what the two outlets tell
+abbrev pub outlets_of : {O E : Type 0} → (O → Option Bytes) → (O → ℕ) → (E → Option Bytes) → (E → ℕ) → O → O → E → E → Outlets
+outlets_of out out_faults err err_faults o p e f = record {
+  out_old = out o;
+  out_new = out p;
+  err_old = err e;
+  err_new = err f;
+  err_before = err_faults e;
+  err_now = err_faults f;
 }
 
 -- the two outlets before and after a call
@@ -59,9 +89,8 @@ outlets before after = record {
 }
 
 -- a call that only reads a store: its objects and the one being written are as before
-pub record OnlyReads (before after : Seen) : Type 0 where
-  pub objects : after.objects ≡ before.objects
-  pub draft : after.draft ≡ before.draft
+abbrev pub LeavesStore : Seen → Seen → Type 0
+LeavesStore before after = OnlyReads before.objects after.objects before.draft after.draft
 
 -- no count falls
 pub record IsLater (before after : Faults) : Type 0 where

@@ -1,163 +1,195 @@
 -- What `write` answers over the objects that a store tells and the stream that a feed tells.
-use Rattle.std.specs.Prelude.{◌≡◌, ◌⊎◌, Bool, true, false, ℕ, ◌≤◌, ◌<◌, ◌^◌, List, [], length, Option, Some, None, Result, Ok, Err, ⊤, IsOkAnd, IsErrAnd}
+use Rattle.std.specs.Prelude.{◌≡◌, ◌⊎◌, Bool, true, false, ℕ, ◌≤◌, ◌<◌, ◌^◌, [], length, Option, Some, None, IfSome, Result, Ok, Err, ⊤, IsOkAnd, IsErrAnd, IsSomeAnd}
+use Rattle.std.specs.Option.{option_map}
 use Rattle.vol_base.specs.declared.boxes.Box3.{Box3}
-use Rattle.vol_base.specs.Outside.{any_under, Draft, Objects}
+use Rattle.vol_base.specs.Outside.{any_under, Draft, Objects, OnlyReads}
 use Rattle.vol_spec.specs.CellNames.{folder_of}
 use Rattle.vol_spec.specs.Cut.{cut, first_fault}
 use Rattle.vol_spec.specs.Grid.{Inside}
 use Rattle.vol_spec.specs.LastWrite.{last, zeros}
 use Rattle.vol_spec.specs.StoredCells.{chunks_of, met_cells, put_in, raw_bytes}
 use Rattle.vol_spec.specs.StoredLists.{stored_list}
+use Rattle.vol_spec.specs.Types.{Bytes, Name, Writes}
 use Rattle.vol_spec.specs.declared.scale.Scale.{Scale}
 use Rattle.shard_writer.specs.Writing.{PutsFront}
 use Rattle.shard_writer.specs.declared.written.Written.{Written}
 use Rattle.write_plan.specs.Plans.{pairs}
 use Rattle.write_plan.specs.Stream.{writes_of}
-use Rattle.write_plan.specs.WriteLists.{BoxWrite}
 use Rattle.write_plan.specs.declared.fault.PlanFault.{PlanFault}
-use Rattle.tool_lines.specs.Effects.{Gains, GainsFront}
-use Rattle.tool_lines.specs.Lines.{cells_line, feed_line, folder_line, info_line, memory_line, output_line, store_line, stream_line, written_line}
+use Rattle.vol_shell.specs.Effects.{Gains, GainsFront}
+use Rattle.vol_shell.specs.Lines.{cells_line, feed_line, folder_line, info_line, memory_line, output_line, store_line, stream_line, written_line}
+use Rattle.vol_tool.specs.Cutouts.{TellsNoScale}
 use Rattle.vol_tool.specs.Refusals.{info_text}
-use Rattle.vol_tool.specs.Statuses.{Outlets, Silent, Tells, TellsRefusal}
-use Rattle.vol_tool.specs.Answers.{stored_scale}
+use Rattle.vol_tool.specs.Scales.{stored_scale}
+use Rattle.vol_tool.specs.Seen.{outlets, Outlets, Seen, Silent, Tells}
 use Rattle.vol_tool.specs.declared.refusal.NoScale.{NoScale}
-use Rattle.vol_tool.specs.declared.refusal.Refusal.{Refusal}
-use Rattle.vol_tool.specs.declared.refusal.Refusal.TheVariants.{NoScale as WithoutScale, Damaged as DamagedRefused, NotEmpty, Stream, TooManyCells, StoreFault as StoreRefused, FeedFault as FeedRefused, OutFault as OutRefused, NoMemory as MemoryRefused}
+use Rattle.vol_tool.specs.declared.refusal.WriteRefusal.{WriteRefusal}
+use Rattle.vol_tool.specs.declared.refusal.WriteRefusal.TheVariants as refused
 use Rattle.vol_tool.specs.declared.status.Status.{Status}
 use Rattle.vol_tool.specs.declared.status.Status.TheVariants.{Ok as Done, Usage, InfoRefused, RequestRefused, Damaged, StoreFault, FeedFault, OutFault, NoMemory, DoorFault}
 
 -- a box reads back as the writes: no cell that meets it has a fault, and its cutout is the bytes of the last write that covers
 -- each voxel and channel, else 0, none missing
-abbrev pub ReadsBack : Objects → List ℕ → Scale → List BoxWrite → Box3 → Type 0
+abbrev pub ReadsBack : Objects → Name → Scale → Writes → Box3 → Type 0
 ReadsBack now dataset s writes b =
     (first_fault now dataset s b ≡ None) × (cut now dataset s b ≡ raw_bytes b s.channels s.width (last s.width zeros writes))
 
 -- what stands after a write: the folder was empty, the feed was read to its end, the objects of the writes were put in and nothing else
--- was changed; so the scale is as before, and each box inside it reads back as the writes
-pub record HasStored (m : Objects) (now : Option Objects) (left : Option (List ℕ)) (dataset key : List ℕ) (s : Scale) (writes : List BoxWrite) : Type 0 where
+-- was changed, so the scale is as before
+pub record HasStored (m : Objects) (now : Option Objects) (left : Option Bytes) (dataset key : Name) (s : Scale) (writes : Writes) : Type 0 where
   pub empty : any_under m (folder_of dataset s) ≡ false
   pub few : pairs s writes ≤ 2 ^ 22
   pub end : left ≡ Some []
   pub put : now ≡ Some (put_in m (stored_list dataset s (chunks_of s zeros writes)))
   pub same : stored_scale (put_in m (stored_list dataset s (chunks_of s zeros writes))) dataset key ≡ stored_scale m dataset key
-  pub back : (b : Box3) → Inside s b → ReadsBack (put_in m (stored_list dataset s (chunks_of s zeros writes))) dataset s writes b
+
+-- and so each box inside the scale reads back
+abbrev pub AllReadBack : Option Objects → Name → Scale → Writes → Type 0
+AllReadBack objects dataset s writes = IsSomeAnd objects (λ now. (b : Box3) → Inside s b → ReadsBack now dataset s writes b)
+
+abbrev pub WrittenBack : Objects → Option Objects → Bytes → Name → Name → Type 0
+WrittenBack m now bytes dataset key = IsOkAnd (stored_scale m dataset key) (λ s. IsOkAnd (writes_of bytes s) (AllReadBack now dataset s))
 
 -- a front of the objects of writes that can be stored: the folder was empty, and there are not too many cells
-abbrev pub FrontPut : Objects → Option Objects → List ℕ → List ℕ → Scale → Type 0
+abbrev pub FrontPut : Objects → Option Objects → Bytes → Name → Scale → Type 0
 FrontPut m now bytes dataset s =
     (any_under m (folder_of dataset s) ≡ false) × IsOkAnd (writes_of bytes s) (λ writes. (pairs s writes ≤ 2 ^ 22) × PutsFront (stored_list dataset s (chunks_of s zeros writes)) m now)
 
 -- a number of objects and of cells that is that of the cells that the writes meet
-pub record Counts (written : Written) (s : Scale) (writes : List BoxWrite) : Type 0 where
+pub record Counts (written : Written) (s : Scale) (writes : Writes) : Type 0 where
   pub objects : written.objects ≡ length (met_cells s writes)
   pub cells : written.cells ≡ length (met_cells s writes)
 
--- what judging a folder answers, by whether an object stands under it
-abbrev pub JudgesFolder : Result ⊤ Refusal → Bool → Type 0
-JudgesFolder (Ok done) found = found ≡ false
-JudgesFolder (Err NotEmpty) found = found ≡ true
-JudgesFolder (Err StoreRefused) found = Unit {0}
-JudgesFolder (Err other) found = ⊥
-
--- what reading the stream answers
-abbrev pub ReadsStream : Result (List BoxWrite) Refusal → Result (List BoxWrite) PlanFault → Type 0
-ReadsStream (Ok writes) read = read ≡ Ok writes
-ReadsStream (Err (Stream fault)) read = read ≡ Err fault
-ReadsStream (Err FeedRefused) read = Unit {0}
-ReadsStream (Err MemoryRefused) read = Unit {0}
-ReadsStream (Err other) read = ⊥
-
 -- what writing the objects of writes answers, and what stands after it
-abbrev pub PutsWrites : Result Written Refusal → Objects → Option Objects → List ℕ → Scale → List BoxWrite → Type 0
+abbrev pub PutsWrites : Result Written WriteRefusal → Objects → Option Objects → Name → Scale → Writes → Type 0
 PutsWrites (Ok written) m now dataset s writes = (now ≡ Some (put_in m (stored_list dataset s (chunks_of s zeros writes)))) × (pairs s writes ≤ 2 ^ 22) × Counts written s writes
-PutsWrites (Err (TooManyCells cells)) m now dataset s writes = (cells ≡ pairs s writes) × (2 ^ 22 < pairs s writes)
-PutsWrites (Err StoreRefused) m now dataset s writes = (pairs s writes ≤ 2 ^ 22) × PutsFront (stored_list dataset s (chunks_of s zeros writes)) m now
-PutsWrites (Err MemoryRefused) m now dataset s writes = (now ≡ Some m) ⊎ ((pairs s writes ≤ 2 ^ 22) × PutsFront (stored_list dataset s (chunks_of s zeros writes)) m now)
+PutsWrites (Err (refused.TooManyCells cells)) m now dataset s writes = (cells ≡ pairs s writes) × (2 ^ 22 < pairs s writes)
+PutsWrites (Err refused.StoreFault) m now dataset s writes = (pairs s writes ≤ 2 ^ 22) × PutsFront (stored_list dataset s (chunks_of s zeros writes)) m now
+PutsWrites (Err refused.NoMemory) m now dataset s writes = (now ≡ Some m) ⊎ ((pairs s writes ≤ 2 ^ 22) × PutsFront (stored_list dataset s (chunks_of s zeros writes)) m now)
 PutsWrites (Err other) m now dataset s writes = ⊥
 
 -- what printing a line answers, and what the outlet gains
-abbrev pub Prints : Result ⊤ Refusal → Option (List ℕ) → Option (List ℕ) → List ℕ → Type 0
+abbrev pub Prints : Result ⊤ WriteRefusal → Option Bytes → Option Bytes → Bytes → Type 0
 Prints (Ok done) old new line = Gains old new line
-Prints (Err OutRefused) old new line = GainsFront old new line
-Prints (Err MemoryRefused) old new line = new ≡ old
+Prints (Err refused.OutFault) old new line = GainsFront old new line
+Prints (Err refused.NoMemory) old new line = new ≡ old
 Prints (Err other) old new line = ⊥
 
--- what writing a scale answers, and what stands after it
-abbrev pub WritesScale : Result Written Refusal → Objects → Option Objects → List ℕ → Option (List ℕ) → List ℕ → List ℕ → Scale → Type 0
-WritesScale (Ok written) m now bytes left dataset key s = IsOkAnd (writes_of bytes s) (λ writes. HasStored m now left dataset key s writes × Counts written s writes)
-WritesScale (Err NotEmpty) m now bytes left dataset key s = (any_under m (folder_of dataset s) ≡ true) × (left ≡ Some bytes)
-WritesScale (Err (Stream fault)) m now bytes left dataset key s = (any_under m (folder_of dataset s) ≡ false) × (writes_of bytes s ≡ Err fault)
-WritesScale (Err (TooManyCells cells)) m now bytes left dataset key s = (any_under m (folder_of dataset s) ≡ false) × IsOkAnd (writes_of bytes s) (λ writes. (cells ≡ pairs s writes) × (2 ^ 22 < pairs s writes))
-WritesScale (Err StoreRefused) m now bytes left dataset key s = (now ≡ Some m) ⊎ FrontPut m now bytes dataset s
-WritesScale (Err MemoryRefused) m now bytes left dataset key s = (now ≡ Some m) ⊎ FrontPut m now bytes dataset s
-WritesScale (Err FeedRefused) m now bytes left dataset key s = any_under m (folder_of dataset s) ≡ false
-WritesScale (Err other) m now bytes left dataset key s = ⊥
+-- what writing a scale answers over objects and a feed that are told, and what stands after it
+abbrev pub WritesScale : Result Written WriteRefusal → Objects → Option Objects → Bytes → Option Bytes → Name → Name → Scale → Type 0
+WritesScale (Ok written) m now bytes left dataset key s =
+    IsOkAnd (writes_of bytes s) (λ writes. HasStored m now left dataset key s writes × AllReadBack now dataset s writes × Counts written s writes)
+WritesScale (Err (refused.NoScale why)) m now bytes left dataset key s = ⊥
+WritesScale (Err refused.NotEmpty) m now bytes left dataset key s = Unit {0}
+WritesScale (Err (refused.Stream fault)) m now bytes left dataset key s = writes_of bytes s ≡ Err fault
+WritesScale (Err (refused.TooManyCells cells)) m now bytes left dataset key s = IsOkAnd (writes_of bytes s) (λ writes. (cells ≡ pairs s writes) × (2 ^ 22 < pairs s writes))
+WritesScale (Err refused.StoreFault) m now bytes left dataset key s = (now ≡ Some m) ⊎ FrontPut m now bytes dataset s
+WritesScale (Err refused.NoMemory) m now bytes left dataset key s = (now ≡ Some m) ⊎ FrontPut m now bytes dataset s
+WritesScale (Err refused.FeedFault) m now bytes left dataset key s = Unit {0}
+WritesScale (Err refused.OutFault) m now bytes left dataset key s = ⊥
 
--- what `write` answers, before it prints
-abbrev pub WritesAll : Result Written Refusal → Result Scale NoScale → Objects → Option Objects → List ℕ → Option (List ℕ) → List ℕ → List ℕ → Type 0
-WritesAll (Err (WithoutScale why)) told m now bytes left dataset key = (told ≡ Err why) × (left ≡ Some bytes)
-WritesAll (Err StoreRefused) told m now bytes left dataset key = (now ≡ Some m) ⊎ IsOkAnd told (FrontPut m now bytes dataset)
-WritesAll (Err MemoryRefused) told m now bytes left dataset key = (now ≡ Some m) ⊎ IsOkAnd told (FrontPut m now bytes dataset)
+-- what `write` answers over them, before it prints
+abbrev pub WritesAll : Result Written WriteRefusal → Result Scale NoScale → Objects → Option Objects → Bytes → Option Bytes → Name → Name → Type 0
+WritesAll (Err (refused.NoScale why)) told m now bytes left dataset key = Unit {0}
+WritesAll (Err refused.StoreFault) told m now bytes left dataset key = (now ≡ Some m) ⊎ IsOkAnd told (FrontPut m now bytes dataset)
+WritesAll (Err refused.NoMemory) told m now bytes left dataset key = (now ≡ Some m) ⊎ IsOkAnd told (FrontPut m now bytes dataset)
 WritesAll result told m now bytes left dataset key = IsOkAnd told (λ s. WritesScale result m now bytes left dataset key s)
 
--- nothing is put, and what was being written stays, where this is the answer
-abbrev pub KeepsStore : Refusal → Option Objects → Option Objects → Option Draft → Option Draft → Type 0
-KeepsStore StoreRefused old new before now = Unit {0}
-KeepsStore MemoryRefused old new before now = Unit {0}
-KeepsStore (DamagedRefused cell fault) old new before now = Unit {0}
-KeepsStore other old new before now = (new ≡ old) × (now ≡ before)
+-- what it answers over objects alone, the feed told or not: the scale and its folder are judged first, and the feed is read only then
+abbrev pub Judges : Result Written WriteRefusal → Result Scale NoScale → Objects → Name → Type 0
+Judges (Err (refused.NoScale why)) told m dataset = told ≡ Err why
+Judges (Err refused.NotEmpty) told m dataset = IsOkAnd told (λ s. any_under m (folder_of dataset s) ≡ true)
+Judges (Err refused.StoreFault) told m dataset = Unit {0}
+Judges (Err refused.NoMemory) told m dataset = Unit {0}
+Judges result told m dataset = IsOkAnd told (λ s. any_under m (folder_of dataset s) ≡ false)
+
+-- what it leaves where nothing is told: the feed isn't read where the scale or the folder is refused, and is read to its end by a write that
+-- succeeds; and nothing is put, and what was being written stays, but where the objects of a plan were begun
+abbrev pub KeepsFeed : Result Written WriteRefusal → Option Bytes → Option Bytes → Type 0
+KeepsFeed (Ok written) old new = new ≡ option_map (λ _. []) old
+KeepsFeed (Err (refused.NoScale why)) old new = new ≡ old
+KeepsFeed (Err refused.NotEmpty) old new = new ≡ old
+KeepsFeed (Err other) old new = Unit {0}
+
+abbrev pub KeepsStore : WriteRefusal → Option Objects → Option Objects → Option Draft → Option Draft → Type 0
+KeepsStore refused.StoreFault old new before now = Unit {0}
+KeepsStore refused.NoMemory old new before now = Unit {0}
+KeepsStore refused.OutFault old new before now = ⊥
+KeepsStore other old new before now = OnlyReads old new before now
+
+-- the same of the writes of a plan, which are refused for nothing else
+abbrev pub KeepsPlan : WriteRefusal → Option Objects → Option Objects → Option Draft → Option Draft → Type 0
+KeepsPlan refused.StoreFault old new before now = Unit {0}
+KeepsPlan refused.NoMemory old new before now = Unit {0}
+KeepsPlan (refused.TooManyCells cells) old new before now = OnlyReads old new before now
+KeepsPlan other old new before now = ⊥
 
 -- the statuses of a write after which some object may have been put
 abbrev pub puts : Status → Bool
 puts Done = true
-puts Damaged = true
 puts StoreFault = true
 puts OutFault = true
 puts NoMemory = true
 puts other = false
 
--- why a stream can't be written, with the line: an object stands under the scale's folder, and the feed isn't read; or the stream has a
--- fault; or the writes meet too many cells (the first of these)
-abbrev pub RefusesWrite : Objects → List ℕ → Option (List ℕ) → List ℕ → Scale → Outlets → Type 0
-RefusesWrite m bytes left dataset s o =
-    ((any_under m (folder_of dataset s) ≡ true) × (left ≡ Some bytes) × Tells o folder_line)
-    ⊎ (((any_under m (folder_of dataset s) ≡ false) × IsErrAnd (writes_of bytes s) (λ fault. Tells o (stream_line fault)))
-    ⊎ ((any_under m (folder_of dataset s) ≡ false) × IsOkAnd (writes_of bytes s) (λ writes. (2 ^ 22 < pairs s writes) × Tells o (cells_line (pairs s writes)))))
-
 -- the line of a write
-abbrev pub count_line : Scale → List BoxWrite → List ℕ
+abbrev pub count_line : Scale → Writes → Bytes
 count_line s writes = written_line (length (met_cells s writes)) (length (met_cells s writes))
 
--- what each status of `write` says over objects and a feed that are told
-abbrev pub WriteShows : Status → Objects → Option Objects → List ℕ → Option (List ℕ) → List ℕ → List ℕ → Outlets → Type 0
-WriteShows Done m now bytes left dataset key o = IsOkAnd (stored_scale m dataset key) (λ s. IsOkAnd (writes_of bytes s) (λ writes. HasStored m now left dataset key s writes × Gains o.out_old o.out_new (count_line s writes)))
-WriteShows InfoRefused m now bytes left dataset key o = (left ≡ Some bytes) × IsErrAnd (stored_scale m dataset key) (λ fault. Tells o (info_line dataset (info_text fault)))
-WriteShows RequestRefused m now bytes left dataset key o = IsOkAnd (stored_scale m dataset key) (λ s. RefusesWrite m bytes left dataset s o)
+-- what each status of `write` says over objects that are told: the scale and its folder are judged before the feed is read, of which this
+-- is left before and after the call
+abbrev pub WriteJudges : Status → Objects → Name → Name → Option Bytes → Option Bytes → Outlets → Type 0
+WriteJudges InfoRefused m dataset key old new o = IsErrAnd (stored_scale m dataset key) (λ why. Tells o (info_line dataset (info_text why)))
+WriteJudges RequestRefused m dataset key old new o =
+    IsOkAnd (stored_scale m dataset key) (λ s. any_under m (folder_of dataset s) ≡ true → (new ≡ old) × Tells o folder_line)
+WriteJudges StoreFault m dataset key old new o = Unit {0}
+WriteJudges NoMemory m dataset key old new o = Unit {0}
+WriteJudges Usage m dataset key old new o = ⊥
+WriteJudges Damaged m dataset key old new o = ⊥
+WriteJudges DoorFault m dataset key old new o = ⊥
+WriteJudges other m dataset key old new o = IsOkAnd (stored_scale m dataset key) (λ s. any_under m (folder_of dataset s) ≡ false)
+
+-- why a stream can't be written, with the line: it has a fault, or its writes meet too many cells
+abbrev pub RefusesStream : Bytes → Scale → Outlets → Type 0
+RefusesStream bytes s o =
+    IsErrAnd (writes_of bytes s) (λ fault. Tells o (stream_line fault))
+    ⊎ IsOkAnd (writes_of bytes s) (λ writes. (2 ^ 22 < pairs s writes) × Tells o (cells_line (pairs s writes)))
+
+-- and over a feed that is told too
+abbrev pub WriteShows : Status → Objects → Option Objects → Bytes → Option Bytes → Name → Name → Outlets → Type 0
+WriteShows Done m now bytes left dataset key o =
+    IsOkAnd (stored_scale m dataset key) (λ s. IsOkAnd (writes_of bytes s) (λ writes.
+    HasStored m now left dataset key s writes × Gains o.out_old o.out_new (count_line s writes)))
+WriteShows OutFault m now bytes left dataset key o =
+    IsOkAnd (stored_scale m dataset key) (λ s. IsOkAnd (writes_of bytes s) (λ writes.
+    HasStored m now left dataset key s writes × GainsFront o.out_old o.out_new (count_line s writes)))
+WriteShows RequestRefused m now bytes left dataset key o =
+    IsOkAnd (stored_scale m dataset key) (λ s. any_under m (folder_of dataset s) ≡ false → RefusesStream bytes s o)
 WriteShows StoreFault m now bytes left dataset key o = (now ≡ Some m) ⊎ IsOkAnd (stored_scale m dataset key) (FrontPut m now bytes dataset)
 WriteShows NoMemory m now bytes left dataset key o = (now ≡ Some m) ⊎ IsOkAnd (stored_scale m dataset key) (FrontPut m now bytes dataset)
-WriteShows OutFault m now bytes left dataset key o = IsOkAnd (stored_scale m dataset key) (λ s. IsOkAnd (writes_of bytes s) (λ writes. HasStored m now left dataset key s writes × GainsFront o.out_old o.out_new (count_line s writes)))
-WriteShows FeedFault m now bytes left dataset key o = IsOkAnd (stored_scale m dataset key) (λ s. any_under m (folder_of dataset s) ≡ false)
-WriteShows Usage m now bytes left dataset key o = ⊥
-WriteShows Damaged m now bytes left dataset key o = ⊥
-WriteShows DoorFault m now bytes left dataset key o = ⊥
+WriteShows other m now bytes left dataset key o = Unit {0}
 
 -- the scale is there, its folder is empty, and the stream can be written
-abbrev pub CanWrite : Objects → List ℕ → List ℕ → List ℕ → Type 0
+abbrev pub CanWrite : Objects → Bytes → Name → Name → Type 0
 CanWrite m bytes dataset key =
     IsOkAnd (stored_scale m dataset key) (λ s. (any_under m (folder_of dataset s) ≡ false) × IsOkAnd (writes_of bytes s) (λ writes. pairs s writes ≤ 2 ^ 22))
 
+-- the line of a folder that isn't empty, of some fault of a stream, or of too many cells
+abbrev pub TellsRequest : Outlets → Type 0
+TellsRequest o = Tells o folder_line ⊎ (((fault : PlanFault) × Tells o (stream_line fault)) ⊎ ((cells : ℕ) × Tells o (cells_line cells)))
+
 -- what `write` leaves, also where nothing is told: its line at success, a front of it where the output failed; else the output
--- gains nothing, and a line of the status is told
-abbrev pub WriteLeaves : Status → List ℕ → Outlets → Type 0
+-- gains nothing, and a line of the status is told. No chunk is read, so none is found damaged
+abbrev pub WriteLeaves : Status → Name → Outlets → Type 0
 WriteLeaves Done dataset o =
     (o.err_new ≡ o.err_old) × (objects : ℕ) × (cells : ℕ) × Gains o.out_old o.out_new (written_line objects cells)
-WriteLeaves InfoRefused dataset o = Silent o × TellsRefusal o dataset InfoRefused
-WriteLeaves RequestRefused dataset o = Silent o × TellsRefusal o dataset RequestRefused
-WriteLeaves Damaged dataset o = Silent o × TellsRefusal o dataset Damaged
+WriteLeaves InfoRefused dataset o = Silent o × TellsNoScale o dataset
+WriteLeaves RequestRefused dataset o = Silent o × TellsRequest o
 WriteLeaves StoreFault dataset o = Silent o × Tells o store_line
 WriteLeaves FeedFault dataset o = Silent o × Tells o feed_line
 WriteLeaves OutFault dataset o =
     Tells o output_line × (objects : ℕ) × (cells : ℕ) × GainsFront o.out_old o.out_new (written_line objects cells)
 WriteLeaves NoMemory dataset o = Silent o × Tells o memory_line
 WriteLeaves Usage dataset o = ⊥
+WriteLeaves Damaged dataset o = ⊥
 WriteLeaves DoorFault dataset o = ⊥

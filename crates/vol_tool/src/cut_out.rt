@@ -1,37 +1,39 @@
 //! The command `cutout`.
 ghost use Rattle.std.specs.Prelude.{◌≡◌, ◌≤◌, ◌+◌, ◌<◌, length, IfSome};
 ghost use Rattle.vol_base.specs.Causes.{Rose};
-ghost use Rattle.vol_spec.specs.Bytes.{AreBytes};
+ghost use Rattle.vol_base.specs.Outside.{OnlyReads};
+ghost use Rattle.vol_base.specs.Bytes.{AreBytes};
 ghost use Rattle.vol_spec.specs.Limits.{first_bytes};
 ghost use Rattle.vol_spec.specs.Raw.{raw_len};
-ghost use Rattle.vol_tool.specs.Answers.{Cuts, CutsScale, HasCut, IsRequest, JudgesPart, stored_scale, Writes, IsServed};
+ghost use Rattle.vol_tool.specs.Cutouts.{Cuts, CutsScale, HasCut, IsRequest, JudgesPart, Writes};
+ghost use Rattle.vol_tool.specs.Scales.{stored_scale, IsServed};
 
 use crate::buffers::make_buffer;
 use crate::info::read_scale;
-use crate::refusal::Refusal;
+use crate::refusal::CutoutRefusal;
 use chunk_grid::{byte_len, inside, whole};
 use cutout::{ReadFault, read_cells};
 use info_doc::Scale;
 use std::alloc::Global;
-use tool_lines::write_all;
 use vol_base::{Box3, Name, Outlet, Source};
+use vol_shell::write_all;
 
 /// A cutout has at most so many bytes.
 const MOST_BYTES: u128 = 1 << 30;
 
 // The number of bytes of a part that can be cut out, or why it can't.
-fn judge_part(scale: &Scale, part: &Box3) -> Result<usize, Refusal>
+fn judge_part(scale: &Scale, part: &Box3) -> Result<usize, CutoutRefusal>
     ensures { JudgesPart result scale.now part.now }
 {
     if !inside(scale, part) {
-        return Err(Refusal::Outside {
+        return Err(CutoutRefusal::Outside {
             part: *part,
             whole: whole(scale),
         });
     }
     let bytes = byte_len(part, scale.channels, scale.width);
     if bytes > MOST_BYTES {
-        return Err(Refusal::TooLarge(bytes));
+        return Err(CutoutRefusal::TooLarge(bytes));
     }
     Ok(bytes as usize)
 }
@@ -51,28 +53,20 @@ fn read_values<S: Source>(
     part: &Box3,
     chunk: &mut [u8],
     out: &mut [u8],
-) -> Result<(), Refusal>
+) -> Result<(), ReadFault>
     requires dataset { length dataset.now ≤ 200 }
     requires served { IsServed scale.now }
     requires part { IsRequest scale.now part.now }
     requires room { length chunk.old ≡ first_bytes scale.now.width scale.now.channels scale.now.size scale.now.chunk + 1 }
     requires len { length out.old ≡ raw_len part.now scale.now.channels scale.now.width }
     ensures read { IfSome (S.objects store.old) (λ m. HasCut result m dataset.now scale.now part.now out.new) }
-    ensures objects { S.objects store.new ≡ S.objects store.old }
-    ensures draft { S.draft store.new ≡ S.draft store.old }
+    ensures kept { OnlyReads (S.objects store.old) (S.objects store.new) (S.draft store.old) (S.draft store.new) }
     ensures later { S.faults store.old ≤ S.faults store.new }
-    ensures fault { result ≡ Err Refusal.StoreFault → Rose (S.faults store.old) (S.faults store.new) }
-    ensures output { result ≡ Err Refusal.OutFault → ⊥ }
-    ensures feed { result ≡ Err Refusal.FeedFault → ⊥ }
+    ensures fault { result ≡ Err ReadFault.StoreFault → Rose (S.faults store.old) (S.faults store.new) }
 {
-    match read_cells(store, dataset, scale, chunk, part, out) {
-        Err(ReadFault::StoreFault) => Err(Refusal::StoreFault),
-        Err(ReadFault::Damaged { cell, fault }) => Err(Refusal::Damaged { cell, fault }),
-        Ok(()) => {
-            tell_bytes(out);
-            Ok(())
-        }
-    }
+    read_cells(store, dataset, scale, chunk, part, out)?;
+    tell_bytes(out);
+    Ok(())
 }
 
 // Cuts a part out of a scale, by way of buffers for one chunk and for the part.
@@ -84,28 +78,24 @@ fn cut_into<S: Source, O: Outlet>(
     part: &Box3,
     chunk: &mut [u8],
     values: &mut [u8],
-) -> Result<(), Refusal>
+) -> Result<(), CutoutRefusal>
     requires dataset { length dataset.now ≤ 200 }
     requires served { IsServed scale.now }
     requires part { IsRequest scale.now part.now }
     requires room { length chunk.old ≡ first_bytes scale.now.width scale.now.channels scale.now.size scale.now.chunk + 1 }
     requires len { length values.old ≡ raw_len part.now scale.now.channels scale.now.width }
     ensures cuts { IfSome (S.objects store.old) (λ m. CutsScale result m dataset.now scale.now part.now (O.written out.old) (O.written out.new)) }
-    ensures objects { S.objects store.new ≡ S.objects store.old }
-    ensures draft { S.draft store.new ≡ S.draft store.old }
+    ensures kept { OnlyReads (S.objects store.old) (S.objects store.new) (S.draft store.old) (S.draft store.new) }
     ensures store_later { S.faults store.old ≤ S.faults store.new }
     ensures out_later { O.faults out.old ≤ O.faults out.new }
-    ensures store_fault { result ≡ Err Refusal.StoreFault → Rose (S.faults store.old) (S.faults store.new) }
-    ensures out_fault { result ≡ Err Refusal.OutFault → Rose (O.faults out.old) (O.faults out.new) }
-    ensures unwritten { Writes result (O.written out.old) (O.written out.new) }
-    ensures feed { result ≡ Err Refusal.FeedFault → ⊥ }
+    ensures store_fault { result ≡ Err CutoutRefusal.StoreFault → Rose (S.faults store.old) (S.faults store.new) }
+    ensures out_fault { result ≡ Err CutoutRefusal.OutFault → Rose (O.faults out.old) (O.faults out.new) }
+    ensures unwritten { Writes result part.now (O.written out.old) (O.written out.new) }
 {
-    match read_values(store, dataset, scale, part, chunk, values) {
-        Err(refusal) => Err(refusal),
-        Ok(()) => match write_all(out, values) {
-            Ok(()) => Ok(()),
-            Err(_) => Err(Refusal::OutFault),
-        },
+    read_values(store, dataset, scale, part, chunk, values)?;
+    match write_all(out, values) {
+        Ok(()) => Ok(()),
+        Err(_) => Err(CutoutRefusal::OutFault),
     }
 }
 
@@ -117,29 +107,20 @@ fn cut_scale<S: Source, O: Outlet>(
     dataset: &Name,
     scale: &Scale,
     part: &Box3,
-) -> Result<(), Refusal>
+) -> Result<(), CutoutRefusal>
     requires dataset { length dataset.now ≤ 200 }
     requires served { IsServed scale.now }
     ensures cuts { IfSome (S.objects store.old) (λ m. CutsScale result m dataset.now scale.now part.now (O.written out.old) (O.written out.new)) }
-    ensures objects { S.objects store.new ≡ S.objects store.old }
-    ensures draft { S.draft store.new ≡ S.draft store.old }
+    ensures kept { OnlyReads (S.objects store.old) (S.objects store.new) (S.draft store.old) (S.draft store.new) }
     ensures store_later { S.faults store.old ≤ S.faults store.new }
     ensures out_later { O.faults out.old ≤ O.faults out.new }
-    ensures store_fault { result ≡ Err Refusal.StoreFault → Rose (S.faults store.old) (S.faults store.new) }
-    ensures out_fault { result ≡ Err Refusal.OutFault → Rose (O.faults out.old) (O.faults out.new) }
-    ensures unwritten { Writes result (O.written out.old) (O.written out.new) }
-    ensures feed { result ≡ Err Refusal.FeedFault → ⊥ }
+    ensures store_fault { result ≡ Err CutoutRefusal.StoreFault → Rose (S.faults store.old) (S.faults store.new) }
+    ensures out_fault { result ≡ Err CutoutRefusal.OutFault → Rose (O.faults out.old) (O.faults out.new) }
+    ensures unwritten { Writes result part.now (O.written out.old) (O.written out.new) }
 {
-    let len = match judge_part(scale, part) {
-        Ok(len) => len,
-        Err(refusal) => return Err(refusal),
-    };
-    let Ok(mut values) = make_buffer(alloc, len) else {
-        return Err(Refusal::NoMemory);
-    };
-    let Ok(mut chunk) = make_buffer(alloc, scale.raw_limit() as usize + 1) else {
-        return Err(Refusal::NoMemory);
-    };
+    let len = judge_part(scale, part)?;
+    let mut values = make_buffer(alloc, len)?;
+    let mut chunk = make_buffer(alloc, scale.raw_limit() as usize + 1)?;
     cut_into(store, out, dataset, scale, part, &mut chunk, &mut values)
 }
 
@@ -152,21 +133,17 @@ pub(crate) fn cut_out<S: Source, O: Outlet>(
     dataset: &Name,
     key: &Name,
     part: &Box3,
-) -> Result<(), Refusal>
+) -> Result<(), CutoutRefusal>
     requires dataset { length dataset.now ≤ 200 }
     requires key { length key.now ≤ 200 }
     ensures cuts { IfSome (S.objects store.old) (λ m. Cuts result (stored_scale m dataset.now key.now) m dataset.now part.now (O.written out.old) (O.written out.new)) }
-    ensures objects { S.objects store.new ≡ S.objects store.old }
-    ensures draft { S.draft store.new ≡ S.draft store.old }
+    ensures kept { OnlyReads (S.objects store.old) (S.objects store.new) (S.draft store.old) (S.draft store.new) }
     ensures store_later { S.faults store.old ≤ S.faults store.new }
     ensures out_later { O.faults out.old ≤ O.faults out.new }
-    ensures store_fault { result ≡ Err Refusal.StoreFault → Rose (S.faults store.old) (S.faults store.new) }
-    ensures out_fault { result ≡ Err Refusal.OutFault → Rose (O.faults out.old) (O.faults out.new) }
-    ensures unwritten { Writes result (O.written out.old) (O.written out.new) }
-    ensures feed { result ≡ Err Refusal.FeedFault → ⊥ }
+    ensures store_fault { result ≡ Err CutoutRefusal.StoreFault → Rose (S.faults store.old) (S.faults store.new) }
+    ensures out_fault { result ≡ Err CutoutRefusal.OutFault → Rose (O.faults out.old) (O.faults out.new) }
+    ensures unwritten { Writes result part.now (O.written out.old) (O.written out.new) }
 {
-    match read_scale(alloc, store, dataset, key) {
-        Err(refusal) => Err(refusal),
-        Ok(scale) => cut_scale(alloc, store, out, dataset, &scale, part),
-    }
+    let scale = read_scale(alloc, store, dataset, key)?;
+    cut_scale(alloc, store, out, dataset, &scale, part)
 }

@@ -1,12 +1,13 @@
 //! The scale of a data set and a key.
-ghost use Rattle.std.specs.Prelude.{◌≡◌, ◌≤◌, ◌+◌, ◌<◌, ◌^◌, length, IfOk, IfSome};
+ghost use Rattle.std.specs.Prelude.{◌≡◌, ◌≢◌, ◌≤◌, ◌+◌, ◌<◌, ◌^◌, length, IfOk, IfSome};
 ghost use Rattle.vol_base.specs.Causes.{Rose};
+ghost use Rattle.vol_base.specs.Outside.{OnlyReads};
 ghost use Rattle.info_doc.specs.Info.{scale_in};
-ghost use Rattle.vol_tool.specs.Answers.{info_name, is_served, IsServed, judged_info, ReadsScale, served_only, stored_scale};
+ghost use Rattle.vol_tool.specs.Scales.{info_name, is_served, IsServed, judged_info, ReadsScale, served_only, stored_scale};
 
 use crate::buffers::make_buffer;
-use crate::refusal::{NoScale, Refusal};
-use info_doc::{Encoding, InfoFault, Scale, scale_of};
+use crate::refusal::{NoScale, ScaleRefusal};
+use info_doc::{Encoding, Scale, scale_of};
 use std::alloc::Global;
 use vol_base::{Got, Name, Source};
 
@@ -29,33 +30,26 @@ fn is_served_scale(scale: &Scale) -> bool
     matches!(&scale.encoding, Encoding::Raw) && scale.sharding.is_none()
 }
 
-pub(crate) fn serve_scale(scale: Scale) -> Result<Scale, Refusal>
+pub(crate) fn serve_scale(scale: Scale) -> Result<Scale, ScaleRefusal>
     ensures served { ReadsScale result (served_only scale) }
     ensures form { IfOk result IsServed }
-    ensures store { result ≡ Err Refusal.StoreFault → ⊥ }
-    ensures output { result ≡ Err Refusal.OutFault → ⊥ }
-    ensures feed { result ≡ Err Refusal.FeedFault → ⊥ }
+    ensures unasked { result ≢ Err ScaleRefusal.StoreFault }
 {
     if is_served_scale(&scale) {
         Ok(scale)
     } else {
-        Err(Refusal::NoScale(NoScale::NotBuilt))
+        Err(ScaleRefusal::NoScale(NoScale::NotBuilt))
     }
 }
 
-fn judge_info(alloc: Global, info: &[u8], key: &Name) -> Result<Scale, Refusal>
+fn judge_info(alloc: Global, info: &[u8], key: &Name) -> Result<Scale, ScaleRefusal>
     requires { length key.now ≤ 200 }
     ensures judged { ReadsScale result (judged_info (scale_in info.now key.now)) }
     ensures form { IfOk result IsServed }
-    ensures store { result ≡ Err Refusal.StoreFault → ⊥ }
-    ensures output { result ≡ Err Refusal.OutFault → ⊥ }
-    ensures feed { result ≡ Err Refusal.FeedFault → ⊥ }
+    ensures unasked { result ≢ Err ScaleRefusal.StoreFault }
 {
-    match scale_of(alloc, info, key) {
-        Ok(scale) => serve_scale(scale),
-        Err(InfoFault::OutOfMemory) => Err(Refusal::NoMemory),
-        Err(fault) => Err(Refusal::NoScale(NoScale::Refused(fault))),
-    }
+    let scale = scale_of(alloc, info, key)?;
+    serve_scale(scale)
 }
 
 // The scale, read by way of a buffer.
@@ -65,22 +59,19 @@ fn read_scale_into<S: Source>(
     dataset: &Name,
     key: &Name,
     buffer: &mut [u8],
-) -> Result<Scale, Refusal>
+) -> Result<Scale, ScaleRefusal>
     requires dataset { length dataset.now ≤ 200 }
     requires key { length key.now ≤ 200 }
     requires room { length buffer.old ≡ 2 ^ 20 + 1 }
     ensures read { IfSome (S.objects store.old) (λ m. ReadsScale result (stored_scale m dataset.now key.now)) }
     ensures form { IfOk result IsServed }
-    ensures feed { result ≡ Err Refusal.FeedFault → ⊥ }
-    ensures objects { S.objects store.new ≡ S.objects store.old }
-    ensures draft { S.draft store.new ≡ S.draft store.old }
+    ensures kept { OnlyReads (S.objects store.old) (S.objects store.new) (S.draft store.old) (S.draft store.new) }
     ensures later { S.faults store.old ≤ S.faults store.new }
-    ensures fault { result ≡ Err Refusal.StoreFault → Rose (S.faults store.old) (S.faults store.new) }
-    ensures output { result ≡ Err Refusal.OutFault → ⊥ }
+    ensures fault { result ≡ Err ScaleRefusal.StoreFault → Rose (S.faults store.old) (S.faults store.new) }
 {
     match store.read_at(&find_info(dataset), 0, buffer) {
-        Err(_) => Err(Refusal::StoreFault),
-        Ok(Got::Absent) => Err(Refusal::NoScale(NoScale::Absent)),
+        Err(_) => Err(ScaleRefusal::StoreFault),
+        Ok(Got::Absent) => Err(ScaleRefusal::NoScale(NoScale::Absent)),
         Ok(Got::Bytes(len)) => judge_info(alloc, &buffer[..len as usize], key),
     }
 }
@@ -92,20 +83,15 @@ pub(crate) fn read_scale<S: Source>(
     store: &mut S,
     dataset: &Name,
     key: &Name,
-) -> Result<Scale, Refusal>
+) -> Result<Scale, ScaleRefusal>
     requires dataset { length dataset.now ≤ 200 }
     requires key { length key.now ≤ 200 }
     ensures read { IfSome (S.objects store.old) (λ m. ReadsScale result (stored_scale m dataset.now key.now)) }
     ensures form { IfOk result IsServed }
-    ensures feed { result ≡ Err Refusal.FeedFault → ⊥ }
-    ensures objects { S.objects store.new ≡ S.objects store.old }
-    ensures draft { S.draft store.new ≡ S.draft store.old }
+    ensures kept { OnlyReads (S.objects store.old) (S.objects store.new) (S.draft store.old) (S.draft store.new) }
     ensures later { S.faults store.old ≤ S.faults store.new }
-    ensures fault { result ≡ Err Refusal.StoreFault → Rose (S.faults store.old) (S.faults store.new) }
-    ensures output { result ≡ Err Refusal.OutFault → ⊥ }
+    ensures fault { result ≡ Err ScaleRefusal.StoreFault → Rose (S.faults store.old) (S.faults store.new) }
 {
-    match make_buffer(alloc, INFO_ROOM) {
-        Err(_) => Err(Refusal::NoMemory),
-        Ok(mut buffer) => read_scale_into(alloc, store, dataset, key, &mut buffer),
-    }
+    let mut buffer = make_buffer(alloc, INFO_ROOM)?;
+    read_scale_into(alloc, store, dataset, key, &mut buffer)
 }

@@ -13,13 +13,13 @@ mod tests;
 mod top;
 mod write;
 
-use host_io::{DirStore, NoDoor, StdFeed, StdOutlet};
+use vol_shell::{DirStore, NoDoor, StdFeed, StdOutlet};
+use report::tell;
 use status::Status;
 use std::env::Env;
 use std::io::ErrorKind;
 use std::process::ExitCode;
 use std::{env, io};
-use tool_lines::say;
 use top::run;
 use vol_base::FreeGate;
 
@@ -30,14 +30,15 @@ fn read_arguments<R: Env + AllocGlobal>(rt: &R) -> io::Result<Vec<String>> {
     Ok(words)
 }
 
-/// Runs the command that the arguments spell, and ends with its status. Arguments that aren't text are no words.
+/// Runs the command that the arguments spell, and ends with the number of its status. Arguments that
+/// aren't text are no words.
 fn main(rt: HostRuntime) -> ExitCode {
     let mut err = StdOutlet::new(rt.stderr());
     let words = match read_arguments(&rt) {
         Ok(words) => words,
         Err(error) if error.kind() == ErrorKind::OutOfMemory => {
-            say(&mut err, b"out of memory\n");
-            return ExitCode::from(Status::NoMemory.number());
+            tell(&mut err, Status::NoMemory);
+            return ExitCode::from(Status::NoMemory);
         }
         Err(_) => Vec::new(rt.alloc()),
     };
@@ -52,5 +53,5 @@ fn main(rt: HostRuntime) -> ExitCode {
         &mut NoDoor::new(),
         &FreeGate,
     );
-    ExitCode::from(status.number())
+    ExitCode::from(status)
 }

@@ -1,8 +1,10 @@
 //! Why a command was refused.
 
 use info_doc::InfoFault;
+use cutout::ReadFault;
+use std::alloc::AllocError;
 use vol_base::{Box3, Fault};
-use write_plan::PlanFault;
+use write_plan::{PlanFault, PlanRefusal};
 
 /// Why a data set has no scale of a key that is served.
 #[derive(Clone, Copy, Debug, PartialEq, Eq)]
@@ -15,9 +17,17 @@ pub(crate) enum NoScale {
     NotBuilt,
 }
 
-/// Why a command was refused.
+/// Why a scale wasn't read.
 #[derive(Clone, Copy, Debug, PartialEq, Eq)]
-pub(crate) enum Refusal {
+pub(crate) enum ScaleRefusal {
+    NoScale(NoScale),
+    StoreFault,
+    NoMemory,
+}
+
+/// Why `cutout` was refused.
+#[derive(Clone, Copy, Debug, PartialEq, Eq)]
+pub(crate) enum CutoutRefusal {
     /// There is no scale.
     NoScale(NoScale),
     /// The box isn't inside the scale, all of which is the whole.
@@ -26,6 +36,16 @@ pub(crate) enum Refusal {
     TooLarge(u128),
     /// The first cell that meets the box and has a fault.
     Damaged { cell: [u64; 3], fault: Fault },
+    StoreFault,
+    OutFault,
+    NoMemory,
+}
+
+/// Why `write` was refused.
+#[derive(Clone, Copy, Debug, PartialEq, Eq)]
+pub(crate) enum WriteRefusal {
+    /// There is no scale.
+    NoScale(NoScale),
     /// An object stands under the folder of the scale that is to be written.
     NotEmpty,
     /// The stream of writes has a fault.
@@ -36,4 +56,124 @@ pub(crate) enum Refusal {
     FeedFault,
     OutFault,
     NoMemory,
+}
+
+impl From<AllocError> for ScaleRefusal {
+    ghost use Rattle.std.specs.Prelude.{◌≡◌};
+    ghost use Rattle.vol_tool.specs.declared.refusal.ScaleRefusal.TheVariants as refusals;
+
+    ghost from_gives = { λ _ e. e ≡ refusals.NoMemory };
+
+    fn from(_e: AllocError) -> ScaleRefusal {
+        ScaleRefusal::NoMemory
+    }
+}
+
+impl From<InfoFault> for ScaleRefusal {
+    ghost use Rattle.std.specs.Prelude.{◌≡◌};
+    ghost use Rattle.vol_tool.specs.Refusals.{scale_refused};
+
+    ghost from_gives = { λ fault e. e ≡ scale_refused fault };
+
+    fn from(fault: InfoFault) -> ScaleRefusal {
+        match fault {
+            InfoFault::OutOfMemory => ScaleRefusal::NoMemory,
+            fault => ScaleRefusal::NoScale(NoScale::Refused(fault)),
+        }
+    }
+}
+
+impl From<ScaleRefusal> for CutoutRefusal {
+    ghost use Rattle.std.specs.Prelude.{◌≡◌};
+    ghost use Rattle.vol_tool.specs.Refusals.{cutout_without};
+
+    ghost from_gives = { λ refusal e. e ≡ cutout_without refusal };
+
+    fn from(refusal: ScaleRefusal) -> CutoutRefusal {
+        match refusal {
+            ScaleRefusal::NoScale(why) => CutoutRefusal::NoScale(why),
+            ScaleRefusal::StoreFault => CutoutRefusal::StoreFault,
+            ScaleRefusal::NoMemory => CutoutRefusal::NoMemory,
+        }
+    }
+}
+
+impl From<ReadFault> for CutoutRefusal {
+    ghost use Rattle.std.specs.Prelude.{◌≡◌};
+    ghost use Rattle.vol_tool.specs.Refusals.{unread};
+
+    ghost from_gives = { λ fault e. e ≡ unread fault };
+
+    fn from(fault: ReadFault) -> CutoutRefusal {
+        match fault {
+            ReadFault::StoreFault => CutoutRefusal::StoreFault,
+            ReadFault::Damaged { cell, fault } => CutoutRefusal::Damaged { cell, fault },
+        }
+    }
+}
+
+impl From<AllocError> for CutoutRefusal {
+    ghost use Rattle.std.specs.Prelude.{◌≡◌};
+    ghost use Rattle.vol_tool.specs.declared.refusal.CutoutRefusal.TheVariants as refusals;
+
+    ghost from_gives = { λ _ e. e ≡ refusals.NoMemory };
+
+    fn from(_e: AllocError) -> CutoutRefusal {
+        CutoutRefusal::NoMemory
+    }
+}
+
+impl From<ScaleRefusal> for WriteRefusal {
+    ghost use Rattle.std.specs.Prelude.{◌≡◌};
+    ghost use Rattle.vol_tool.specs.Refusals.{write_without};
+
+    ghost from_gives = { λ refusal e. e ≡ write_without refusal };
+
+    fn from(refusal: ScaleRefusal) -> WriteRefusal {
+        match refusal {
+            ScaleRefusal::NoScale(why) => WriteRefusal::NoScale(why),
+            ScaleRefusal::StoreFault => WriteRefusal::StoreFault,
+            ScaleRefusal::NoMemory => WriteRefusal::NoMemory,
+        }
+    }
+}
+
+impl From<PlanFault> for WriteRefusal {
+    ghost use Rattle.std.specs.Prelude.{◌≡◌};
+    ghost use Rattle.vol_tool.specs.Refusals.{unstreamed};
+
+    ghost from_gives = { λ fault e. e ≡ unstreamed fault };
+
+    fn from(fault: PlanFault) -> WriteRefusal {
+        match fault {
+            PlanFault::FeedFault => WriteRefusal::FeedFault,
+            PlanFault::OutOfMemory => WriteRefusal::NoMemory,
+            fault => WriteRefusal::Stream(fault),
+        }
+    }
+}
+
+impl From<PlanRefusal> for WriteRefusal {
+    ghost use Rattle.std.specs.Prelude.{◌≡◌};
+    ghost use Rattle.vol_tool.specs.Refusals.{unplanned};
+
+    ghost from_gives = { λ refusal e. e ≡ unplanned refusal };
+
+    fn from(refusal: PlanRefusal) -> WriteRefusal {
+        match refusal {
+            PlanRefusal::TooManyCells { cells } => WriteRefusal::TooManyCells(cells),
+            PlanRefusal::OutOfMemory => WriteRefusal::NoMemory,
+        }
+    }
+}
+
+impl From<AllocError> for WriteRefusal {
+    ghost use Rattle.std.specs.Prelude.{◌≡◌};
+    ghost use Rattle.vol_tool.specs.declared.refusal.WriteRefusal.TheVariants as refusals;
+
+    ghost from_gives = { λ _ e. e ≡ refusals.NoMemory };
+
+    fn from(_e: AllocError) -> WriteRefusal {
+        WriteRefusal::NoMemory
+    }
 }

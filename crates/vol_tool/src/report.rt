@@ -1,92 +1,160 @@
-//! What a refusal says.
-ghost use Rattle.std.specs.Prelude.{◌≡◌, ◌≢◌, ◌≤◌, ◌⊎◌, IfOk};
-ghost use Rattle.tool_lines.specs.Effects.{Says};
-ghost use Rattle.tool_lines.specs.Lines.{info_line, memory_line};
-ghost use Rattle.vol_tool.specs.Refusals.{info_text, line_of, status_of};
+//! What is told of a refusal.
+ghost use Rattle.std.specs.Prelude.{◌≡◌, ◌≢◌, ◌≤◌, List, ℕ, None, IfOk, IfSome};
+ghost use Rattle.vol_shell.specs.Effects.{Says};
+ghost use Rattle.vol_shell.specs.Lines.{info_line};
+ghost use Rattle.vol_tool.specs.Refusals.{cutout_line, cutout_status, info_text, write_line as line_of_write, write_status};
+ghost use Rattle.vol_tool.specs.Statuses.{cutout_fixed, fixed_line, Reports, write_fixed};
+ghost use Rattle.vol_tool.specs.declared.status.Status.{Status};
 
-use crate::refusal::{NoScale, Refusal};
+use crate::refusal::{CutoutRefusal, NoScale, WriteRefusal};
 use crate::status::Status;
-use info_doc::InfoFault;
 use std::alloc::{AllocError, Global};
-use tool_lines::{
+use vol_shell::{
     say, write_cells_line, write_damaged_line, write_info_line, write_large_line,
     write_outside_line, write_stream_line,
 };
 use vol_base::{Name, Outlet};
 
-fn find_status(refusal: &Refusal) -> Status
-    ensures { result ≡ status_of refusal.now }
+/// Why a command was refused: a status, and a line.
+pub(crate) trait Refusal {
+    /// The status that it ends the command with.
+    ghost ends: { Self → Status };
+
+    /// Its line, over the name of a data set.
+    ghost line: { List ℕ → Self → List ℕ };
+
+    fn status(&self) -> Status
+        ensures { result ≡ ends self.now };
+
+    /// The line of a status that doesn't always have the same one.
+    fn write_line(&self, alloc: Global, dataset: &Name) -> Result<Vec<u8>, AllocError>
+        requires { fixed_line (ends self.now) ≡ None }
+        ensures { IfOk result (λ text. text.items ≡ line dataset.now self.now) };
+
+    /// Where the status always has the same line, it is that one.
+    ghost fixed: { (dataset : List ℕ) (refusal : Self) → IfSome (fixed_line (ends refusal)) (λ text. line dataset refusal ≡ text) };
+}
+
+// Why a data set has no scale.
+fn write_why(alloc: Global, dataset: &Name, why: &NoScale) -> Result<Vec<u8>, AllocError>
+    ensures { IfOk result (λ text. text.items ≡ info_line dataset.now (info_text why.now)) }
 {
-    match refusal {
-        Refusal::NoScale(_) => Status::InfoRefused,
-        Refusal::Outside { .. }
-        | Refusal::TooLarge(_)
-        | Refusal::NotEmpty
-        | Refusal::Stream(_)
-        | Refusal::TooManyCells(_) => Status::RequestRefused,
-        Refusal::Damaged { .. } => Status::Damaged,
-        Refusal::StoreFault => Status::StoreFault,
-        Refusal::FeedFault => Status::FeedFault,
-        Refusal::OutFault => Status::OutFault,
-        Refusal::NoMemory => Status::NoMemory,
+    match why {
+        NoScale::Absent => write_info_line(alloc, dataset, "absent"),
+        NoScale::Refused(fault) => {
+            let text = fault.to_string(alloc)?;
+            write_info_line(alloc, dataset, &text)
+        }
+        NoScale::NotBuilt => write_info_line(alloc, dataset, "not built"),
     }
 }
 
-// Why the info document was refused.
-fn write_info_fault(alloc: Global, dataset: &Name, fault: &InfoFault) -> Result<Vec<u8>, AllocError>
-    ensures { IfOk result (λ line. line.items ≡ info_line dataset.now (info_text (NoScale.Refused fault.now))) }
-{
-    let text = fault.to_string(alloc)?;
-    write_info_line(alloc, dataset, &text)
+impl Refusal for CutoutRefusal {
+    ghost ends = { cutout_status };
+
+    ghost line = { cutout_line };
+
+    ghost fixed = { cutout_fixed };
+
+    fn status(&self) -> Status {
+        match self {
+            CutoutRefusal::NoScale(_) => Status::InfoRefused,
+            CutoutRefusal::Outside { .. } | CutoutRefusal::TooLarge(_) => Status::RequestRefused,
+            CutoutRefusal::Damaged { .. } => Status::Damaged,
+            CutoutRefusal::StoreFault => Status::StoreFault,
+            CutoutRefusal::OutFault => Status::OutFault,
+            CutoutRefusal::NoMemory => Status::NoMemory,
+        }
+    }
+
+    fn write_line(&self, alloc: Global, dataset: &Name) -> Result<Vec<u8>, AllocError> {
+        match self {
+            CutoutRefusal::NoScale(why) => write_why(alloc, dataset, why),
+            CutoutRefusal::Outside { part, whole } => {
+                Ok(write_outside_line(alloc, part, whole)?.into_bytes())
+            }
+            CutoutRefusal::TooLarge(bytes) => Ok(write_large_line(alloc, *bytes)?.into_bytes()),
+            CutoutRefusal::Damaged { cell, fault } => {
+                Ok(write_damaged_line(alloc, *cell, *fault)?.into_bytes())
+            }
+            CutoutRefusal::StoreFault | CutoutRefusal::OutFault | CutoutRefusal::NoMemory => {
+                unreachable!()
+            }
+        }
+    }
 }
 
-fn write_line(alloc: Global, dataset: &Name, refusal: &Refusal) -> Result<Vec<u8>, AllocError>
-    ensures { IfOk result (λ line. line.items ≡ line_of dataset.now refusal.now) }
+impl Refusal for WriteRefusal {
+    ghost ends = { write_status };
+
+    ghost line = { line_of_write };
+
+    ghost fixed = { write_fixed };
+
+    fn status(&self) -> Status {
+        match self {
+            WriteRefusal::NoScale(_) => Status::InfoRefused,
+            WriteRefusal::NotEmpty | WriteRefusal::Stream(_) | WriteRefusal::TooManyCells(_) => {
+                Status::RequestRefused
+            }
+            WriteRefusal::StoreFault => Status::StoreFault,
+            WriteRefusal::FeedFault => Status::FeedFault,
+            WriteRefusal::OutFault => Status::OutFault,
+            WriteRefusal::NoMemory => Status::NoMemory,
+        }
+    }
+
+    fn write_line(&self, alloc: Global, dataset: &Name) -> Result<Vec<u8>, AllocError> {
+        match self {
+            WriteRefusal::NoScale(why) => write_why(alloc, dataset, why),
+            WriteRefusal::NotEmpty => Vec::from_slice(alloc, b"folder not empty\n"),
+            WriteRefusal::Stream(fault) => Ok(write_stream_line(alloc, *fault)?.into_bytes()),
+            WriteRefusal::TooManyCells(cells) => {
+                Ok(write_cells_line(alloc, *cells)?.into_bytes())
+            }
+            WriteRefusal::StoreFault
+            | WriteRefusal::FeedFault
+            | WriteRefusal::OutFault
+            | WriteRefusal::NoMemory => unreachable!(),
+        }
+    }
+}
+
+/// Tells a status by the line that it always has.
+pub(crate) fn tell<E: Outlet>(err: &mut E, status: Status)
+    requires { fixed_line status ≢ None }
+    ensures told { IfSome (fixed_line status) (Says (E.written err.old) (E.written err.new) (E.faults err.old) (E.faults err.new)) }
+    ensures later { E.faults err.old ≤ E.faults err.new }
 {
-    match refusal {
-        Refusal::NoScale(NoScale::Absent) => write_info_line(alloc, dataset, "absent"),
-        Refusal::NoScale(NoScale::Refused(fault)) => write_info_fault(alloc, dataset, fault),
-        Refusal::NoScale(NoScale::NotBuilt) => write_info_line(alloc, dataset, "not built"),
-        Refusal::Outside { part, whole } => {
-            Ok(write_outside_line(alloc, part, whole)?.into_bytes())
-        }
-        Refusal::TooLarge(bytes) => Ok(write_large_line(alloc, *bytes)?.into_bytes()),
-        Refusal::Damaged { cell, fault } => {
-            Ok(write_damaged_line(alloc, *cell, *fault)?.into_bytes())
-        }
-        Refusal::NotEmpty => Vec::from_slice(alloc, b"folder not empty\n"),
-        Refusal::Stream(fault) => Ok(write_stream_line(alloc, *fault)?.into_bytes()),
-        Refusal::TooManyCells(cells) => Ok(write_cells_line(alloc, *cells)?.into_bytes()),
-        Refusal::StoreFault => Vec::from_slice(alloc, b"store fault\n"),
-        Refusal::FeedFault => Vec::from_slice(alloc, b"feed fault\n"),
-        Refusal::OutFault => Vec::from_slice(alloc, b"output fault\n"),
-        Refusal::NoMemory => Vec::from_slice(alloc, b"out of memory\n"),
+    if let Some(line) = status.fixed_line() {
+        say(err, line);
     }
 }
 
 /// Tells a refusal by its line, and gives its status. Where there is no memory for the line, that is what is
-/// told; the line of an output that failed takes none.
-pub(crate) fn report<E: Outlet>(
+/// told; a line that a status always has takes none.
+pub(crate) fn report<E: Outlet, R: Refusal>(
     alloc: Global,
     err: &mut E,
     dataset: &Name,
-    refusal: &Refusal,
+    refusal: &R,
 ) -> Status
-    ensures told { ((result ≡ status_of refusal.now) × Says (E.written err.old) (E.written err.new) (E.faults err.old) (E.faults err.new) (line_of dataset.now refusal.now))
-        ⊎ ((result ≡ Status.NoMemory) × (refusal.now ≢ Refusal.OutFault) × Says (E.written err.old) (E.written err.new) (E.faults err.old) (E.faults err.new) memory_line) }
+    ensures told { Reports (R.ends refusal.now) (R.line dataset.now refusal.now) result
+        (Says (E.written err.old) (E.written err.new) (E.faults err.old) (E.faults err.new)) }
     ensures later { E.faults err.old ≤ E.faults err.new }
 {
-    if let Refusal::OutFault = refusal {
-        say(err, b"output fault\n");
-        return Status::OutFault;
+    let status = refusal.status();
+    if let Some(line) = status.fixed_line() {
+        say(err, line);
+        return status;
     }
-    match write_line(alloc, dataset, refusal) {
+    match refusal.write_line(alloc, dataset) {
         Ok(line) => {
             say(err, &line);
-            find_status(refusal)
+            status
         }
         Err(_) => {
-            say(err, b"out of memory\n");
+            tell(err, Status::NoMemory);
             Status::NoMemory
         }
     }

@@ -1,6 +1,8 @@
 //! How a command ended.
 ghost use Rattle.std.specs.Prelude.{◌≡◌};
 
+use std::process::ExitCode;
+
 /// How a command ended.
 #[derive(Clone, Copy, Debug, PartialEq, Eq)]
 pub enum Status {
@@ -21,7 +23,9 @@ pub enum Status {
 }
 
 impl Status {
-    ghost use Rattle.vol_tool.specs.Statuses.{number_of};
+    ghost use Rattle.std.specs.Prelude.{Option};
+    ghost use Rattle.std.specs.Option.{option_map};
+    ghost use Rattle.vol_tool.specs.Statuses.{fixed_line, number_of};
 
     /// The number that the process ends with, 0 to 9.
     pub fn number(&self) -> u8
@@ -39,5 +43,31 @@ impl Status {
             Status::NoMemory => 8,
             Status::DoorFault => 9,
         }
+    }
+
+    /// The line of a status that always has the same one; it takes no memory.
+    pub fn fixed_line(&self) -> Option<&'static [u8]>
+        ensures { option_map (λ line. line.now) result ≡ fixed_line self.now }
+    {
+        match self {
+            Status::Ok | Status::InfoRefused | Status::RequestRefused | Status::Damaged => None,
+            Status::Usage => Some(b"usage\n"),
+            Status::StoreFault => Some(b"store fault\n"),
+            Status::FeedFault => Some(b"feed fault\n"),
+            Status::OutFault => Some(b"output fault\n"),
+            Status::NoMemory => Some(b"out of memory\n"),
+            Status::DoorFault => Some(b"door fault\n"),
+        }
+    }
+}
+
+impl From<Status> for ExitCode {
+    ghost use Rattle.std.specs.Process.{exit_status};
+    ghost use Rattle.vol_tool.specs.Statuses.{number_of};
+
+    ghost from_gives = { λ status code. exit_status code ≡ number_of status };
+
+    fn from(status: Status) -> ExitCode {
+        ExitCode::from(status.number())
     }
 }

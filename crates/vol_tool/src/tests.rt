@@ -4,13 +4,13 @@ mod plain;
 mod writes;
 
 use crate::top::run;
-use host_io::NoDoor;
 use std::alloc::{AllocError, Global};
 use std::process::Abort;
 use std::sync::Wait;
 use std::test::Fail;
 use std::thread::Threads;
 use vol_base::{FreeGate, MemoryFeed, MemoryOutlet, MemoryStore, Name};
+use vol_shell::NoDoor;
 
 // A call of the tool over some objects, and what it answers. `sizes` are the size and the chunk size of the scale;
 // where they are empty, there is no info document but among the objects.

@@ -2,23 +2,22 @@
 ghost use Rattle.std.specs.Prelude.{◌≡◌, ◌≤◌, ◌⊎◌, None, Some, IfSome, ℕ, List, map, string_bytes, length, [], false};
 ghost use Rattle.std.specs.Option.{option_map};
 ghost use Rattle.vol_base.specs.Causes.{Rose};
-ghost use Rattle.vol_base.specs.Outside.{Objects};
+ghost use Rattle.vol_base.specs.Outside.{Objects, OnlyReads};
 ghost use Rattle.command_line.specs.Words.{line};
 ghost use Rattle.shard_writer.specs.Writing.{Drops};
+ghost use Rattle.vol_tool.specs.Cutouts.{CanCut, CutoutLeaves, CutoutShows};
 ghost use Rattle.vol_tool.specs.Runs.{Answers, Causes, Headline, Keeps, Leaves, Succeeds};
-ghost use Rattle.vol_tool.specs.Seen.{Seen, view};
-ghost use Rattle.vol_tool.specs.Statuses.{CanCut, CutoutLeaves, CutoutShows};
-ghost use Rattle.vol_tool.specs.Storing.{CanWrite, puts, WriteLeaves, WriteShows};
+ghost use Rattle.vol_tool.specs.Seen.{outlets_of, Seen, view};
+ghost use Rattle.vol_tool.specs.Storing.{CanWrite, puts, WriteJudges, WriteLeaves, WriteShows, WrittenBack};
 
 use crate::cut_out::cut_out;
-use crate::report::report;
+use crate::report::{report, tell};
 use crate::status::Status;
 use crate::write::{print_written, write_objects};
 use command_line::{Command, read_words};
 use std::alloc::Global;
 use std::sync::Wait;
 use std::thread::Threads;
-use tool_lines::say;
 use vol_base::{Box3, Door, Feed, Gate, Name, Outlet, Store};
 
 // The command `cutout`.
@@ -34,15 +33,14 @@ fn run_cutout<S: Store, O: Outlet, E: Outlet>(
     requires dataset { length dataset.now ≤ 200 }
     requires key { length key.now ≤ 200 }
     ensures shows { IfSome (S.objects store.old) (λ m. CutoutShows result m dataset.now key.now part.now
-        (record { out_old = O.written out.old; out_new = O.written out.new; err_old = E.written err.old; err_new = E.written err.new; err_before = E.faults err.old; err_now = E.faults err.new })) }
-    ensures leaves { CutoutLeaves result dataset.now
-        (record { out_old = O.written out.old; out_new = O.written out.new; err_old = E.written err.old; err_new = E.written err.new; err_before = E.faults err.old; err_now = E.faults err.new }) }
+        (outlets_of O.written O.faults E.written E.faults out.old out.new err.old err.new)) }
+    ensures leaves { CutoutLeaves result dataset.now part.now
+        (outlets_of O.written O.faults E.written E.faults out.old out.new err.old err.new) }
     ensures usage { result ≡ Status.Usage → ⊥ }
     ensures feed { result ≡ Status.FeedFault → ⊥ }
     ensures complete { (m : Objects) → S.objects store.old ≡ Some m → CanCut m dataset.now key.now part.now
         → (Rose (S.faults store.old) (S.faults store.new) → ⊥) → (Rose (O.faults out.old) (O.faults out.new) → ⊥) → (result ≡ Status.Ok) ⊎ (result ≡ Status.NoMemory) }
-    ensures objects { S.objects store.new ≡ S.objects store.old }
-    ensures draft { S.draft store.new ≡ S.draft store.old }
+    ensures kept { OnlyReads (S.objects store.old) (S.objects store.new) (S.draft store.old) (S.draft store.new) }
     ensures store_later { S.faults store.old ≤ S.faults store.new }
     ensures out_later { O.faults out.old ≤ O.faults out.new }
     ensures err_later { E.faults err.old ≤ E.faults err.new }
@@ -68,17 +66,22 @@ fn run_write<S: Store, F: Feed, O: Outlet, E: Outlet>(
 ) -> Status
     requires dataset { length dataset.now ≤ 200 }
     requires key { length key.now ≤ 200 }
+    ensures judges { IfSome (S.objects store.old) (λ m. WriteJudges result m dataset.now key.now (F.left feed.old) (F.left feed.new)
+        (outlets_of O.written O.faults E.written E.faults out.old out.new err.old err.new)) }
     ensures shows { IfSome (S.objects store.old) (λ m. IfSome (F.left feed.old) (λ bytes. WriteShows result m (S.objects store.new) bytes (F.left feed.new) dataset.now key.now
-        (record { out_old = O.written out.old; out_new = O.written out.new; err_old = E.written err.old; err_new = E.written err.new; err_before = E.faults err.old; err_now = E.faults err.new }))) }
+        (outlets_of O.written O.faults E.written E.faults out.old out.new err.old err.new))) }
     ensures leaves { WriteLeaves result dataset.now
-        (record { out_old = O.written out.old; out_new = O.written out.new; err_old = E.written err.old; err_new = E.written err.new; err_before = E.faults err.old; err_now = E.faults err.new }) }
+        (outlets_of O.written O.faults E.written E.faults out.old out.new err.old err.new) }
     ensures usage { result ≡ Status.Usage → ⊥ }
     ensures complete { (m : Objects) (bytes : List ℕ) → S.objects store.old ≡ Some m → F.left feed.old ≡ Some bytes → CanWrite m bytes dataset.now key.now
         → (Rose (S.faults store.old) (S.faults store.new) → ⊥) → (Rose (F.faults feed.old) (F.faults feed.new) → ⊥) → (Rose (O.faults out.old) (O.faults out.new) → ⊥)
         → (result ≡ Status.Ok) ⊎ (result ≡ Status.NoMemory) }
+    ensures back { result ≡ Status.Ok → IfSome (S.objects store.old) (λ m. IfSome (F.left feed.old) (λ bytes.
+        WrittenBack m (S.objects store.new) bytes dataset.now key.now)) }
     ensures end { result ≡ Status.Ok → F.left feed.new ≡ option_map (λ _. []) (F.left feed.old) }
+    ensures unread { result ≡ Status.InfoRefused → F.left feed.new ≡ F.left feed.old }
     ensures draft { Drops (S.draft store.old) (S.draft store.new) }
-    ensures kept { puts result ≡ false → (S.objects store.new ≡ S.objects store.old) × (S.draft store.new ≡ S.draft store.old) }
+    ensures kept { puts result ≡ false → OnlyReads (S.objects store.old) (S.objects store.new) (S.draft store.old) (S.draft store.new) }
     ensures store_later { S.faults store.old ≤ S.faults store.new }
     ensures feed_later { F.faults feed.old ≤ F.faults feed.new }
     ensures out_later { O.faults out.old ≤ O.faults out.new }
@@ -107,7 +110,7 @@ pub trait Viewed<S, F, O, E, D> {
 }
 
 impl<S: Store, F: Feed, O: Outlet, E: Outlet, D: Door> Viewed<S, F, O, E, D> for Outside {
-    ghost at = { view S.objects S.draft S.faults F.left F.faults O.written O.faults E.written E.faults D.bound D.accepted D.served D.faults };
+    ghost at = { view S.objects S.draft S.asked S.faults F.left F.faults O.written O.faults E.written E.faults D.bound D.accepted D.served D.faults };
 }
 
 /// Runs the command that the words spell (those after the program's name) over a store, a feed, an output, an
@@ -159,11 +162,11 @@ where
 {
     match read_words(alloc, words) {
         Err(_) => {
-            say(err, b"out of memory\n");
+            tell(err, Status::NoMemory);
             Status::NoMemory
         }
         Ok(None) => {
-            say(err, b"usage\n");
+            tell(err, Status::Usage);
             Status::Usage
         }
         Ok(Some(Command::Cutout { dataset, key, part })) => {

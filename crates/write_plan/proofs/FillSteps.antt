@@ -7,7 +7,7 @@ use Rattle.std.proofs.lemmas.Grind.{common_steps}
 use Rattle.std.proofs.lemmas.List.{get_or-map, get_or_past, length-map, map_more}
 use Rattle.vol_base.specs.declared.boxes.Box3.{Box3}
 use Rattle.vol_base.specs.Boxes.{num, value, IsSome, Within}
-use Rattle.vol_spec.specs.Bytes.{AreBytes}
+use Rattle.vol_base.specs.Bytes.{AreBytes}
 use Rattle.vol_spec.specs.Grid.{cell_box, meets}
 use Rattle.vol_spec.specs.LastWrite.{covers, last, zeros}
 use Rattle.vol_spec.specs.Raw.{digit, number, raw_len}

@@ -6,4 +6,5 @@ pub mod Plans
 pub mod Readers
 pub mod Reading
 pub mod Stream
+pub mod StreamTexts
 pub mod WriteLists

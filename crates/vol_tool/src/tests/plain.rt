@@ -1,6 +1,6 @@
 //! Cutouts against the plain program, value by value.
 ghost use Rattle.std.specs.Prelude.{◌≡◌, ◌≤◌, length, true};
-ghost use Rattle.vol_tool.specs.Answers.{IsServed, is_served};
+ghost use Rattle.vol_tool.specs.Scales.{IsServed, is_served};
 
 use super::{call, no_feed, outlet_of, put};
 use crate::info::serve_scale;

@@ -13,8 +13,7 @@ pub loop-cell-init : goal.loop-cell-init
 loop-cell-init g c = record {
   left = c.into_iter-cell-iterator.ensures.into_iter_gives ∙ c.cells-cell-items.ensures;
   read = λ m told. read_none m c.args.dataset.now c.args.scale.now c.args.part.now c.args.out.now;
-  objects = refl;
-  draft = refl;
+  kept = record { same_objects = refl; same_draft = refl };
   later = omega arith;
 }
 
@@ -27,9 +26,11 @@ loop-cell-preserved g c =
       left = one_on c.loop-cell.yielded c.loop-cell.cell-iterator c.next.new.self (cells_in c.args.scale.now c.args.part.now) c.in-Some.cell next c.loop-cell.invariant.left;
       read = λ m told.
           read_more m c.args.dataset.now c.args.scale.now c.args.part.now c.loop-cell.yielded c.in-Some.cell c.loop-cell.out c.read_one.new.out c.requires.raw home (c.loop-cell.invariant.read m told)
-          (from_told _ _ m (c.loop-cell.invariant.objects ∙ told) c.in-Ok.ensures.read);
-      objects = c.read_one.ensures.objects ∙ c.loop-cell.invariant.objects;
-      draft = c.read_one.ensures.draft ∙ c.loop-cell.invariant.draft;
+          (from_told _ _ m (c.loop-cell.invariant.kept.same_objects ∙ told) c.in-Ok.ensures.read);
+      kept = record {
+        same_objects = c.read_one.ensures.kept.same_objects ∙ c.loop-cell.invariant.kept.same_objects;
+        same_draft = c.read_one.ensures.kept.same_draft ∙ c.loop-cell.invariant.kept.same_draft;
+      };
       later = omega (arith, c.read_one.ensures.later, c.loop-cell.invariant.later);
     }
 
@@ -44,7 +45,7 @@ returns-in-Err-clause-read g c =
     read_refused m c.args.dataset.now c.args.scale.now c.args.part.now c.loop-cell.yielded c.loop-cell.cell-iterator c.next.new.self c.in-Some.cell c.in-Err.fault c.loop-cell.out _ _
     c.place_fault.result c.place_fault.ensures
     (c.loop-cell.invariant.read m told) c.in-Some.ensures.steps c.loop-cell.invariant.left
-    (from_told _ _ m (c.loop-cell.invariant.objects ∙ told) c.in-Err.ensures.read))
+    (from_told _ _ m (c.loop-cell.invariant.kept.same_objects ∙ told) c.in-Err.ensures.read))
 
 pub returns-clause-read : goal.returns-clause-read
 returns-clause-read g c =

@@ -1,5 +1,5 @@
 use Rattle.std.proofs.Common.{◌≡◌, ◌≤◌, ◌++◌, Some}
-use Rattle.vol_base.specs.Outside.{Objects}
+use Rattle.vol_base.specs.Outside.{Objects, OnlyReads}
 use Rattle.vol_spec.specs.Grid.{cells_in}
 use Rattle.cutout.specs.Reading.{ReadSoFar}
 use Rattle.cutout.proofs.reading.read_cells.Given as goal
@@ -8,7 +8,6 @@ abbrev pub invariant-loop-cell : goal.invariant-loop-cell
 invariant-loop-cell g l = record {
   left : l.yielded ++ l.cell-iterator ≡ cells_in l.scale l.part;
   read : (m : Objects) → g.S.Source.objects l.fn.store ≡ Some m → ReadSoFar m l.dataset l.scale l.part l.yielded l.out;
-  objects : g.S.Source.objects l.store ≡ g.S.Source.objects l.fn.store;
-  draft : g.S.Source.draft l.store ≡ g.S.Source.draft l.fn.store;
+  kept : OnlyReads (g.S.Source.objects l.fn.store) (g.S.Source.objects l.store) (g.S.Source.draft l.fn.store) (g.S.Source.draft l.store);
   later : g.S.Source.faults l.fn.store ≤ g.S.Source.faults l.store;
 }

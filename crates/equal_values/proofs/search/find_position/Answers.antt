@@ -1,18 +1,12 @@
-use Rattle.std.proofs.Common.{arith, ap, sym, length}
-use Rattle.equal_values.specs.Chains.{group_at, home_at}
-use Rattle.equal_values.specs.Hashes.{group_of}
-use Rattle.equal_values.proofs.Walks.{walk_finds}
-use Rattle.equal_values.proofs.Firsts.{first_member, none_here}
+use Rattle.std.proofs.Common.{ap, ◌∙◌, sym, length}
+use Rattle.equal_values.specs.Chains.{spread}
+use Rattle.equal_values.specs.Hashes.{hashed}
+use Rattle.equal_values.proofs.Firsts.{eq_is}
+use Rattle.equal_values.proofs.Walks.{found_is}
 use Rattle.equal_values.proofs.search.find_position.Goals as goal
 
-pub returns-then-moved-b : goal.returns-then-moved-b
-returns-then-moved-b c =
-    let hash = home_at c.args.moved.now (length c.args.heads.now) in
-    let leads = c.loop-cursor.invariant.0 in
-    walk_finds hash c.args.moved.now (group_at c.args.moved.now c.args.a) c.args.a _ c.loop-cursor.cursor c.loop-cursor-test.true leads c.if-moved-b.true
+pub find_equal-requires-clause-shared : goal.find_equal-requires-clause-shared
+find_equal-requires-clause-shared c = λ j e. ap (λ v. spread (hashed v) (length c.args.heads.now)) (eq_is _ _ e) ∙ sym c.requires.home
 
 pub returns : goal.returns
-returns c = sym (none_here c.args.moved.now c.args.a
-    (λ j l p e.
-    let member = first_member c.args.moved.now (group_at c.args.moved.now c.args.a) j (ap group_of e) p in
-    absurd (omega (arith, c.loop-cursor.invariant.1 j l member e, c.loop-cursor-test.false))))
+returns c = found_is c.args.moved.now c.args.a c.find_equal.result c.find_equal.ensures

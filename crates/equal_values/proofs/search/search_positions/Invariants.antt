@@ -1,6 +1,7 @@
 use Rattle.std.proofs.Common.{◌≡◌, ◌+◌, ◌<◌, ◌≤◌, ℕ, length, slice_index}
 use Rattle.equal_values.specs.Earlier.{coded, earlier}
-use Rattle.equal_values.specs.Chains.{IsIndex, group_at, home_at, is_member}
+use Rattle.equal_values.specs.Chains.{IsIndex}
+use Rattle.equal_values.specs.Members.{group_at, home_at, is_member}
 use Rattle.equal_values.proofs.search.search_positions.Given as goal
 
 abbrev pub invariant-loop-a : goal.invariant-loop-a

@@ -9,4 +9,4 @@ pub encode-len-requires-clause-scratch : goal.encode-len-requires-clause-scratch
 encode-len-requires-clause-scratch c = serves_self (sizes_for c.in_ok-scratch.scratch) (sizes_of c.args.shape.now) c.in_ok-scratch.ensures
 
 pub encode-len-requires-clause-out : goal.encode-len-requires-clause-out
-encode-len-requires-clause-out c = let h = limits c.args.shape.now in omega (arith, h.few_channels, c.requires.limit, c.in_ok-out.ensures)
+encode-len-requires-clause-out c = let h = limits c.args.shape.now in omega (arith, h.few_channels, c.requires.limit, c.requires.out)

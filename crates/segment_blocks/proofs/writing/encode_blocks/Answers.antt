@@ -12,8 +12,8 @@ overflow_mul-at c =
 
 pub loop-k-init : goal.loop-k-init
 loop-k-init c =
-    let heads = take_at c.clear_heads.new.heads (drop (length c.clear_heads.new.heads) c.args.room.now.heads.items) c.args.room.now.heads.len (omega (arith, c.clear_heads.auto.heads, c.deref_mut.ensures.len)) in (
+    let heads = take_at c.clear.new.numbers (drop (length c.clear.new.numbers) c.args.room.now.heads.items) c.args.room.now.heads.len (omega (arith, c.clear.auto.numbers, c.deref_mut.ensures.len)) in (
       first_at (sizes_of c.args.shape.now) c.args.raw.now c.args.c c.args.blocks c.requires.blocks,
-      begun_none (sizes_of c.args.shape.now) c.args.raw.now c.args.c c.args.out.now _ (subst (λ q. (h : ℕ) → h < length q → slice_index q h ≡ 0) (sym heads) c.clear_heads.ensures),
-      record { voxels = refl; table = refl; heads = ap length heads ∙ c.clear_heads.auto.heads ∙ ap length c.deref_mut.ensures.value; next = refl; at = refl; lens = refl; headers = refl },
+      begun_none (sizes_of c.args.shape.now) c.args.raw.now c.args.c c.args.out.now _ (subst (λ q. (h : ℕ) → h < length q → slice_index q h ≡ 0) (sym heads) c.clear.ensures),
+      record { voxels = refl; table = refl; heads = ap length heads ∙ c.clear.auto.numbers ∙ ap length c.deref_mut.ensures.value; next = refl; at = refl; lens = refl; headers = refl },
     )

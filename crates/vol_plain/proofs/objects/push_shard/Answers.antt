@@ -1,6 +1,7 @@
 use Rattle.std.proofs.Common.{arith, ap, ◌∙◌}
 use Rattle.vol_plain.specs.CellParts.{key_entries}
-use Rattle.vol_plain.specs.ShardParts.{chunks_of, room}
+use Rattle.vol_plain.specs.ShardParts.{chunks_of}
+use Rattle.chunk_laws.specs.Rooms.{room}
 use Rattle.vol_plain.proofs.ObjectSteps.{room_in}
 use Rattle.vol_plain.proofs.objects.push_shard.Goals as goal
 

@@ -2,7 +2,8 @@ use Rattle.std.proofs.Common.{arith}
 use Rattle.std.specs.Prelude.{filter}
 use Rattle.vol_plain.specs.ShardParts.{chunks_of, is_meant}
 use Rattle.vol_plain.specs.declared.sums.Choice.TheVariants.{Below, In}
-use Rattle.vol_plain.proofs.SumSteps.{joint_fits, room_fits, room_split}
+use Rattle.chunk_laws.proofs.Sums.{room_fits}
+use Rattle.vol_plain.proofs.SumSteps.{joint_fits, room_split}
 use Rattle.vol_plain.proofs.shards.entry_at.Goals as goal
 
 pub overflow_add-start : goal.overflow_add-start

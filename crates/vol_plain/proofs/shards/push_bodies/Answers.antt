@@ -1,6 +1,6 @@
 use Rattle.std.proofs.Common.{◌++◌, ap, ◌∙◌}
 use Rattle.vol_plain.specs.ShardParts.{chunks_of}
-use Rattle.vol_plain.proofs.PartSteps.{pieces_more}
+use Rattle.chunk_laws.proofs.Sums.{pieces_more}
 use Rattle.vol_plain.proofs.shards.push_bodies.Goals as goal
 use Rattle.vol_spec.specs.Shards.{body}
 

@@ -1,7 +1,8 @@
 use Rattle.std.proofs.Common.{arith}
 use Rattle.std.proofs.lemmas.Grind.{common_steps}
 use Rattle.vol_plain.specs.ShardParts.{chunks_of, is_meant}
-use Rattle.vol_plain.proofs.SumSteps.{joint_first, joint_fits}
+use Rattle.chunk_laws.proofs.Sums.{joint_first}
+use Rattle.vol_plain.proofs.SumSteps.{joint_fits}
 use Rattle.vol_plain.proofs.sums.+joint_len.Goals as goal
 
 pub overflow_add-result : goal.overflow_add-result

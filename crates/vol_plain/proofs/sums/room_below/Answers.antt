@@ -2,7 +2,8 @@ use Rattle.std.proofs.Common.{arith}
 use Rattle.std.specs.Prelude.{filter}
 use Rattle.vol_plain.specs.ShardParts.{chunks_of, is_meant}
 use Rattle.vol_plain.specs.declared.sums.Choice.TheVariants.{Below}
-use Rattle.vol_plain.proofs.SumSteps.{room_fits, room_split}
+use Rattle.chunk_laws.proofs.Sums.{room_fits}
+use Rattle.vol_plain.proofs.SumSteps.{room_split}
 use Rattle.vol_plain.proofs.sums.room_below.Goals as goal
 
 pub overflow_add-result : goal.overflow_add-result

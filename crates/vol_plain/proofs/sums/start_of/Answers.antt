@@ -2,7 +2,8 @@ use Rattle.std.proofs.Common.{arith, nat_lt, ap}
 use Rattle.std.specs.Prelude.{◌==◌}
 use Rattle.vol_plain.specs.ShardParts.{chunks_of, is_meant}
 use Rattle.vol_plain.specs.declared.sums.Choice.TheVariants.{Below, InBelow}
-use Rattle.vol_plain.proofs.SumSteps.{filter_twice, joint_fits, room_fits}
+use Rattle.chunk_laws.proofs.Sums.{room_fits}
+use Rattle.vol_plain.proofs.SumSteps.{filter_twice, joint_fits}
 use Rattle.vol_plain.proofs.sums.start_of.Goals as goal
 use Rattle.vol_spec.specs.Shards.{Chunk, joint}
 

@@ -7,25 +7,25 @@ use Rattle.vol_tool.proofs.top.run.Goals as goal
 pub returns-in-Err-clause-answers : goal.returns-in-Err-clause-answers
 returns-in-Err-clause-answers g c =
     memory_answers (line (map string_bytes c.args.words.now))
-    (view g.S.Source.objects g.S.Source.draft g.S.Source.faults g.F.Feed.left g.F.Feed.faults g.O.Outlet.written g.O.Outlet.faults g.E.Outlet.written g.E.Outlet.faults
+    (view g.S.Source.objects g.S.Source.draft g.S.Source.asked g.S.Source.faults g.F.Feed.left g.F.Feed.faults g.O.Outlet.written g.O.Outlet.faults g.E.Outlet.written g.E.Outlet.faults
     g.D.Door.bound g.D.Door.accepted g.D.Door.served g.D.Door.faults c.args.store.now c.args.feed.now c.args.out.now c.args.err.now c.args._door.now)
-    (g.E.Outlet.written c.say.new.err) (g.E.Outlet.faults c.say.new.err)
+    (g.E.Outlet.written c.tell.new.err) (g.E.Outlet.faults c.tell.new.err)
 
 pub returns-in-Err-clause-succeeds : goal.returns-in-Err-clause-succeeds
 returns-in-Err-clause-succeeds g c =
     memory_succeeds (line (map string_bytes c.args.words.now))
-    (view g.S.Source.objects g.S.Source.draft g.S.Source.faults g.F.Feed.left g.F.Feed.faults g.O.Outlet.written g.O.Outlet.faults g.E.Outlet.written g.E.Outlet.faults
+    (view g.S.Source.objects g.S.Source.draft g.S.Source.asked g.S.Source.faults g.F.Feed.left g.F.Feed.faults g.O.Outlet.written g.O.Outlet.faults g.E.Outlet.written g.E.Outlet.faults
     g.D.Door.bound g.D.Door.accepted g.D.Door.served g.D.Door.faults c.args.store.now c.args.feed.now c.args.out.now c.args.err.now c.args._door.now)
-    (g.E.Outlet.written c.say.new.err) (g.E.Outlet.faults c.say.new.err)
+    (g.E.Outlet.written c.tell.new.err) (g.E.Outlet.faults c.tell.new.err)
 
 pub returns-in-Err-clause-headline : goal.returns-in-Err-clause-headline
-returns-in-Err-clause-headline g c = memory_headline _ _ (g.E.Outlet.written c.say.new.err) (g.E.Outlet.faults c.say.new.err)
+returns-in-Err-clause-headline g c = memory_headline _ _ (g.E.Outlet.written c.tell.new.err) (g.E.Outlet.faults c.tell.new.err)
 
 pub returns-in-Err-clause-leaves : goal.returns-in-Err-clause-leaves
-returns-in-Err-clause-leaves g c = memory_leaves _ _ (g.E.Outlet.written c.say.new.err) (g.E.Outlet.faults c.say.new.err) c.say.ensures.said
+returns-in-Err-clause-leaves g c = memory_leaves _ _ (g.E.Outlet.written c.tell.new.err) (g.E.Outlet.faults c.tell.new.err) c.tell.ensures.told
 
 pub returns-in-Err-clause-keeps : goal.returns-in-Err-clause-keeps
-returns-in-Err-clause-keeps g c = memory_keeps _ _ (g.E.Outlet.written c.say.new.err) (g.E.Outlet.faults c.say.new.err)
+returns-in-Err-clause-keeps g c = memory_keeps _ _ (g.E.Outlet.written c.tell.new.err) (g.E.Outlet.faults c.tell.new.err)
 
 pub returns-in-Err-clause-causes : goal.returns-in-Err-clause-causes
-returns-in-Err-clause-causes g c = memory_causes _ _ (g.E.Outlet.faults c.say.new.err) c.say.ensures.later
+returns-in-Err-clause-causes g c = memory_causes _ _ (g.E.Outlet.faults c.tell.new.err) c.tell.ensures.later

@@ -1,19 +1,8 @@
-use Rattle.std.proofs.Common.{[], ◌∙◌, ap}
-use Rattle.std.specs.Option.{option_map}
-use Rattle.vol_spec.proofs.Told.{from_told, in_told}
-use Rattle.vol_tool.proofs.StoreSteps.{stream_refused, stream_written}
+use Rattle.vol_tool.proofs.StreamSteps.{stream_told}
 use Rattle.vol_tool.proofs.write.write_stream.Goals as goal
 
-pub returns-in-Ok-read_stream-clause-writes : goal.returns-in-Ok-read_stream-clause-writes
-returns-in-Ok-read_stream-clause-writes g c key =
-    in_told _ _ (λ m told. in_told _ _ (λ bytes left.
-    stream_written c.write_planned.result m (g.S.Source.objects c.write_planned.new.store) bytes (g.F.Feed.left c.read_stream.new.feed) c.args.dataset.now key c.args.scale.now c.in-Ok-read_stream.writes
-    c.requires.served c.in-Ok-read_stream.ensures.bytes (from_told _ _ m told c.in-Ok.ensures.judged) (c.in-Ok-read_stream.ensures.end ∙ ap (option_map (λ _. [])) left)
-    (from_told _ _ bytes left c.in-Ok-read_stream.ensures.read)
-    (from_told _ _ m (c.judge_folder.ensures.objects ∙ told) c.write_planned.ensures.put)))
-
-pub returns-in-Err-read_stream-clause-writes : goal.returns-in-Err-read_stream-clause-writes
-returns-in-Err-read_stream-clause-writes g c key =
-    in_told _ _ (λ m told. in_told _ _ (λ bytes left.
-    stream_refused c.in-Err-read_stream.refusal m (g.S.Source.objects c.judge_folder.new.store) bytes (g.F.Feed.left c.read_stream.new.feed) c.args.dataset.now key c.args.scale.now
-    (c.judge_folder.ensures.objects ∙ told) (from_told _ _ m told c.in-Ok.ensures.judged) (from_told _ _ bytes left c.in-Err-read_stream.ensures.read)))
+pub returns-clause-writes : goal.returns-clause-writes
+returns-clause-writes g c key =
+    stream_told c.write_planned.result (g.S.Source.objects c.args.store.now) (g.S.Source.objects c.any_under.new.self) (g.S.Source.objects c.write_planned.new.store) (g.S.Source.draft c.any_under.new.self) (g.S.Source.draft c.write_planned.new.store)
+    (g.F.Feed.left c.args.feed.now) (g.F.Feed.left c.read_writes.new.feed) c.args.dataset.now key c.args.scale.now c.in_ok-writes.writes c.find_folder-folder.result c.in-Ok-false.field-0 c.requires.served c.in_ok-writes.ensures.bytes
+    c.any_under.ensures.kept.same_objects c.find_folder-folder.ensures c.in-Ok-false.field-0-test c.in-Ok-false.ensures.found c.in_ok-writes.ensures.end c.in_ok-writes.ensures.exact c.write_planned.ensures.kept c.write_planned.ensures.put

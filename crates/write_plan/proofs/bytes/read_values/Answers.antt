@@ -1,5 +1,5 @@
 use Rattle.std.proofs.Common.{arith, subst, sym}
-use Rattle.vol_spec.specs.Bytes.{AreBytes}
+use Rattle.vol_base.specs.Bytes.{AreBytes}
 use Rattle.write_plan.proofs.FeedSteps.{whole_buffer}
 use Rattle.write_plan.proofs.bytes.read_values.Goals as goal
 

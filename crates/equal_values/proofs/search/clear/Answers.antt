@@ -1,5 +1,0 @@
-use Rattle.std.proofs.Common.{arith, refl}
-use Rattle.equal_values.proofs.search.clear.Goals as goal
-
-pub returns : goal.returns
-returns c = λ h l. c.fill.ensures.clones h 0 (omega (arith, l, c.fill.ensures.len)) refl

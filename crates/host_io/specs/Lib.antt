@@ -1,2 +1,0 @@
-pub mod Absences
-pub mod Tallies

@@ -1,5 +1,0 @@
-use Rattle.std.proofs.Common.{arith, refl}
-use Rattle.segment_blocks.proofs.writing.clear_heads.Goals as goal
-
-pub returns : goal.returns
-returns c = λ h l. c.fill.ensures.clones h 0 (omega (arith, l, c.fill.ensures.len)) refl

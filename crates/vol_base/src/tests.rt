@@ -1,0 +1,86 @@
+//! Each fault's text, and a box's.
+
+use crate::{Box3, ChunkFault, Fault, IndexFault, ShardFault};
+use std::test::Fail;
+
+#[test]
+fn prints_faults(rt: HostRuntime) -> Result<(), Fail> {
+    for (fault, wanted) in [
+        (
+            Fault::Chunk(ChunkFault::ChunkLength {
+                found: 7,
+                wanted: 8,
+            }),
+            "chunk length 7 wanted 8",
+        ),
+        (
+            Fault::Chunk(ChunkFault::SegLength { found: 3 }),
+            "seg length 3",
+        ),
+        (
+            Fault::Chunk(ChunkFault::SegChannel { c: 1 }),
+            "seg channel 1",
+        ),
+        (
+            Fault::Chunk(ChunkFault::SegBits {
+                c: 1,
+                b: 2,
+                bits: 3,
+            }),
+            "seg bits 1 2 3",
+        ),
+        (
+            Fault::Chunk(ChunkFault::SegValues { c: 1, b: 2 }),
+            "seg values 1 2",
+        ),
+        (
+            Fault::Chunk(ChunkFault::SegTable { c: 1, b: 2, n: 3 }),
+            "seg table 1 2 3",
+        ),
+        (Fault::Index(IndexFault::BadId { row: 4 }), "index id 4"),
+        (
+            Fault::Index(IndexFault::BadStart { row: 5 }),
+            "index start 5",
+        ),
+        (Fault::Shard(ShardFault::ShortIndex), "shard short index"),
+        (Fault::Shard(ShardFault::BadRange), "shard bad range"),
+        (
+            Fault::Shard(ShardFault::BadLength { bytes: 25 }),
+            "shard bad length 25",
+        ),
+        (
+            Fault::Shard(ShardFault::TooManyRows { rows: 6 }),
+            "shard too many rows 6",
+        ),
+        (
+            Fault::Shard(ShardFault::ShortMinishard),
+            "shard short minishard",
+        ),
+        (
+            Fault::Shard(ShardFault::ChunkTooLong { found: 9, limit: 8 }),
+            "chunk too long 9 limit 8",
+        ),
+        (Fault::Shard(ShardFault::ShortChunk), "shard short chunk"),
+    ] {
+        let text = format!(in rt.alloc(); "{fault}")?;
+        assert_eq!(rt; text.as_str(), wanted);
+    }
+    Ok(())
+}
+
+#[test]
+fn reads_and_prints_boxes(rt: HostRuntime) -> Result<(), Fail> {
+    for (text, wanted) in [
+        ("[0:5,-3:4,0:1]", "[0:5,-3:4,0:1]"),
+        ("[0:99999999999999999999,0:1,0:1]", "Range"),
+        ("[5:5,0:1,0:1]", "Empty"),
+        ("[0:5,-0:4,0:1]", "Syntax"),
+    ] {
+        let found = match Box3::parse(text) {
+            Ok(b) => format!(in rt.alloc(); "{b}")?,
+            Err(fault) => format!(in rt.alloc(); "{fault:?}")?,
+        };
+        assert_eq!(rt; found.as_str(), wanted);
+    }
+    Ok(())
+}

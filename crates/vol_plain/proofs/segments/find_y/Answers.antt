@@ -1,0 +1,20 @@
+use Rattle.std.proofs.Common.{arith, ◌/◌}
+use Rattle.std.proofs.lemmas.Nat.{mod_below}
+use Rattle.vol_spec.specs.SegBlocks.{block}
+use Rattle.vol_spec.specs.SegShapes.{sizes_of}
+use Rattle.segment_blocks.proofs.Shapes.{limits, spots}
+use Rattle.vol_plain.proofs.segments.find_y.Goals as goal
+
+pub overflow_mul-result : goal.overflow_mul-result
+overflow_mul-result c =
+    let h = limits c.args.shape.now in
+    let p = spots (sizes_of c.args.shape.now) c.args.k h c.requires.block in
+    rw (c.count_on.ensures, c.count_on-2.ensures, c.get_block-block.ensures) (omega (arith, p.y, h.size_1))
+
+pub overflow_add-result : goal.overflow_add-result
+overflow_add-result c =
+    let s = sizes_of c.args.shape.now in
+    let h = limits c.args.shape.now in
+    let p = spots s c.args.k h c.requires.block in
+    let l = mod_below (c.args.n / block s 0) (block s 1) h.block_1.0 in
+    rw (c.count_on.ensures, c.count_on-2.ensures, c.get_block.ensures, c.get_block-block.ensures) (omega (arith, p.y, h.size_1, l, h.block_1))

@@ -1,0 +1,47 @@
+use Rattle.std.proofs.Common.{arith, ◌/◌}
+use Rattle.vol_spec.specs.SegBlocks.{block, block_count, blocks_on}
+use Rattle.vol_spec.specs.SegShapes.{sizes_of}
+use Rattle.segment_blocks.proofs.Numbered.{parts_le}
+use Rattle.segment_blocks.proofs.Shapes.{limits, facts}
+use Rattle.segment_blocks.proofs.Wholes.{found}
+use Rattle.vol_plain.proofs.segments.number_block.Goals as goal
+
+pub overflow_mul-result : goal.overflow_mul-result
+overflow_mul-result c =
+    let s = sizes_of c.args.shape.now in
+    let h = limits c.args.shape.now in
+    let f = facts s h in
+    let t = found s c.args.x c.args.y c.args.z 0 h c.requires in
+    let p = parts_le (c.args.x / block s 0) (c.args.y / block s 1) (c.args.z / block s 2) (blocks_on s 0) (blocks_on s 1) (block_count s) f.on_0 (omega (arith, t.block)) in
+    rw (c.get_block-3.ensures, c.count_on-2.ensures) (omega (arith, p.0, f.blocks))
+
+pub overflow_add-result : goal.overflow_add-result
+overflow_add-result c =
+    let s = sizes_of c.args.shape.now in
+    let h = limits c.args.shape.now in
+    let f = facts s h in
+    let t = found s c.args.x c.args.y c.args.z 0 h c.requires in
+    let p = parts_le (c.args.x / block s 0) (c.args.y / block s 1) (c.args.z / block s 2) (blocks_on s 0) (blocks_on s 1) (block_count s) f.on_0 (omega (arith, t.block)) in
+    rw (c.get_block-2.ensures, c.get_block-3.ensures, c.count_on-2.ensures) (omega (arith, p.1, f.blocks))
+
+pub overflow_mul-result-2 : goal.overflow_mul-result-2
+overflow_mul-result-2 c =
+    let s = sizes_of c.args.shape.now in
+    let h = limits c.args.shape.now in
+    let f = facts s h in
+    let t = found s c.args.x c.args.y c.args.z 0 h c.requires in
+    let p = parts_le (c.args.x / block s 0) (c.args.y / block s 1) (c.args.z / block s 2) (blocks_on s 0) (blocks_on s 1) (block_count s) f.on_0 (omega (arith, t.block)) in
+    rw (c.get_block-2.ensures, c.get_block-3.ensures, c.count_on.ensures, c.count_on-2.ensures) (omega (arith, p.2, f.blocks))
+
+pub overflow_add-result-2 : goal.overflow_add-result-2
+overflow_add-result-2 c =
+    let s = sizes_of c.args.shape.now in
+    let h = limits c.args.shape.now in
+    let f = facts s h in
+    let t = found s c.args.x c.args.y c.args.z 0 h c.requires in
+    rw (c.get_block.ensures, c.get_block-2.ensures, c.get_block-3.ensures, c.count_on.ensures, c.count_on-2.ensures) (omega (arith, t.block, f.blocks))
+
+pub returns-clause-within : goal.returns-clause-within
+returns-clause-within c =
+    let t = found (sizes_of c.args.shape.now) c.args.x c.args.y c.args.z 0 (limits c.args.shape.now) c.requires in
+    rw (c.get_block.ensures, c.get_block-2.ensures, c.get_block-3.ensures, c.count_on.ensures, c.count_on-2.ensures) t.block

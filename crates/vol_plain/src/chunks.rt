@@ -1,0 +1,117 @@
+//! What the bytes of a cell's chunk are, by the scale's encoding.
+ghost use Rattle.std.specs.Prelude.{◌≡◌, ◌<◌, ◌≤◌, ◌^◌, None, IfOk};
+ghost use Rattle.vol_base.specs.Boxes.{Covers, from_begin};
+ghost use Rattle.vol_spec.specs.Encodings.{cell_limit, chunk_fault, encoded, sizes_in, value_at};
+ghost use Rattle.vol_spec.specs.Grid.{IsCell, cell_box};
+ghost use Rattle.vol_spec.specs.Limits.{rounded};
+ghost use Rattle.vol_spec.specs.SegShapes.{sizes_of};
+ghost use Rattle.vol_spec.specs.SegSizes.{encoded_limit};
+ghost use Rattle.vol_spec.specs.declared.encoding.Encoding.TheVariants.{Raw, Seg};
+
+use crate::raw::{raw_fault, raw_len, raw_value};
+use crate::segments::{seg_fault, seg_value};
+use chunk_grid::cell_box;
+use std::alloc::{AllocError, Global};
+use vol_base::{Box3, ChunkFault};
+use vol_spec::{Encoding, Scale, SegShape};
+
+fn shape_of(scale: &Scale, cell: [u64; 3], block: [u64; 3]) -> SegShape
+    requires cell { IsCell scale.now cell }
+    requires block { scale.now.encoding ≡ Seg block }
+    ensures { sizes_of result ≡ sizes_in scale.now cell }
+{
+    let size = cell_box(scale, cell).size;
+    SegShape {
+        size,
+        block,
+        channels: scale.channels,
+        wide: scale.width == 8,
+    }
+}
+
+// A size rounded up to whole blocks.
+fn round_up(size: u64, block: u64) -> u64
+    requires size { size ≤ 2 ^ 40 }
+    requires some { 1 ≤ block }
+    requires block { block ≤ 2 ^ 24 }
+    ensures { result ≡ rounded size block }
+{
+    (size + block - 1) / block * block
+}
+
+fn seg_limit(shape: &SegShape) -> u64
+    ensures limit { result ≡ encoded_limit (sizes_of shape.now) }
+    ensures small { result < 2 ^ 30 }
+{
+    let x = round_up(shape.size[0], shape.block[0]);
+    let y = round_up(shape.size[1], shape.block[1]);
+    let z = round_up(shape.size[2], shape.block[2]);
+    let channels = shape.channels as u64;
+    4 * channels + 16 * (x * y * z * channels)
+}
+
+/// How many bytes it has at most.
+pub(crate) fn limit(scale: &Scale, cell: [u64; 3]) -> u64
+    requires { IsCell scale.now cell }
+    ensures limit { result ≡ cell_limit scale.now cell }
+    ensures small { result < 2 ^ 30 }
+{
+    let part = cell_box(scale, cell);
+    match scale.encoding {
+        Encoding::Raw => raw_len(&part, scale.channels, scale.width),
+        Encoding::Seg { block } => seg_limit(&shape_of(scale, cell, block)),
+    }
+}
+
+/// What is wrong with bytes that are given for it.
+pub(crate) fn find_fault(bytes: &[u8], scale: &Scale, cell: [u64; 3]) -> Option<ChunkFault>
+    requires { IsCell scale.now cell }
+    ensures { result ≡ chunk_fault scale.now cell bytes.now }
+{
+    let part = cell_box(scale, cell);
+    match scale.encoding {
+        Encoding::Raw => raw_fault(bytes, &part, scale.channels, scale.width),
+        Encoding::Seg { block } => seg_fault(bytes, &shape_of(scale, cell, block)),
+    }
+}
+
+// How far a position lies from a box's begin on an axis.
+fn place_on(part: &Box3, p: [i64; 3], axis: usize) -> u64
+    requires { axis < 3 }
+    ensures { result ≡ from_begin part.now p axis }
+{
+    p[axis].abs_diff(part.begin[axis])
+}
+
+/// The value that its bytes give a voxel and channel.
+pub(crate) fn find_value(bytes: &[u8], scale: &Scale, cell: [u64; 3], p: [i64; 3], c: u32) -> u64
+    requires cell { IsCell scale.now cell }
+    requires sound { chunk_fault scale.now cell bytes.now ≡ None }
+    requires position { Covers (cell_box scale.now cell) p }
+    requires channel { c < scale.now.channels }
+    ensures { result ≡ value_at scale.now cell bytes.now p c }
+{
+    let part = cell_box(scale, cell);
+    match scale.encoding {
+        Encoding::Raw => raw_value(bytes, &part, scale.channels, scale.width, p, c),
+        Encoding::Seg { block } => {
+            let x = place_on(&part, p, 0);
+            let y = place_on(&part, p, 1);
+            let z = place_on(&part, p, 2);
+            seg_value(bytes, &shape_of(scale, cell, block), x, y, z, c)
+        }
+    }
+}
+
+/// The bytes that the values of a cell of raw chunks are stored as: these themselves.
+pub(crate) fn encode(
+    alloc: Global,
+    scale: &Scale,
+    cell: [u64; 3],
+    raw: &[u8],
+) -> Result<Vec<u8>, AllocError>
+    requires { scale.now.encoding ≡ Raw }
+    ensures { IfOk result (λ bytes. bytes.items ≡ encoded scale.now cell raw.now) }
+{
+    Vec::from_slice(alloc, raw)
+}

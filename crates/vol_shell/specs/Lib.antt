@@ -1,0 +1,4 @@
+pub mod Absences
+pub mod Effects
+pub mod Lines
+pub mod Tallies

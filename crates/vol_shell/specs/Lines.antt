@@ -1,0 +1,65 @@
+-- The lines that the tool prints. A line is a text and a line feed.
+use Rattle.std.specs.Prelude.{ℕ, List, [], ◌∷◌, codes, slice_index}
+use Rattle.std.specs.Fmt.{decimal}
+use Rattle.vol_base.specs.declared.boxes.Box3.{Box3}
+use Rattle.vol_base.specs.declared.faults.Fault.{Fault}
+use Rattle.vol_base.specs.BoxDisplay.{box_text}
+use Rattle.vol_base.specs.FaultTexts.{fault_text, texts}
+use Rattle.write_plan.specs.declared.fault.PlanFault.{PlanFault}
+use Rattle.write_plan.specs.StreamTexts.{stream_text}
+
+-- what ends a line
+abbrev pub line_feed : List ℕ
+line_feed = 10 ∷ []
+
+-- why the info document of a data set was refused
+abbrev pub info_line : List ℕ → List ℕ → List ℕ
+info_line dataset text = texts (codes "info of " ∷ dataset ∷ codes ": " ∷ text ∷ line_feed ∷ [])
+
+-- a box that isn't inside its scale
+abbrev pub outside_line : Box3 → Box3 → List ℕ
+outside_line part whole = texts (codes "box " ∷ box_text part ∷ codes " outside " ∷ box_text whole ∷ line_feed ∷ [])
+
+-- a box of more bytes than a cutout has
+abbrev pub large_line : ℕ → List ℕ
+large_line bytes = texts (codes "box too large " ∷ decimal bytes ∷ line_feed ∷ [])
+
+-- the first damaged cell, by its numbers in the grid, and its fault
+abbrev pub damaged_line : List ℕ → Fault → List ℕ
+damaged_line cell fault =
+    texts (codes "damaged " ∷ decimal (slice_index cell 0) ∷ codes "," ∷ decimal (slice_index cell 1) ∷ codes "," ∷ decimal (slice_index cell 2)
+    ∷ codes ": " ∷ fault_text fault ∷ line_feed ∷ [])
+
+-- a stream of writes with a fault
+abbrev pub stream_line : PlanFault → List ℕ
+stream_line fault = texts (stream_text fault ∷ line_feed ∷ [])
+
+-- writes that meet too many cells
+abbrev pub cells_line : ℕ → List ℕ
+cells_line cells = texts (codes "too many cells " ∷ decimal cells ∷ line_feed ∷ [])
+
+-- what a writing command prints
+abbrev pub written_line : ℕ → ℕ → List ℕ
+written_line objects cells = texts (codes "objects " ∷ decimal objects ∷ codes " cells " ∷ decimal cells ∷ line_feed ∷ [])
+
+-- the lines that are always the same
+abbrev pub usage_line : List ℕ
+usage_line = texts (codes "usage" ∷ line_feed ∷ [])
+
+abbrev pub folder_line : List ℕ
+folder_line = texts (codes "folder not empty" ∷ line_feed ∷ [])
+
+abbrev pub store_line : List ℕ
+store_line = texts (codes "store fault" ∷ line_feed ∷ [])
+
+abbrev pub feed_line : List ℕ
+feed_line = texts (codes "feed fault" ∷ line_feed ∷ [])
+
+abbrev pub output_line : List ℕ
+output_line = texts (codes "output fault" ∷ line_feed ∷ [])
+
+abbrev pub memory_line : List ℕ
+memory_line = texts (codes "out of memory" ∷ line_feed ∷ [])
+
+abbrev pub door_line : List ℕ
+door_line = texts (codes "door fault" ∷ line_feed ∷ [])

@@ -1,0 +1,219 @@
+#!/usr/bin/env python3
+"""Makes each system call of runs of the built vol_tool fail in turn: no run ends well with wrong bytes.
+
+    tests/system_calls.py [PROGRAM]
+
+PROGRAM is crates/vol_tool/out/vol_tool if it is left out. It wants `strace`, which makes the calls fail, and is passed over
+with a word where that isn't installed or isn't allowed; so it is run by hand and isn't a part of the gate. Of each call to
+files, folders and streams that a plain run makes, the first, the second and so on fails: with an error of the device, with
+a full disk, and with a signal, which is tried again or is a fault; and the call fails from then on, as on a device that is
+lost. Each run has a folder of its own; afterwards whole objects stand there, the first ones that are due, and no half of
+one. The last line is 'N passed, N failed', and the status is 1 where a case failed.
+"""
+import collections
+import pathlib
+import re
+import shutil
+import subprocess
+import sys
+import tempfile
+import typing
+
+from program import FEED, INFO_PATH, LIMIT, OK, OUTPUT, REQUEST, STORE, info_of, stream_of, tell_all
+
+# The calls to files, folders and streams.
+TO_FILES = {
+    *("open", "openat", "openat2", "creat", "close", "fcntl", "lseek", "dup", "dup2", "dup3", "ioctl"),
+    *("read", "readv", "pread64", "preadv", "preadv2", "write", "writev", "pwrite64", "pwritev", "pwritev2"),
+    *("stat", "lstat", "fstat", "newfstatat", "statx", "access", "faccessat", "faccessat2", "readlink", "readlinkat"),
+    *("getdents", "getdents64", "mkdir", "mkdirat", "rename", "renameat", "renameat2", "unlink", "unlinkat", "rmdir"),
+    *("ftruncate", "truncate", "fallocate", "fsync", "fdatasync", "sendfile", "copy_file_range", "poll", "getcwd"),
+}
+
+# The calls that have to do with memory, time and the process alone.
+TO_OTHERS = {
+    *("execve", "exit", "exit_group", "arch_prctl", "prlimit64", "getrandom", "set_tid_address", "set_robust_list", "rseq"),
+    *("brk", "mmap", "munmap", "mprotect", "mremap", "madvise", "futex", "sigaltstack", "rt_sigaction", "rt_sigprocmask"),
+    *("sched_getaffinity", "clock_gettime", "gettid", "getpid"),
+}
+
+# How the calls fail: an error, and whether each later one fails too. A signal comes once, since it is tried again.
+FAILURES = [("EIO", ""), ("ENOSPC", ""), ("EINTR", ""), ("EIO", "+"), ("ENOSPC", "+")]
+
+# What a program ends with that the system couldn't start.
+UNSTARTED = 127
+LOADER_LINE = b"error while loading shared libraries"
+
+ROW = info_of([3, 1, 1], [1, 1, 1])
+
+# The objects of the row in the order in which they are put.
+ROW_OBJECTS = {"d/s/0-1_0-1_0-1": b"\1", "d/s/1-2_0-1_0-1": b"\2", "d/s/2-3_0-1_0-1": b"\3"}
+
+THREE = stream_of(((0, 0, 0), (3, 1, 1), b"\1\2\3"))
+
+UNFINISHED = {"d/s/a/b.part": b"", "d/s/c/d/e.part": b""}
+
+WRITE = ["write", "d", "s"]
+
+CUT = ["cutout", "d", "s", "[0:3,0:1,0:1]"]
+
+
+class Case(typing.NamedTuple):
+    """A run: the objects that stand, its words and its stream, what it ends with, and the objects that it puts."""
+
+    title: str
+    objects: dict
+    words: list
+    stream: bytes
+    status: int
+    output: bytes
+    errors: bytes
+    put: dict
+
+    def before(self):
+        return {**self.objects, INFO_PATH: ROW}
+
+    def after(self):
+        return {**self.before(), **self.put}
+
+
+RUNS = [
+    Case("a write", {}, WRITE, THREE, OK, b"objects 3 cells 3\n", b"", ROW_OBJECTS),
+    Case("a write beside unfinished files", UNFINISHED, WRITE, THREE, OK, b"objects 3 cells 3\n", b"", ROW_OBJECTS),
+    Case("a write of nothing", {}, WRITE, stream_of(), OK, b"objects 0 cells 0\n", b"", {}),
+    Case("a folder that isn't empty", ROW_OBJECTS, WRITE, THREE, REQUEST, b"", b"folder not empty\n", {}),
+    Case("a cutout", ROW_OBJECTS, CUT, b"", OK, b"\1\2\3", b"", {}),
+    Case("a cutout of nothing", {}, CUT, b"", OK, b"\0\0\0", b"", {}),
+]
+
+FAULT_LINES = {STORE: b"store fault\n", FEED: b"feed fault\n", OUTPUT: b"output fault\n"}
+
+
+def files_below(folder):
+    return {str(path.relative_to(folder)): path.read_bytes() for path in folder.rglob("*") if path.is_file()}
+
+
+def lay_out(folder, files):
+    for name, content in files.items():
+        path = folder / name
+        path.parent.mkdir(parents=True, exist_ok=True)
+        path.write_bytes(content)
+
+
+def trace(program, case, options):
+    """What a run under strace ends with: its status, output, standard error and files; and what strace told, by lines."""
+    with tempfile.TemporaryDirectory() as name:
+        folder = pathlib.Path(name) / "store"
+        stream = pathlib.Path(name) / "stream"
+        told = pathlib.Path(name) / "told"
+        folder.mkdir()
+        lay_out(folder, case.before())
+        stream.write_bytes(case.stream)
+        command = ["strace", "-f", "-qq", "-o", told, *options, program, *case.words]
+        with stream.open("rb") as feed:
+            done = subprocess.run(command, cwd=folder, stdin=feed, capture_output=True, timeout=LIMIT)
+        found = (done.returncode, done.stdout, done.stderr, files_below(folder))
+        return found, told.read_text(errors="replace").splitlines()
+
+
+def count_calls(lines):
+    """How many calls of each kind a run made."""
+    return collections.Counter(found[1] for found in (re.match(r"\d+ +(\w+)\(", line) for line in lines) if found)
+
+
+def judge_plain(found, case):
+    """A run of which no call fails ends as it is to."""
+    wanted = (case.status, case.output, case.errors, case.after())
+    return None if found == wanted else f"{found!r:.300} wanted {wanted!r:.300}"
+
+
+def judge_files(files, case, is_lost):
+    """The files are those before and a front of what is put. A device that is lost may keep one that isn't finished."""
+    count = sum(name in files for name in case.put)
+    wanted = {**case.before(), **dict(list(case.put.items())[:count])}
+    parts = [name for name in files if name not in wanted and name.endswith(".part")]
+    kept = {name: content for name, content in files.items() if name not in parts}
+    if kept != wanted or len(parts) > is_lost:
+        return f"files {sorted(files)} wanted {sorted(wanted)}"
+    return None
+
+
+def judge_untold(found, case, call):
+    """A run that ends as it is to, but for its line, of which a front could be written."""
+    status, output, errors, files = found
+    is_whole = (status, output, files) == (case.status, case.output, case.after())
+    return is_whole and call == "write" and case.errors.startswith(errors)
+
+
+def judge_fault(found, case, call, is_lost):
+    """A run that ends with a fault and its line, or with no line where that can't be written."""
+    status, output, errors, files = found
+    if status not in FAULT_LINES or not case.output.startswith(output):
+        return f"status {status}, {output!r}, {errors!r}"
+    if errors != FAULT_LINES[status] and (errors or not is_lost or call != "write"):
+        return f"status {status}, standard error {errors!r}"
+    return judge_files(files, case, is_lost)
+
+
+def judge_failed(found, case, call, is_lost):
+    """A run of which a call failed ends as it is to, or with a fault, or wasn't started."""
+    if judge_plain(found, case) is None or judge_untold(found, case, call):
+        return None
+    status, output, errors, files = found
+    if status == UNSTARTED and LOADER_LINE in errors:
+        return None if (output, files) == (b"", case.before()) else f"output {output!r}, files {sorted(files)}"
+    return judge_fault(found, case, call, is_lost)
+
+
+def judge_call(program, case, call, count, failure, statuses):
+    """Each call of a kind fails in turn."""
+    error, later = failure
+    for number in range(1, count + 1):
+        options = ["-e", f"trace={call}", "-e", f"inject={call}:error={error}:when={number}{later}"]
+        try:
+            found, lines = trace(program, case, options)
+        except subprocess.TimeoutExpired:
+            return f"call {number}: it doesn't end"
+        if not any("(INJECTED)" in line for line in lines):
+            return f"call {number}: it didn't fail"
+        statuses[found[0]] += 1
+        wrong = judge_failed(found, case, call, is_lost=bool(later))
+        if wrong is not None:
+            return f"call {number}: {wrong}"
+    return None
+
+
+def judge_run(program, case):
+    """Each kind of call of a run, and each way to fail."""
+    plain, lines = trace(program, case, [])
+    yield f"{case.title}, no call fails", judge_plain(plain, case)
+    counts = count_calls(lines)
+    others = sorted(set(counts) - TO_FILES - TO_OTHERS)
+    yield f"{case.title}, the kinds of its calls", f"others: {others}" if others else None
+    statuses = collections.Counter()
+    calls = sorted(set(counts) & TO_FILES)
+    for call in calls:
+        for failure in FAILURES:
+            title = f"{case.title}, {call} {''.join(failure)}"
+            yield title, judge_call(program, case, call, counts[call], failure, statuses)
+    told = ", ".join(f"{counts[call]} {call}" for call in calls)
+    print(f"{case.title}: {told}; runs by their status: {dict(sorted(statuses.items()))}")
+
+
+def may_trace():
+    """Whether strace is there, and may make a call fail."""
+    command = ["strace", "-qq", "-o", "/dev/null", "-e", "inject=close:error=EIO:when=1000", "true"]
+    return shutil.which("strace") is not None and subprocess.run(command, capture_output=True).returncode == 0
+
+
+def judge_all(program):
+    """Each case's title, and the first thing that is wrong with it or None."""
+    for case in RUNS:
+        yield from judge_run(program, case)
+
+
+if __name__ == "__main__":
+    if may_trace():
+        sys.exit(tell_all(judge_all))
+    print("strace isn't installed, or may not trace: passed over")
+    print("0 passed, 0 failed")
