@@ -11,6 +11,7 @@ pub mod Next
 pub mod Order
 pub mod PlacedSteps
 pub mod PutShards
+pub mod Said
 pub mod SegSteps
 pub mod ShardLaw
 pub mod ShardSteps
