@@ -9,11 +9,11 @@ ghost use Rattle.vol_tool.specs.declared.status.Status.{Status};
 use crate::refusal::{CutoutRefusal, NoScale, WriteRefusal};
 use crate::status::Status;
 use std::alloc::{AllocError, Global};
-use vol_shell::{
-    FOLDER_LINE, say, tell_lines, write_cells_line, write_damaged_line, write_info_line, write_large_line,
-    write_outside_line, write_stream_line,
-};
 use vol_base::{Name, Outlet};
+use vol_shell::{
+    FOLDER_LINE, say, tell_lines, write_cells_line, write_damaged_line, write_info_line,
+    write_large_line, write_outside_line, write_stream_line,
+};
 
 /// Why a command was refused: a status, and a line.
 pub(crate) trait Refusal {
