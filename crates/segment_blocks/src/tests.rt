@@ -1,15 +1,11 @@
 //! Chunks of known words: sound ones and damaged ones.
-ghost use Rattle.std.specs.Prelude.{◌≡◌, ◌≤◌, ◌^◌, IfOk, IfSome, None, length};
+ghost use Rattle.std.specs.Prelude.{◌≡◌, ◌≤◌, ◌^◌, IfOk, IfSome, length};
 ghost use Rattle.vol_spec.specs.SegBlocks.{raw_len};
-ghost use Rattle.vol_spec.specs.SegFaults.{seg_fault};
 ghost use Rattle.vol_spec.specs.SegShapes.{sizes_of};
 ghost use Rattle.vol_spec.specs.SegSizes.{padded_in};
 
-mod plain;
-
 use crate::{Scratch, SegShape, decode, encode};
 use byteorder::{ByteOrder, LittleEndian};
-use plain::{count_values, plain_fault, plain_value};
 use std::alloc::{AllocError, Global};
 use std::process::Abort;
 use std::test::Fail;
@@ -456,60 +452,5 @@ fn tells_the_first_fault(rt: HostRuntime) -> Result<(), Fail> {
     let odd = words_to_bytes(rt.alloc(), &[1, 0x01000003, 2, 2, 7, 9])?;
     let found = decoded(rt.alloc(), &odd[..odd.len().min(23)], &pair)?;
     assert_eq!(rt; found.err(), Some(ChunkFault::SegLength { found: 23 }));
-    Ok(())
-}
-
-// Compares the values that were read of a sound chunk with those that are read of it plainly.
-fn compare_values(
-    rt: &impl Abort,
-    bytes: &[u8],
-    shape: &SegShape,
-    values: &[u64],
-) -> Result<(), Fail>
-    requires { seg_fault bytes.now (sizes_of shape.now) ≡ None }
-{
-    let count = count_values(shape);
-    assert_eq!(rt; values.len() as u64, count);
-    for n in 0..count {
-        let wanted = plain_value(bytes, shape, n);
-        assert_eq!(rt; values.get(n as usize), Some(&wanted));
-    }
-    Ok(())
-}
-
-// Compares what is read of a chunk with what is read of it plainly.
-fn compare(rt: &impl Abort, alloc: Global, bytes: &[u8], shape: &SegShape) -> Result<(), Fail> {
-    let read = decoded(alloc, bytes, shape)?;
-    match plain_fault(bytes, shape) {
-        None => compare_values(rt, bytes, shape, &read.ok().ok_or("fault")?)?,
-        Some(wanted) => assert_eq!(rt; read.err(), Some(wanted)),
-    }
-    Ok(())
-}
-
-// What a word may be changed to: small places, headers of each count of bits, and the ends.
-const DAMAGES: [u32; 16] = [
-    0, 1, 2, 3, 4, 5, 7, 9, 0x01000002, 0x02000001, 0x03000005, 0x04000007, 0x08000000, 0x10000005,
-    0x20000002, 0xffffffff,
-];
-
-fn damage_words(rt: &impl Abort, alloc: Global, known: &Known) -> Result<(), Fail> {
-    let shape = shape(known.size, known.block, known.channels, known.wide).ok_or("shape")?;
-    for at in 0..known.words.len() {
-        for damage in DAMAGES {
-            let mut words = known.words.to_vec(alloc)?;
-            assert!(rt; at < words.len());
-            words[at] = damage;
-            compare(rt, alloc, &words_to_bytes(alloc, &words)?, &shape)?;
-        }
-    }
-    Ok(())
-}
-
-#[test]
-fn reads_damaged_words_as_a_plain_program_does(rt: HostRuntime) -> Result<(), Fail> {
-    damage_words(&rt, rt.alloc(), &SPELLED[2])?;
-    damage_words(&rt, rt.alloc(), &SPELLED[4])?;
-    damage_words(&rt, rt.alloc(), &SPELLED[5])?;
     Ok(())
 }
