@@ -4,13 +4,13 @@ use Rattle.std.specs.Option.{option_map}
 use Rattle.vol_base.specs.declared.boxes.Box3.{Box3}
 use Rattle.vol_base.specs.Outside.{any_under, Draft, Objects, OnlyReads}
 use Rattle.vol_spec.specs.CellNames.{folder_of}
-use Rattle.vol_spec.specs.Cut.{cut, first_fault}
 use Rattle.vol_spec.specs.Grid.{Inside}
-use Rattle.vol_spec.specs.LastWrite.{last, zeros}
-use Rattle.vol_spec.specs.StoredCells.{chunks_of, met_cells, put_in, raw_bytes}
+use Rattle.vol_spec.specs.LastWrite.{zeros}
+use Rattle.vol_spec.specs.StoredCells.{chunks_of, met_cells, put_in}
 use Rattle.vol_spec.specs.StoredLists.{stored_list}
 use Rattle.vol_spec.specs.Types.{Bytes, Name, Writes}
 use Rattle.vol_spec.specs.declared.scale.Scale.{Scale}
+use Rattle.chunk_laws.specs.Told.{ReadsBack}
 use Rattle.shard_writer.specs.Writing.{PutsFront}
 use Rattle.shard_writer.specs.declared.written.Written.{Written}
 use Rattle.write_plan.specs.Plans.{pairs}
@@ -28,12 +28,6 @@ use Rattle.vol_tool.specs.declared.refusal.WriteRefusal.TheVariants as refused
 use Rattle.vol_tool.specs.declared.status.Status.{Status}
 use Rattle.vol_tool.specs.declared.status.Status.TheVariants.{Ok as Done, Usage, InfoRefused, RequestRefused, Damaged, StoreFault, FeedFault, OutFault, NoMemory, DoorFault}
 
--- a box reads back as the writes: no cell that meets it has a fault, and its cutout is the bytes of the last write that covers
--- each voxel and channel, else 0, none missing
-abbrev pub ReadsBack : Objects → Name → Scale → Writes → Box3 → Type 0
-ReadsBack now dataset s writes b =
-    (first_fault now dataset s b ≡ None) × (cut now dataset s b ≡ raw_bytes b s.channels s.width (last s.width zeros writes))
-
 -- what stands after a write: the folder was empty, the feed was read to its end, the objects of the writes were put in and nothing else
 -- was changed, so the scale is as before
 pub record HasStored (m : Objects) (now : Option Objects) (left : Option Bytes) (dataset key : Name) (s : Scale) (writes : Writes) : Type 0 where
@@ -43,7 +37,8 @@ pub record HasStored (m : Objects) (now : Option Objects) (left : Option Bytes) 
   pub put : now ≡ Some (put_in m (stored_list dataset s (chunks_of s zeros writes)))
   pub same : stored_scale (put_in m (stored_list dataset s (chunks_of s zeros writes))) dataset key ≡ stored_scale m dataset key
 
--- and so each box inside the scale reads back
+-- each box inside the scale reads back as the writes: no cell of it has a fault, its cutout is the bytes of the last write at each voxel and
+-- channel, else 0, none missing, and nothing is wrong with its cells
 abbrev pub AllReadBack : Option Objects → Name → Scale → Writes → Type 0
 AllReadBack objects dataset s writes = IsSomeAnd objects (λ now. (b : Box3) → Inside s b → ReadsBack now dataset s writes b)
 

@@ -11,6 +11,7 @@ ghost use Rattle.vol_tool.specs.Storing.{Judges, KeepsFeed, KeepsPlan, KeepsStor
 
 use crate::info::read_scale;
 use crate::refusal::WriteRefusal;
+use chunk_laws::tell_chunks;
 use info_doc::Scale;
 use shard_writer::{WriteFault, Written, write_scale};
 use std::alloc::Global;
@@ -100,6 +101,7 @@ fn write_stream<S: Store, F: Feed>(
         Err(_) => return Err(WriteRefusal::StoreFault),
     }
     let writes = read_writes(alloc, feed, scale)?;
+    tell_chunks(dataset, scale);
     write_planned(alloc, store, dataset, scale, writes)
 }
 
