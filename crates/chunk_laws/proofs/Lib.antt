@@ -8,6 +8,7 @@ pub mod JudgeLaw
 pub mod Law
 pub mod Next
 pub mod PutShards
+pub mod Said
 pub mod SegSteps
 pub mod ShardLaw
 pub mod ShardSteps

@@ -1,9 +1,12 @@
 -- What objects say, once chunks are stored in them.
-use Rattle.std.specs.Prelude.{◌≡◌, ◌<◌, ℕ, false, List, Contains, Ok, Some, None}
+use Rattle.std.specs.Prelude.{◌≡◌, ◌<◌, ℕ, Bool, false, List, Contains, Option, Result, Ok, Some, None, if◌then◌else◌}
 use Rattle.vol_base.specs.Boxes.{Covers}
 use Rattle.std.specs.FinMap as fin
+use Rattle.std.specs.List.{list_any}
+use Rattle.std.specs.Str.{bytes_eq}
 use Rattle.vol_base.specs.Outside.{Objects, is_under}
 use Rattle.vol_base.specs.declared.boxes.Box3.{Box3}
+use Rattle.vol_base.specs.declared.faults.Fault.{Fault}
 use Rattle.vol_base.specs.Bytes.{AreBytes}
 use Rattle.vol_spec.specs.CellNames.{folder_of}
 use Rattle.vol_spec.specs.Chunks.{chunk_in, fault_in, value_in}
@@ -12,9 +15,10 @@ use Rattle.vol_spec.specs.Encodings.{encoded, value_at}
 use Rattle.vol_spec.specs.Grid.{IsCell, cell_box, whole}
 use Rattle.vol_spec.specs.LastWrite.{last, zeros}
 use Rattle.vol_spec.specs.Raw.{raw_at}
+use Rattle.vol_spec.specs.StoredBytes.{object_of}
 use Rattle.vol_spec.specs.StoredCells.{put_in, raw_bytes}
 use Rattle.vol_spec.specs.StoredLists.{stored_list}
-use Rattle.vol_spec.specs.Types.{Cell, Chunks, Name, Position, Writes}
+use Rattle.vol_spec.specs.Types.{Bytes, Cell, Chunks, Name, Position, Writes}
 use Rattle.vol_spec.specs.Verdicts.{Sound}
 use Rattle.vol_spec.specs.declared.scale.Scale.{Scale}
 use Rattle.chunk_laws.specs.Storable.{AreElsewhere, CellBytes, IsBeside, stored_in}
@@ -43,6 +47,25 @@ abbrev pub HasNoneBeside : Objects → Name → Scale → CellBytes → List Cel
 HasNoneBeside m dataset s raw cells =
     (cell : Cell) → IsCell s cell → (Contains cells cell → ⊥) → IsBeside dataset s cells cell
     → chunk_in (stored_in m dataset s raw cells) dataset s cell ≡ Ok None
+
+-- whether a cell is one of the cells
+abbrev pub is_listed : List Cell → Cell → Bool
+is_listed cells cell = list_any (λ c. bytes_eq c cell) cells
+
+-- whether one of them has its object
+abbrev pub shares_object : Name → Scale → List Cell → Cell → Bool
+shares_object dataset s cells cell = list_any (λ c. bytes_eq (object_of dataset s c) (object_of dataset s cell)) cells
+
+-- what is said of a cell: its chunk where it is one of them, nothing where one of them has its object, and else what was said before
+abbrev pub said : Name → Scale → CellBytes → List Cell → Cell → Result (Option Bytes) Fault → Result (Option Bytes) Fault
+said dataset s raw cells cell before =
+    if is_listed cells cell then Ok (Some (encoded s cell (raw cell)))
+    else (if shares_object dataset s cells cell then Ok None else before)
+
+abbrev pub SaysOfEach : Objects → Name → Scale → CellBytes → List Cell → Type 0
+SaysOfEach m dataset s raw cells =
+    (cell : Cell) → IsCell s cell
+    → chunk_in (stored_in m dataset s raw cells) dataset s cell ≡ said dataset s raw cells cell (chunk_in m dataset s cell)
 
 -- each other cell is absent
 abbrev pub HasNoOther : Objects → Name → Scale → CellBytes → List Cell → Type 0

@@ -7,7 +7,7 @@ ghost use Rattle.vol_spec.specs.CellNames.{folder_of};
 ghost use Rattle.vol_spec.specs.Grid.{Inside};
 ghost use Rattle.vol_spec.specs.Types.{Cell, Chunks, Writes};
 ghost use Rattle.chunk_laws.specs.Storable.{CellBytes, AreStorable, AreWritable, written_in};
-ghost use Rattle.chunk_laws.specs.Told.{GivesBack, HasChunks, HasLastWrites, HasNoFault, HasNoOther, HasNoneBeside, KeepsOthers, LeavesOutside, ReadsBack};
+ghost use Rattle.chunk_laws.specs.Told.{GivesBack, HasChunks, HasLastWrites, HasNoFault, HasNoOther, HasNoneBeside, KeepsOthers, LeavesOutside, ReadsBack, SaysOfEach};
 
 use vol_base::Name;
 use vol_spec::Scale;
@@ -27,6 +27,9 @@ pub fn tell_chunks(dataset: &Name, scale: &Scale)
     // and absent, where one is.
     ensures absent { (m : Objects) (raw : CellBytes) (cells : List Cell) → AreStorable scale.now raw cells
         → HasNoneBeside m dataset.now scale.now raw cells }
+    // In one: what is said of each cell.
+    ensures each { (m : Objects) (raw : CellBytes) (cells : List Cell) → AreStorable scale.now raw cells
+        → SaysOfEach m dataset.now scale.now raw cells }
     // So in a folder that had no object every other cell is absent.
     ensures empty { (m : Objects) (raw : CellBytes) (cells : List Cell) → AreStorable scale.now raw cells
         → any_under m (folder_of dataset.now scale.now) ≡ false → HasNoOther m dataset.now scale.now raw cells }

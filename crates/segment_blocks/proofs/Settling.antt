@@ -15,25 +15,14 @@ use Rattle.segment_blocks.specs.Stored.{AreStored, Candidate, HasTables, hash_at
 use Rattle.segment_blocks.proofs.Equal.{same_is}
 use Rattle.equal_values.proofs.Indexed.{skipped}
 use Rattle.segment_blocks.proofs.Members.{indexed_places}
-use Rattle.equal_values.proofs.Ranges.{first_passes, none_passes}
-use Rattle.segment_blocks.proofs.VoxelSteps.{either}
+use Rattle.equal_values.proofs.Ranges.{IsFound, IsMissed, first_passes, found, none_passes}
 
 -- the first of a range that passes, or none does
 pub first_or_none : (p : ℕ → Bool) (a n : ℕ) → ((m : ℕ) × (a ≤ m) × (m < a + n) × IsTrue (p m) × ((i : ℕ) → a ≤ i → i < m → IsTrue (p i) → ⊥)) ⊎ ((i : ℕ) → a ≤ i → i < a + n → IsTrue (p i) → ⊥)
-first_or_none p a zero = inr (λ i l h t. omega arith)
-first_or_none p a (suc n) = ⊎_elim
-    (λ (y : p a ≡ true). inl (a, omega arith, omega arith, y, λ i l h t. omega arith))
-    (λ (y : p a ≡ false). ⊎_elim
-    (λ (t : (m : ℕ) × (a + 1 ≤ m) × (m < a + 1 + n) × IsTrue (p m) × ((i : ℕ) → a + 1 ≤ i → i < m → IsTrue (p i) → ⊥)).
-    inl (t.0, omega (arith, t.1), omega (arith, t.2), t.3, λ i l h u. ⊎_elim (λ (e : i ≡ a). clash (p i) u (ap p e ∙ y)) (λ (d : i ≢ a). t.4 i (omega arith) h u) (cases_eq i a)))
-    (λ (none : (i : ℕ) → a + 1 ≤ i → i < a + 1 + n → IsTrue (p i) → ⊥).
-    inr (λ i l h u. ⊎_elim (λ (e : i ≡ a). clash (p i) u (ap p e ∙ y)) (λ (d : i ≢ a). none i (omega arith) (omega arith) u) (cases_eq i a)))
-    (first_or_none p (a + 1) n))
-    (either (p a))
-  where
-    clash : (b : Bool) → IsTrue b → b ≡ false → ⊥
-    clash true h e = cc
-    clash false h e = cc
+first_or_none p a n = ⊎_elim
+    (λ (t : (j : ℕ) × IsFound p a n j). inl (t.0, t.1.above, t.1.below, t.1.passes, t.1.before))
+    (λ (m : IsMissed p a n). inr m.none)
+    (found p a n)
 
 abbrev pub equal : SegSizes → List ℕ → ℕ → ℕ → ℕ → Bool
 equal s raw c k j = same (table s raw c j) (table s raw c k)

@@ -139,3 +139,10 @@ padded_is s =
     ∙ ap (λ v. rounded (size s 0) (block s 0) * rounded v (block s 1) * rounded (min (size s 2) (size s 2)) (block s 2) * s.channels) (min-self (size s 1))
     ∙ ap (λ v. rounded (size s 0) (block s 0) * rounded (size s 1) (block s 1) * rounded v (block s 2) * s.channels) (min-self (size s 2)) in
     e ∙ omega arith
+
+-- what bounds the voxels of all channels bounds those of one
+pub padded_le : (s : SegSizes) (m : ℕ) → IsShape s → padded_in s ≤ m → (padded s * s.channels ≤ m) × (padded s ≤ m)
+padded_le s m h limit =
+    let e = padded_is s in
+    let l : padded s ≤ padded s * s.channels = le-mul_of_pos_right (padded s) h.some_channels in
+    (omega (arith, e, limit), omega (arith, e, l, limit))

@@ -14,9 +14,8 @@ use Rattle.segment_blocks.specs.Shape.{IsShape}
 use Rattle.segment_blocks.specs.Singles.{is_single, numbered}
 use Rattle.segment_blocks.proofs.Equal.{same_is}
 use Rattle.segment_blocks.proofs.Offsets.{first_inside}
-use Rattle.equal_values.proofs.Ranges.{first_passes, none_passes}
+use Rattle.equal_values.proofs.Ranges.{either, first_passes, none_passes}
 use Rattle.segment_blocks.proofs.Settling.{equal, first_or_none, is_placed, owner_self}
-use Rattle.segment_blocks.proofs.VoxelSteps.{either}
 
 -- a product of one has factors of one
 one_each : (a b c : ℕ) → 0 < a → 0 < b → 0 < c → a * b * c ≡ 1 → (a ≡ 1) × (b ≡ 1) × (c ≡ 1)

@@ -11,6 +11,7 @@ use Rattle.std.proofs.Math.ListN.{get_or-eq_default}
 use Rattle.std.proofs.Math.Nat.{mod-eq_of_lt, mul-le-mul_left, mul-le-mul_right, pow-le-pow_right}
 use Rattle.vol_base.specs.declared.faults.ChunkFault.{ChunkFault}
 use Rattle.vol_base.specs.declared.faults.ChunkFault.TheVariants.{SegBits, SegChannel, SegLength, SegTable, SegValues}
+use Rattle.equal_values.proofs.Ranges.{either}
 use Rattle.vol_spec.specs.BoxValues.{bytes_of, first_some}
 use Rattle.vol_spec.specs.Raw.{digit, number}
 use Rattle.vol_spec.specs.SegSizes.{SegSizes}
@@ -39,7 +40,6 @@ use Rattle.segment_blocks.proofs.Shapes.{facts, some_count, some_voxels}
 use Rattle.segment_blocks.proofs.Tables.{IsIn}
 use Rattle.segment_blocks.proofs.Tabulated.{index_in, index_out, table_narrow, table_rises, value_there}
 use Rattle.segment_blocks.proofs.Values.{IsBytes}
-use Rattle.segment_blocks.proofs.VoxelSteps.{either}
 use Rattle.segment_blocks.proofs.Wholes.{found}
 
 -- what stands at a place lies in the bytes

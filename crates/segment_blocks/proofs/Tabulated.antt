@@ -5,6 +5,7 @@ use Rattle.std.specs.List.{Contains, range_with_len}
 use Rattle.std.proofs.lemmas.List.FromFn.{get_or-map-range_with_len, length-map-range_with_len}
 use Rattle.std.proofs.lemmas.List.{get_or_default}
 use Rattle.std.proofs.Math.Nat.{mul-le-mul_left, pow-le-pow_right, pow-succ', zero-div}
+use Rattle.equal_values.proofs.Ranges.{either}
 use Rattle.vol_spec.specs.Raw.{digit, number}
 use Rattle.vol_spec.specs.SegSizes.{SegSizes}
 use Rattle.vol_spec.specs.SegBlocks.{block, block_count, block_voxels, in_chunk, voxels_in, width}
@@ -20,7 +21,6 @@ use Rattle.segment_blocks.proofs.Offsets.{first_inside, table_some}
 use Rattle.segment_blocks.proofs.Places.{IsRising, place_is}
 use Rattle.segment_blocks.proofs.Tables.{IsIn, Rises, distinct_in, distinct_rises, in_distinct}
 use Rattle.segment_blocks.proofs.Values.{IsBytes, part_bytes}
-use Rattle.segment_blocks.proofs.VoxelSteps.{either}
 
 -- ascending by each value's rest, and by places
 pub head_below : (u : ℕ) (us : List ℕ) (j : ℕ) → Rises (u ∷ us) → j < length us → u < slice_index us j

@@ -1,5 +1,5 @@
 -- A block's values, row by row.
-use Rattle.std.proofs.Common.{◌≡◌, ◌⊎◌, ℕ, ◌+◌, ◌-◌, ◌*◌, ◌/◌, ◌%◌, ◌^◌, ◌<◌, ◌≤◌, List, length, slice_index, Bool, true, false, IsTrue, arith, refl, ap, ◌∙◌, sym, subst, inl, inr, ⊎_elim}
+use Rattle.std.proofs.Common.{◌≡◌, ℕ, ◌+◌, ◌-◌, ◌*◌, ◌/◌, ◌%◌, ◌^◌, ◌<◌, ◌≤◌, List, length, slice_index, Bool, true, false, IsTrue, arith, refl, ap, ◌∙◌, sym, subst, inl, ⊎_elim}
 use Rattle.std.specs.Prelude.{◌&&◌, nat_lt, if◌then◌else◌}
 use Rattle.std.proofs.lemmas.Bool.{cases_lt}
 use Rattle.std.proofs.lemmas.Bool.Decides.{nat_tests}
@@ -7,6 +7,7 @@ use Rattle.std.proofs.lemmas.Grind.{same_number_lists}
 use Rattle.std.proofs.lemmas.List.FromFn.{length-map-range_with_len, get_or-map-range_with_len}
 use Rattle.std.proofs.lemmas.Nat.{div-add-mod', div-mul-add, mod-mul-add}
 use Rattle.std.proofs.Math.Nat.{mod-add-div, mul-le-mul_left, mul-le-mul_right}
+use Rattle.equal_values.proofs.Ranges.{either}
 use Rattle.vol_spec.specs.Raw.{digit}
 use Rattle.vol_spec.specs.SegSizes.{SegSizes}
 use Rattle.vol_spec.specs.SegBlocks.{block, block_voxels, in_chunk, width}
@@ -21,10 +22,6 @@ use Rattle.segment_blocks.proofs.Blocks.{inside_from, inside_to, voxel, voxel_sp
 use Rattle.segment_blocks.proofs.Lines.{Room, room_of, width_le, width_some}
 use Rattle.segment_blocks.proofs.Rowwise.{mid_inside, mid_outside}
 use borrow.Rule.Slice.PartMut.{put_mid}
-
-pub either : (b : Bool) → (b ≡ true) ⊎ (b ≡ false)
-either true = inl refl
-either false = inr refl
 
 -- a row of so many places lies in them
 pub row_in : (len w r : ℕ) → r < len / w → r * w + w ≤ len

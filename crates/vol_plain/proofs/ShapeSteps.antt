@@ -1,5 +1,5 @@
 -- A cell's segmentation chunk keeps the limits of a shape.
-use Rattle.std.proofs.Common.{◌≡◌, ℕ, zero, suc, ◌*◌, ◌^◌, ◌<◌, ◌≤◌, ◌==◌, min, List, ap, ◌∙◌, subst, arith, lit<}
+use Rattle.std.proofs.Common.{◌≡◌, ℕ, zero, suc, ◌*◌, ◌^◌, ◌≤◌, ◌==◌, min, List, ap, ◌∙◌, subst, arith, lit<}
 use Rattle.vol_base.specs.Grids.{AreSizes}
 use Rattle.vol_base.specs.Boxes.{size}
 use Rattle.vol_spec.specs.Grid.{IsCell, cell_box}

@@ -1,5 +1,5 @@
 -- Sums over chunks, one chunk on.
-use Rattle.std.proofs.Common.{◌≡◌, ◌+◌, ◌*◌, ◌≤◌, Bool, true, false, if◌then◌else◌, List, [], ◌∷◌, length, arith, refl, ap, ◌∙◌}
+use Rattle.std.proofs.Common.{◌≡◌, ◌+◌, ◌*◌, ◌≤◌, Bool, true, false, if◌then◌else◌, List, [], ◌∷◌, length, arith, refl, ap}
 use Rattle.std.specs.Prelude.{filter, ◌&&◌}
 use Rattle.chunk_laws.proofs.Sums.{joint_cons, room_cons}
 use Rattle.chunk_laws.specs.Rooms.{room}

@@ -6,7 +6,7 @@ use Rattle.std.proofs.Math.Nat.{le-mul_of_pos_right, pow-le-pow_right}
 use Rattle.std.proofs.Props.{props}
 use Rattle.std.proofs.lemmas.Bool.Decides.{nat_tests}
 use Rattle.vol_base.specs.declared.faults.ChunkFault.TheVariants.{ChunkLength}
-use Rattle.vol_base.specs.Boxes.{size, voxels, Covers, num}
+use Rattle.vol_base.specs.Boxes.{voxels, Covers, num}
 use Rattle.vol_base.specs.declared.boxes.Box3.{Box3}
 use Rattle.vol_plain.specs.Objects.{IsSmall}
 use Rattle.vol_base.specs.Outside.{part}

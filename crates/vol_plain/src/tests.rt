@@ -114,9 +114,9 @@ fn one_byte(alloc: Global, cell: [u64; 3], byte: u8) -> Result<CellChunk, AllocE
     })
 }
 
-fn check_object(rt: &impl Abort, objects: &[StoredObject], bytes: &[u8]) {
+fn check_object(rt: &impl Abort, objects: &[StoredObject], name: &[u8], bytes: &[u8]) {
     assert_eq!(rt; objects.len(), 1);
-    assert_eq!(rt; objects[0].name.as_bytes(), b"d/s/0.shard".as_slice());
+    assert_eq!(rt; objects[0].name.as_bytes(), name);
     assert_eq!(rt; objects[0].bytes.as_slice(), bytes);
 }
 
@@ -132,13 +132,13 @@ fn stores_known_shards(rt: HostRuntime) -> Result<(), Fail> {
         one_byte(alloc, [0, 0, 0], 10)?,
     ];
     let second = [one_byte(alloc, [1, 0, 0], 11)?];
-    check_object(&rt, &plain_objects(alloc, &dataset, &halved, &both)?, &TWO);
-    check_object(&rt, &plain_objects(alloc, &dataset, &whole, &both)?, &ONE);
-    check_object(
-        &rt,
-        &plain_objects(alloc, &dataset, &halved, &second)?,
-        &SECOND,
-    );
+    let name = b"d/s/0.shard";
+    let objects = plain_objects(alloc, &dataset, &halved, &both)?;
+    check_object(&rt, &objects, name, &TWO);
+    let objects = plain_objects(alloc, &dataset, &whole, &both)?;
+    check_object(&rt, &objects, name, &ONE);
+    let objects = plain_objects(alloc, &dataset, &halved, &second)?;
+    check_object(&rt, &objects, name, &SECOND);
     let none = plain_objects(alloc, &dataset, &halved, &[])?;
     assert_eq!(rt; none.len(), 0);
     Ok(())
@@ -313,12 +313,12 @@ fn check_value(
     rt: &impl Abort,
     store: &MemoryStore,
     scale: &Scale,
-    x: i64,
+    p: [i64; 3],
     wanted: Result<u64, Fault>,
 ) {
     let dataset = short_name(rt, b"d");
-    assert!(rt; covers(&whole(scale), [x, 0, 0]));
-    assert_eq!(rt; plain_value(store, &dataset, scale, [x, 0, 0], 0), wanted);
+    assert!(rt; covers(&whole(scale), p));
+    assert_eq!(rt; plain_value(store, &dataset, scale, p, 0), wanted);
 }
 
 // What two chunks are stored as is read back.
@@ -339,8 +339,8 @@ fn check_scale(rt: &impl Abort, alloc: Global, scale: &Scale, names: &[&[u8]]) -
         assert_eq!(rt; object.name.as_bytes(), *name);
     }
     let store = store_all(alloc, objects)?;
-    check_value(rt, &store, scale, 0, Ok(10));
-    check_value(rt, &store, scale, 1, Ok(11));
+    check_value(rt, &store, scale, [0, 0, 0], Ok(10));
+    check_value(rt, &store, scale, [1, 0, 0], Ok(11));
     Ok(())
 }
 
@@ -355,6 +355,34 @@ fn stores_and_reads(rt: HostRuntime) -> Result<(), Fail> {
     check_scale(&rt, alloc, &together, &[b"d/s/8.shard"])?;
     let own = two_cells(short_name(&rt, b"s"), None);
     check_scale(&rt, alloc, &own, &[b"d/s/0-1_0-1_0-1", b"d/s/1-2_0-1_0-1"])
+}
+
+fn push_numbers(out: &mut Vec<u8>, numbers: &[u64]) -> Result<(), AllocError> {
+    for number in numbers {
+        out.extend_from_slice(&number.to_le_bytes())?;
+    }
+    Ok(())
+}
+
+// Both ids are in the second of eight minishards.
+#[test]
+fn stores_hashed_ids(rt: HostRuntime) -> Result<(), Fail> {
+    let alloc = rt.alloc();
+    let both = [
+        one_byte(alloc, [0, 0, 0], 10)?,
+        one_byte(alloc, [1, 0, 0], 11)?,
+    ];
+    let scale = hashed(short_name(&rt, b"s"), 1);
+    let objects = plain_objects(alloc, &short_name(&rt, b"d"), &scale, &both)?;
+    let mut wanted = Vec::new(alloc);
+    push_numbers(
+        &mut wanted,
+        &[0, 0, 2, 50, 0, 0, 0, 0, 0, 0, 0, 0, 0, 0, 0, 0],
+    )?;
+    wanted.extend_from_slice(&[10, 11])?;
+    push_numbers(&mut wanted, &[0, 1, 0, 0, 1, 1])?;
+    check_object(&rt, &objects, b"d/s/8.shard", &wanted);
+    Ok(())
 }
 
 fn store_one(
@@ -381,7 +409,7 @@ fn check_shard(
     wanted: Result<u64, Fault>,
 ) -> Result<(), Fail> {
     let store = store_one(rt, alloc, b"d/s/0.shard", bytes)?;
-    check_value(rt, &store, scale, x, wanted);
+    check_value(rt, &store, scale, [x, 0, 0], wanted);
     Ok(())
 }
 
@@ -420,8 +448,8 @@ fn reads_own_objects(rt: HostRuntime) -> Result<(), Fail> {
         found: 2,
         wanted: 1,
     };
-    check_value(&rt, &store, &scale, 0, Err(Fault::Chunk(fault)));
-    check_value(&rt, &store, &scale, 1, Ok(0));
+    check_value(&rt, &store, &scale, [0, 0, 0], Err(Fault::Chunk(fault)));
+    check_value(&rt, &store, &scale, [1, 0, 0], Ok(0));
     Ok(())
 }
 
@@ -473,4 +501,51 @@ fn reads_segments(rt: HostRuntime) -> Result<(), Fail> {
     check_shard(&rt, alloc, &scale, &seven_with(20, 0x03000002), 0, bits)?;
     let channel = Err(Fault::Chunk(ChunkFault::SegChannel { c: 0 }));
     check_shard(&rt, alloc, &scale, &seven_with(16, 3), 0, channel)
+}
+
+// A segmentation of 3 by 4 by 5 voxels in blocks of 2 by 2 by 2, found by two other programs.
+const CUBE: [u32; 51] = [
+    0x1, 0x2000019, 0x18, 0x100001e, 0x1d, 0x2000021, 0x20, 0x1000025, 0x24, 0x2000019, 0x27,
+    0x1000025, 0x28, 0x2000019, 0x29, 0x100001e, 0x2a, 0x2000021, 0x2b, 0x1000025, 0x2c, 0x200002e,
+    0x2d, 0x1000025, 0x31, 0x45b4, 0x1, 0x3, 0x4, 0x5, 0x41, 0x2, 0x4, 0x2642, 0x1, 0x4, 0x5, 0x10,
+    0x1, 0x2, 0x8358, 0x4, 0x45b4, 0x41, 0x26, 0x1, 0x58, 0x1, 0x3, 0x4, 0x4,
+];
+
+// Its values, four times: x fastest, then y and z.
+const VALUES: [u64; 15] = [1, 3, 4, 5, 4, 2, 5, 1, 1, 1, 4, 1, 3, 3, 2];
+
+fn cube(key: Name) -> Scale
+    requires { length key ≤ 200 }
+{
+    Scale {
+        key,
+        width: 4,
+        channels: 1,
+        size: [3, 4, 5],
+        offset: [0, 0, 0],
+        chunk: [3, 4, 5],
+        encoding: Encoding::Seg { block: [2, 2, 2] },
+        sharding: None,
+    }
+}
+
+fn words_to_bytes(alloc: Global, words: &[u32]) -> Result<Vec<u8>, AllocError> {
+    let mut bytes = Vec::new(alloc);
+    for word in words {
+        bytes.extend_from_slice(&word.to_le_bytes())?;
+    }
+    Ok(bytes)
+}
+
+#[test]
+fn reads_every_voxel(rt: HostRuntime) -> Result<(), Fail> {
+    let alloc = rt.alloc();
+    let scale = cube(short_name(&rt, b"s"));
+    let bytes = words_to_bytes(alloc, &CUBE)?;
+    let store = store_one(&rt, alloc, b"d/s/0-3_0-4_0-5", &bytes)?;
+    for n in 0..60 {
+        let p = [(n % 3) as i64, (n / 3 % 4) as i64, (n / 12) as i64];
+        check_value(&rt, &store, &scale, p, Ok(VALUES[n % 15]));
+    }
+    Ok(())
 }

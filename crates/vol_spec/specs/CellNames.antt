@@ -1,6 +1,6 @@
 -- Names of chunk objects (precomputed volume format, chunk storage): DATASET/KEY/x0-x1_y0-y1_z0-z1, with the cell's begin and end
 -- on each axis in decimal.
-use Rattle.std.specs.Prelude.{ℕ, List, ◌∷◌, ◌++◌}
+use Rattle.std.specs.Prelude.{ℕ, ◌∷◌, ◌++◌}
 use Rattle.std.specs.Fmt.{signed_decimal}
 use Rattle.vol_base.specs.declared.boxes.Box3.{Box3}
 use Rattle.vol_base.specs.Boxes.{at, end}

@@ -1,5 +1,5 @@
 -- The entries in front of a shard (precomputed volume format, sharded format, shard index format).
-use Rattle.std.specs.Prelude.{ℕ, ◌+◌, ◌-◌, ◌*◌, ◌/◌, ◌%◌, ◌^◌, ◌==◌, not, nat_lt, List, ◌++◌, drop, Result, Ok, Err, if◌then◌else◌}
+use Rattle.std.specs.Prelude.{ℕ, ◌+◌, ◌-◌, ◌*◌, ◌/◌, ◌%◌, ◌^◌, ◌==◌, not, nat_lt, ◌++◌, drop, Result, Ok, Err, if◌then◌else◌}
 use Rattle.byteorder.specs.Endian.{little_bytes, little_number}
 use Rattle.vol_base.specs.declared.faults.ShardFault.{ShardFault}
 use Rattle.vol_base.specs.declared.faults.ShardFault.TheVariants.{BadRange, BadLength, TooManyRows, ShortMinishard}

@@ -1,6 +1,6 @@
 -- Where a shard has the chunk of an id (precomputed volume format, sharded format). What is wrong is told in the order of the look-up, which
 -- is this project's profile: the entry, the index, its rows up to the wanted one, the chunk.
-use Rattle.std.specs.Prelude.{ℕ, ◌+◌, ◌*◌, nat_lt, List, length, Option, Some, None, Result, Ok, Err, if◌then◌else◌}
+use Rattle.std.specs.Prelude.{ℕ, ◌+◌, ◌*◌, nat_lt, length, Option, Some, None, Result, Ok, Err, if◌then◌else◌}
 use Rattle.vol_base.specs.Outside.{part}
 use Rattle.vol_base.specs.declared.faults.Fault.{Fault}
 use Rattle.vol_base.specs.declared.faults.Fault.TheVariants.{Index, Shard}

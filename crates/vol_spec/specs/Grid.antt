@@ -1,6 +1,6 @@
 -- The grid of a scale's cells (precomputed volume format, chunk storage). A cell is a list of three numbers, x first. Edge cells are
 -- clipped to the scale, in sharded scales too (this project's profile).
-use Rattle.std.specs.Prelude.{◌≡◌, ℕ, ◌-◌, ◌*◌, ◌/◌, ◌<◌, min, Bool, ℤ, pos, ◌+ℤ◌, int_lt, List, [], ◌∷◌, length, map, filter, flat_map, slice_index}
+use Rattle.std.specs.Prelude.{◌≡◌, ℕ, ◌-◌, ◌*◌, ◌/◌, ◌<◌, min, Bool, pos, ◌+ℤ◌, int_lt, List, [], ◌∷◌, length, map, filter, flat_map, slice_index}
 use Rattle.std.specs.Int.{int_max, int_min}
 use Rattle.std.specs.List.{list_all, range_with_len}
 use Rattle.vol_base.specs.declared.boxes.Box3.{Box3}

@@ -1,5 +1,5 @@
 -- The value that the last covering write gives a voxel, over what was there.
-use Rattle.std.specs.Prelude.{◌≡◌, ◌<◌, ◌^◌, ℕ, ℤ, Bool, ◌&&◌, List, [], ◌∷◌, reverse, int_lt, int_le, if◌then◌else◌}
+use Rattle.std.specs.Prelude.{◌≡◌, ◌<◌, ◌^◌, ℕ, Bool, ◌&&◌, [], ◌∷◌, reverse, int_lt, int_le, if◌then◌else◌}
 use Rattle.std.specs.List.{list_all}
 use Rattle.vol_base.specs.declared.boxes.Box3.{Box3}
 use Rattle.vol_base.specs.Boxes.{at, end, num, on_axes}

@@ -1,5 +1,5 @@
 -- Chunk ids and their places (precomputed volume format, sharded format, chunk ids and sharding specification).
-use Rattle.std.specs.Prelude.{ℕ, ◌/◌, ◌%◌, ◌^◌, List}
+use Rattle.std.specs.Prelude.{ℕ, ◌/◌, ◌%◌, ◌^◌}
 use Rattle.vol_spec.specs.Codes.{code_of}
 use Rattle.vol_spec.specs.Hashes.{hash8}
 use Rattle.vol_spec.specs.Limits.{cell_counts}

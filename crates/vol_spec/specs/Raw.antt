@@ -1,5 +1,5 @@
 -- Raw chunks: the values of a box side by side, x fastest, then y, z and the channel (precomputed volume format, raw chunk encoding).
-use Rattle.std.specs.Prelude.{ℕ, ◌+◌, ◌*◌, ◌==◌, List, [], ◌∷◌, length, ℤ, Option, Some, None, if◌then◌else◌}
+use Rattle.std.specs.Prelude.{ℕ, ◌+◌, ◌*◌, ◌==◌, [], ◌∷◌, length, Option, Some, None, if◌then◌else◌}
 use Rattle.vol_base.specs.declared.boxes.Box3.{Box3}
 use Rattle.vol_base.specs.declared.faults.ChunkFault.{ChunkFault}
 use Rattle.vol_base.specs.declared.faults.ChunkFault.TheVariants.{ChunkLength}

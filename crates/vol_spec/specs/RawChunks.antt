@@ -1,5 +1,5 @@
 -- What an object of raw values says of a box. That an absent one reads as zero is this project's profile.
-use Rattle.std.specs.Prelude.{ℕ, ◌+◌, ℤ, List, take, Option, Some, None, Result, Ok, Err}
+use Rattle.std.specs.Prelude.{ℕ, ◌+◌, take, Option, Some, None, Result, Ok, Err}
 use Rattle.vol_base.specs.declared.boxes.Box3.{Box3}
 use Rattle.vol_base.specs.declared.faults.ChunkFault.{ChunkFault}
 use Rattle.vol_base.specs.declared.faults.Fault.{Fault}

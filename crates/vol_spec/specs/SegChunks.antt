@@ -1,5 +1,5 @@
 -- What the bytes of a segmentation chunk say (precomputed volume format, compressed_segmentation encoding).
-use Rattle.std.specs.Prelude.{ℕ, ◌+◌, ◌*◌, ◌/◌, ◌%◌, ◌^◌, List, length, take, drop}
+use Rattle.std.specs.Prelude.{ℕ, ◌+◌, ◌*◌, ◌/◌, ◌%◌, ◌^◌, length, take, drop}
 use Rattle.vol_spec.specs.Raw.{number, digit}
 use Rattle.vol_spec.specs.SegBlocks.{block_of, number_in, entry_words, width}
 use Rattle.vol_spec.specs.SegSizes.{SegSizes}

@@ -1,5 +1,5 @@
 -- Names of shard objects (precomputed volume format, sharded format): DATASET/KEY/NUMBER.shard
-use Rattle.std.specs.Prelude.{ℕ, ◌+◌, ◌-◌, ◌/◌, ◌%◌, ◌^◌, false, max, List, [], ◌∷◌, ◌++◌, map}
+use Rattle.std.specs.Prelude.{ℕ, ◌+◌, ◌-◌, ◌/◌, ◌%◌, ◌^◌, false, max, [], ◌∷◌, ◌++◌, map}
 use Rattle.std.specs.Fmt.{digit_glyph}
 use Rattle.std.specs.List.{range_with_len}
 use Rattle.std.specs.Option.{option_map_or}

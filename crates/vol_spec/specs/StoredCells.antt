@@ -1,6 +1,6 @@
 -- The objects that an unsharded scale of raw chunks is stored as: one for each cell that has a chunk (precomputed volume format, chunk
 -- storage). A chunk is a cell with the bytes of its values, and chunks are listed in the order of the grid: x fastest, then y, then z.
-use Rattle.std.specs.Prelude.{◌<◌, ℕ, ◌+◌, ◌*◌, ℤ, Bool, List, [], ◌∷◌, map, filter, flat_map, slice_index, slice_index_or, AllPairs, All}
+use Rattle.std.specs.Prelude.{◌<◌, ℕ, ◌+◌, ◌*◌, Bool, List, [], ◌∷◌, map, filter, flat_map, slice_index, slice_index_or, AllPairs, All}
 use Rattle.std.specs.List.{list_any, range_with_len}
 use Rattle.std.specs.FinMap as fin
 use Rattle.vol_base.specs.declared.boxes.Box3.{Box3}

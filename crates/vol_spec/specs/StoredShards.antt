@@ -1,10 +1,8 @@
 -- The objects of a sharded scale, by its chunks: a list of cells, each with the bytes of its chunk.
-use Rattle.std.specs.Prelude.{ℕ, ◌^◌, ◌==◌, nat_lt, Bool, List, [], ◌∷◌, length, map, filter, slice_index, Option, Some, None}
-use Rattle.std.specs.List.{range_with_len}
+use Rattle.std.specs.Prelude.{ℕ, ◌==◌, nat_lt, Bool, List, [], ◌∷◌, length, map, filter, slice_index}
 use Rattle.std.specs.FinMap as fin
 use Rattle.std.specs.Ordering.{nat_cmp}
 use Rattle.std.specs.Cmp.Lexicographic.{slice_cmp}
-use Rattle.vol_base.specs.Outside.{Objects}
 use Rattle.vol_spec.specs.Places.{id_of, minishard_of, shard_of}
 use Rattle.vol_spec.specs.ShardNames.{shard_name}
 use Rattle.vol_spec.specs.Shards.{Chunk, shard_bytes}

@@ -13,7 +13,6 @@ mod tests;
 mod top;
 mod write;
 
-use vol_shell::{DirStore, NoDoor, StdFeed, StdOutlet};
 use report::tell;
 use status::Status;
 use std::env::Env;
@@ -22,6 +21,7 @@ use std::process::ExitCode;
 use std::{env, io};
 use top::run;
 use vol_base::FreeGate;
+use vol_shell::{DirStore, NoDoor, StdFeed, StdOutlet};
 
 // The words after the program's name. It fails as a whole where the system doesn't give each of them as
 // text, or where there is no memory for them.

@@ -1,7 +1,7 @@
 //! Why a command was refused.
 
-use info_doc::InfoFault;
 use cutout::ReadFault;
+use info_doc::InfoFault;
 use std::alloc::AllocError;
 use vol_base::{Box3, Fault};
 use write_plan::{PlanFault, PlanRefusal};

@@ -1,7 +1,7 @@
 //! What is told of a refusal.
 ghost use Rattle.std.specs.Prelude.{◌≡◌, ◌≢◌, ◌≤◌, List, ℕ, None, IfOk, IfSome};
 ghost use Rattle.vol_shell.specs.Effects.{Says};
-ghost use Rattle.vol_shell.specs.Lines.{info_line};
+ghost use Rattle.vol_shell.specs.Lines.{folder_line, info_line};
 ghost use Rattle.vol_tool.specs.Refusals.{cutout_line, cutout_status, info_text, write_line as line_of_write, write_status};
 ghost use Rattle.vol_tool.specs.Statuses.{cutout_fixed, fixed_line, Reports, write_fixed};
 ghost use Rattle.vol_tool.specs.declared.status.Status.{Status};
@@ -9,11 +9,11 @@ ghost use Rattle.vol_tool.specs.declared.status.Status.{Status};
 use crate::refusal::{CutoutRefusal, NoScale, WriteRefusal};
 use crate::status::Status;
 use std::alloc::{AllocError, Global};
-use vol_shell::{
-    say, write_cells_line, write_damaged_line, write_info_line, write_large_line,
-    write_outside_line, write_stream_line,
-};
 use vol_base::{Name, Outlet};
+use vol_shell::{
+    FOLDER_LINE, say, tell_lines, write_cells_line, write_damaged_line, write_info_line,
+    write_large_line, write_outside_line, write_stream_line,
+};
 
 /// Why a command was refused: a status, and a line.
 pub(crate) trait Refusal {
@@ -84,6 +84,14 @@ impl Refusal for CutoutRefusal {
     }
 }
 
+// That the folder isn't empty.
+fn write_folder_line(alloc: Global) -> Result<Vec<u8>, AllocError>
+    ensures { IfOk result (λ text. text.items ≡ folder_line) }
+{
+    tell_lines();
+    Vec::from_slice(alloc, FOLDER_LINE)
+}
+
 impl Refusal for WriteRefusal {
     ghost ends = { write_status };
 
@@ -107,7 +115,7 @@ impl Refusal for WriteRefusal {
     fn write_line(&self, alloc: Global, dataset: &Name) -> Result<Vec<u8>, AllocError> {
         match self {
             WriteRefusal::NoScale(why) => write_why(alloc, dataset, why),
-            WriteRefusal::NotEmpty => Vec::from_slice(alloc, b"folder not empty\n"),
+            WriteRefusal::NotEmpty => write_folder_line(alloc),
             WriteRefusal::Stream(fault) => Ok(write_stream_line(alloc, *fault)?.into_bytes()),
             WriteRefusal::TooManyCells(cells) => {
                 Ok(write_cells_line(alloc, *cells)?.into_bytes())

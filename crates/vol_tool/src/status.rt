@@ -2,6 +2,9 @@
 ghost use Rattle.std.specs.Prelude.{◌≡◌};
 
 use std::process::ExitCode;
+use vol_shell::{
+    DOOR_LINE, FEED_LINE, MEMORY_LINE, OUTPUT_LINE, STORE_LINE, USAGE_LINE, tell_lines,
+};
 
 /// How a command ended.
 #[derive(Clone, Copy, Debug, PartialEq, Eq)]
@@ -49,14 +52,15 @@ impl Status {
     pub fn fixed_line(&self) -> Option<&'static [u8]>
         ensures { option_map (λ line. line.now) result ≡ fixed_line self.now }
     {
+        tell_lines();
         match self {
             Status::Ok | Status::InfoRefused | Status::RequestRefused | Status::Damaged => None,
-            Status::Usage => Some(b"usage\n"),
-            Status::StoreFault => Some(b"store fault\n"),
-            Status::FeedFault => Some(b"feed fault\n"),
-            Status::OutFault => Some(b"output fault\n"),
-            Status::NoMemory => Some(b"out of memory\n"),
-            Status::DoorFault => Some(b"door fault\n"),
+            Status::Usage => Some(USAGE_LINE),
+            Status::StoreFault => Some(STORE_LINE),
+            Status::FeedFault => Some(FEED_LINE),
+            Status::OutFault => Some(OUTPUT_LINE),
+            Status::NoMemory => Some(MEMORY_LINE),
+            Status::DoorFault => Some(DOOR_LINE),
         }
     }
 }

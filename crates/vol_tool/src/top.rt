@@ -129,7 +129,7 @@ pub fn run<R, S: Store, F: Feed, O: Outlet, E: Outlet, D: Door, G: Gate + Sync>(
 where
     R: Threads + Wait + Sync,
     requires { D.bound _door.old ≡ None }
-    // What is answered, where the store and the feed are told.
+    // What each status says over the objects, and over the feed, where they are told.
     ensures answers { let at = ⟦<Outside as Viewed<S, F, O, E, D>>⟧.at in
         Answers (line (map string_bytes words.now)) result
         (at store.old feed.old out.old err.old _door.old)

@@ -14,8 +14,8 @@ use crate::refusal::WriteRefusal;
 use info_doc::Scale;
 use shard_writer::{WriteFault, Written, write_scale};
 use std::alloc::Global;
-use vol_shell::{write_all, write_written_line};
 use vol_base::{Feed, Name, Outlet, Store};
+use vol_shell::{write_all, write_written_line};
 use write_plan::{Plan, Writes, read_writes};
 
 // The folder of a scale.

@@ -8,7 +8,8 @@ use Rattle.std.proofs.lemmas.Bool.Decides.{nat_tests}
 use Rattle.vol_base.specs.Outside.{Gives}
 use Rattle.vol_spec.specs.Raw.{raw_len}
 use Rattle.chunk_grid.proofs.MeetSteps.{true_from}
-use Rattle.write_plan.specs.Stream.{◌>>=◌, front, limited, judged, box_of, box_at, write_at}
+use Rattle.write_plan.specs.Stream.{box_of}
+use Rattle.write_plan.specs.Reading.{◌>>=◌, front, limited, judged, box_at, write_at}
 use Rattle.write_plan.specs.Readers.{IsFront, Came, Took, gives, Gave, Refused, Answers, of_stream}
 use Rattle.write_plan.specs.declared.fault.PlanFault.{PlanFault}
 use Rattle.write_plan.specs.declared.fault.PlanFault.TheVariants.{FeedFault, TooManyWrites, Truncated}

@@ -8,4 +8,5 @@ pub mod OrderSteps
 pub mod PlanSteps
 pub mod RunSteps
 pub mod SizeSteps
+pub mod SumSteps
 pub mod WholeSteps

@@ -4,7 +4,7 @@ use Rattle.std.specs.Option.{option_map}
 use Rattle.std.proofs.lemmas.List.{map-append}
 use Rattle.std.proofs.lemmas.Grind.{common_steps}
 use Rattle.vol_spec.specs.declared.scale.Scale.{Scale}
-use Rattle.write_plan.specs.Stream.{write_at, writes_at}
+use Rattle.write_plan.specs.Reading.{write_at, writes_at}
 use Rattle.write_plan.specs.Readers.{Gave, Refused}
 use Rattle.write_plan.specs.WriteLists.{BoxWrite, write_in, writes_in, total}
 use Rattle.write_plan.specs.declared.fault.PlanFault.{PlanFault}

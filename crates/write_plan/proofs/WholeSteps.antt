@@ -9,7 +9,7 @@ use Rattle.std.proofs.lemmas.List.{length-map}
 use Rattle.std.proofs.lemmas.List.Elements.{All-weaker}
 use Rattle.vol_spec.specs.Limits.{IsWidth}
 use Rattle.vol_spec.specs.declared.scale.Scale.{Scale}
-use Rattle.write_plan.specs.Stream.{ended}
+use Rattle.write_plan.specs.Reading.{ended}
 use Rattle.write_plan.specs.WriteLists.{BoxWrite, AreWrites, IsWrite, IsWriteOf, writes_in, total}
 use Rattle.write_plan.specs.declared.fault.PlanFault.{PlanFault}
 use Rattle.write_plan.specs.declared.fault.PlanFault.TheVariants.{TrailingBytes}

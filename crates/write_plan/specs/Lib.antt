@@ -4,6 +4,7 @@ pub mod Pairs
 pub mod PlanLaws
 pub mod Plans
 pub mod Readers
+pub mod Reading
 pub mod Stream
 pub mod StreamTexts
 pub mod WriteLists

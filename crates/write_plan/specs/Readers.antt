@@ -6,7 +6,7 @@ use Rattle.vol_base.specs.declared.boxes.Box3.{Box3}
 use Rattle.vol_spec.specs.Grid.{Inside}
 use Rattle.vol_spec.specs.Raw.{raw_len}
 use Rattle.vol_spec.specs.declared.scale.Scale.{Scale}
-use Rattle.write_plan.specs.Stream.{judged}
+use Rattle.write_plan.specs.Reading.{judged}
 use Rattle.write_plan.specs.declared.fault.PlanFault.{PlanFault}
 use Rattle.write_plan.specs.declared.fault.PlanFault.TheVariants.{FeedFault, BadMagic, TooManyWrites, EmptyBox, OutsideBox, WritesTooLarge, Truncated, TrailingBytes, OutOfMemory}
 

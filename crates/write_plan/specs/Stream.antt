@@ -1,37 +1,34 @@
 -- The stream of box writes, this project's own format. Numbers have their lowest byte first. The bytes `PVW1`; a count of 32 bits; for
--- each write three signed 64-bit begins and three 64-bit sizes, x first, and the values of its box in the order of a raw chunk. Nothing
--- follows. The definition judges from the front, so the first fault is the answer. A write's fault has its number, counted from 0.
-use Rattle.std.specs.Prelude.{ℕ, zero, suc, ◌+◌, ◌*◌, ◌^◌, ◌==◌, ◌&&◌, not, nat_lt, Bool, List, [], ◌∷◌, ◌++◌, length, take, drop, int_le, Result, Ok, Err, if◌then◌else◌}
+-- each write its head, three signed 64-bit begins and three 64-bit sizes, x first, and the values of its box in the order of a raw chunk.
+-- Nothing follows. The first fault from the front is the answer. A write's fault has its number, counted from 0.
+use Rattle.std.specs.Prelude.{ℕ, zero, suc, ◌+◌, ◌*◌, ◌^◌, ◌==◌, ◌&&◌, not, nat_lt, Bool, List, [], ◌∷◌, ◌++◌, length, map, sum, take, drop, int_le, Option, Some, None, Result, Ok, Err, if◌then◌else◌}
 use Rattle.std.specs.Int.{w32, w64, from_le_bytes, cast_signed}
-use Rattle.std.specs.List.{list_all, list_any}
+use Rattle.std.specs.List.{list_all, list_any, range_with_len}
 use Rattle.std.specs.Str.{bytes_eq}
 use Rattle.vol_base.specs.declared.boxes.Box3.{Box3}
 use Rattle.vol_base.specs.Boxes.{at, end, size, on_axes}
+use Rattle.vol_spec.specs.BoxValues.{first_some}
 use Rattle.vol_spec.specs.Grid.{whole}
 use Rattle.vol_spec.specs.Raw.{raw_len}
+use Rattle.vol_spec.specs.Types.{Bytes}
 use Rattle.vol_spec.specs.declared.scale.Scale.{Scale}
 use Rattle.write_plan.specs.WriteLists.{BoxWrite, total}
 use Rattle.write_plan.specs.declared.fault.PlanFault.{PlanFault}
 use Rattle.write_plan.specs.declared.fault.PlanFault.TheVariants.{BadMagic, TooManyWrites, EmptyBox, OutsideBox, WritesTooLarge, Truncated, TrailingBytes}
 
-infixl 10 ◌>>=◌
-abbrev pub ◌>>=◌ : {A B : Type 0} → Result A PlanFault → (A → Result B PlanFault) → Result B PlanFault
-(Ok x) >>= f = f x
-(Err e) >>= f = Err e
+-- `PVW1`
+abbrev pub magic : List ℕ
+magic = 80 ∷ 86 ∷ 87 ∷ 49 ∷ []
 
--- the first n bytes, and what comes after them
-abbrev pub front : ℕ → PlanFault → List ℕ → Result (List ℕ × List ℕ) PlanFault
-front n short bytes = if nat_lt (length bytes) n then Err short else Ok (take n bytes, drop n bytes)
-
--- the n-th number of 64 bits
-abbrev pub word : List ℕ → ℕ → ℕ
-word bytes n = from_le_bytes w64 (take 8 (drop (8 * n) bytes))
+-- the n-th number of 64 bits of the head of a write
+abbrev pub head_number : List ℕ → ℕ → ℕ
+head_number bytes n = from_le_bytes w64 (take 8 (drop (8 * n) bytes))
 
 -- a box from its begins and its sizes
 abbrev pub box_of : List ℕ → Box3
 box_of head = record {
-  begin = on_axes (λ axis. cast_signed w64 (word head axis));
-  size = on_axes (λ axis. word head (3 + axis));
+  begin = on_axes (λ axis. cast_signed w64 (head_number head axis));
+  size = on_axes (λ axis. head_number head (3 + axis));
 }
 
 -- a size is 0
@@ -42,61 +39,65 @@ is_empty b = list_any (λ axis. size b axis == 0) (0 ∷ 1 ∷ 2 ∷ [])
 abbrev pub is_within : Scale → Box3 → Bool
 is_within s b = list_all (λ axis. int_le (at s.offset axis) (at b.begin axis) && int_le (end b axis) (end (whole s) axis)) (0 ∷ 1 ∷ 2 ∷ [])
 
--- the box of write i, behind so many bytes of values
-unfoldable pub judged : Scale → ℕ → ℕ → Box3 → Result Box3 PlanFault
-judged s i before b =
-    if is_empty b then Err (EmptyBox i)
-    else (if not (is_within s b) then Err (OutsideBox i)
-    else (if nat_lt (2 ^ 30) (before + raw_len b s.channels s.width) then Err (WritesTooLarge i)
-    else Ok b))
+-- the place of a write: behind the mark, the count and, for each write before it, a head of 48 bytes and its values
+abbrev pub place : List BoxWrite → ℕ
+place before = 8 + sum (map (λ w. 48 + length w.1) before)
 
-unfoldable pub box_at : Scale → ℕ → ℕ → List ℕ → Result (Box3 × List ℕ) PlanFault
-box_at s i before bytes = do
-  head ← front 48 (Truncated i) bytes
-  b ← judged s i before (box_of head.0)
-  Ok (b, head.1)
+-- the box of the write behind some writes, and how many bytes its values have
+abbrev pub box_behind : Bytes → List BoxWrite → Box3
+box_behind bytes before = box_of (take 48 (drop (place before) bytes))
 
--- write i, and what comes after it
-unfoldable pub write_at : Scale → ℕ → ℕ → List ℕ → Result (BoxWrite × List ℕ) PlanFault
-write_at s i before bytes = do
-  b ← box_at s i before bytes
-  values ← front (raw_len b.0 s.channels s.width) (Truncated i) b.1
-  Ok ((b.0, values.0), values.1)
+abbrev pub len_behind : Scale → Bytes → List BoxWrite → ℕ
+len_behind s bytes before = raw_len (box_behind bytes before) s.channels s.width
 
--- n more writes behind these, and what comes after them
-unfoldable pub writes_at : Scale → ℕ → List BoxWrite → List ℕ → Result (List BoxWrite × List ℕ) PlanFault
-writes_at s zero before bytes = Ok (before, bytes)
-writes_at s (suc n) before bytes = do
-  write ← write_at s (length before) (total before) bytes
-  writes_at s n (before ++ write.0 ∷ []) write.1
+-- the write itself
+abbrev pub write_behind : Scale → Bytes → List BoxWrite → BoxWrite
+write_behind s bytes before = (box_behind bytes before, take (len_behind s bytes before) (drop (place before + 48) bytes))
 
--- `PVW1`
-abbrev pub magic : List ℕ
-magic = 80 ∷ 86 ∷ 87 ∷ 49 ∷ []
-
-unfoldable pub marked : List ℕ → Result (List ℕ) PlanFault
-marked bytes = do
-  head ← front 4 BadMagic bytes
-  if bytes_eq head.0 magic then Ok head.1 else Err BadMagic
-
--- at most 65,536 writes
-abbrev pub limited : ℕ → List ℕ → Result (ℕ × List ℕ) PlanFault
-limited n rest = if nat_lt 65536 n then Err (TooManyWrites n) else Ok (n, rest)
+-- a fault where a test holds
+abbrev pub fault_if : Bool → PlanFault → Option PlanFault
+fault_if test fault = if test then Some fault else None
 
 -- the count of the writes
-unfoldable pub count_at : List ℕ → Result (ℕ × List ℕ) PlanFault
-count_at bytes = do
-  rest ← marked bytes
-  count ← front 4 (Truncated 0) rest
-  limited (from_le_bytes w32 count.0) count.1
+abbrev pub count_in : Bytes → ℕ
+count_in bytes = from_le_bytes w32 (take 4 (drop 4 bytes))
 
--- nothing follows
-abbrev pub ended : {A : Type 0} → A → List ℕ → Result A PlanFault
-ended value bytes = if length bytes == 0 then Ok value else Err TrailingBytes
+-- the first fault of the mark and the count: at most 65,536 writes
+abbrev pub count_fault : Bytes → Option PlanFault
+count_fault bytes = first_some (
+    fault_if (not (bytes_eq (take 4 bytes) magic)) BadMagic
+    ∷ fault_if (nat_lt (length bytes) 8) (Truncated 0)
+    ∷ fault_if (nat_lt 65536 (count_in bytes)) (TooManyWrites (count_in bytes))
+    ∷ [])
+
+-- the first fault of the write behind some writes; all values together have at most 2^30 bytes
+abbrev pub write_fault : Scale → Bytes → List BoxWrite → Option PlanFault
+write_fault s bytes before = first_some (
+    fault_if (nat_lt (length bytes) (place before + 48)) (Truncated (length before))
+    ∷ fault_if (is_empty (box_behind bytes before)) (EmptyBox (length before))
+    ∷ fault_if (not (is_within s (box_behind bytes before))) (OutsideBox (length before))
+    ∷ fault_if (nat_lt (2 ^ 30) (total before + len_behind s bytes before)) (WritesTooLarge (length before))
+    ∷ fault_if (nat_lt (length bytes) (place before + 48 + len_behind s bytes before)) (Truncated (length before))
+    ∷ [])
+
+-- the first n writes, as long as none has a fault
+abbrev pub first_writes : Scale → Bytes → ℕ → List BoxWrite
+first_writes s bytes zero = []
+first_writes s bytes (suc n) = first_writes s bytes n ++ write_behind s bytes (first_writes s bytes n) ∷ []
+
+-- the first fault of a stream: of its count, of each write, or that something follows
+abbrev pub stream_fault : Bytes → Scale → Option PlanFault
+stream_fault bytes s = first_some (
+    count_fault bytes
+    ∷ map (λ n. write_fault s bytes (first_writes s bytes n)) (range_with_len 0 (count_in bytes))
+    ++ fault_if (nat_lt (place (first_writes s bytes (count_in bytes))) (length bytes)) TrailingBytes
+    ∷ [])
+
+-- a value where there is no fault
+abbrev pub unless_fault : {A : Type 0} → Option PlanFault → A → Result A PlanFault
+unless_fault None value = Ok value
+unless_fault (Some fault) value = Err fault
 
 -- the writes of a stream, or its first fault
-unfoldable pub writes_of : List ℕ → Scale → Result (List BoxWrite) PlanFault
-writes_of bytes s = do
-  count ← count_at bytes
-  writes ← writes_at s count.0 [] count.1
-  ended writes.0 writes.1
+unfoldable pub writes_of : Bytes → Scale → Result (List BoxWrite) PlanFault
+writes_of bytes s = unless_fault (stream_fault bytes s) (first_writes s bytes (count_in bytes))

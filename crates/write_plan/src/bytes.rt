@@ -3,7 +3,7 @@ ghost use Rattle.std.specs.Prelude.{◌≡◌, ◌<◌, ◌≤◌, IsTrue, lengt
 ghost use Rattle.std.specs.Option.{option_map};
 ghost use Rattle.vol_base.specs.Causes.{HasCause};
 ghost use Rattle.vol_base.specs.Bytes.{AreBytes};
-ghost use Rattle.write_plan.specs.Stream.{front};
+ghost use Rattle.write_plan.specs.Reading.{front};
 ghost use Rattle.write_plan.specs.Readers.{Came, Took, Gave, Refused, HasFeedCause, of_stream};
 
 use crate::fault::PlanFault;

@@ -8,7 +8,8 @@ ghost use Rattle.std.specs.Str.{bytes_eq};
 ghost use Rattle.vol_base.specs.Bytes.{AreBytes};
 ghost use Rattle.vol_spec.specs.Grid.{Inside};
 ghost use Rattle.vol_spec.specs.Raw.{raw_len};
-ghost use Rattle.write_plan.specs.Stream.{is_empty, is_within, magic, word, box_of, judged, box_at, write_at, writes_at, marked, count_at, writes_of};
+ghost use Rattle.write_plan.specs.Stream.{is_empty, is_within, magic, head_number, box_of, writes_of};
+ghost use Rattle.write_plan.specs.Reading.{judged, box_at, write_at, writes_at, marked, count_at};
 ghost use Rattle.write_plan.specs.Readers.{Took, Gave, Refused, Answers, HasFeedCause, IsJudged, IsSized, of_stream};
 ghost use Rattle.write_plan.specs.WriteLists.{IsWriteOf, write_in, writes_in, total};
 ghost use Rattle.write_plan.specs.declared.fault.PlanFault.TheVariants.{TrailingBytes};
@@ -29,7 +30,7 @@ const MOST_BYTES: u64 = 1 << 30;
 fn find_word(head: &[u8], n: usize) -> u64
     requires head { length head.now ≡ 48 }
     requires n { n < 6 }
-    ensures { result ≡ word head.now n }
+    ensures { result ≡ head_number head.now n }
 {
     let bytes = &head[8 * n..8 * n + 8];
     u64::from_le_bytes([
@@ -68,7 +69,7 @@ fn lies_inside(scale: &Scale, part: &Box3) -> bool
 
 // How many bytes the values of a write's box have, behind so many bytes of values; or the first
 // fault of the box.
-#[tactic(auto, unfolding(crate::specs::Stream::judged))]
+#[tactic(auto, unfolding(crate::specs::Reading::judged))]
 fn judge(scale: &Scale, number: u32, before: u64, part: &Box3) -> Result<usize, PlanFault>
     requires { before ≤ 2 ^ 30 }
     ensures { MatchResult result (λ len. IsJudged scale.now number before part.now len) (λ e. IsTrue (of_stream e) × (judged scale.now number before part.now ≡ Err e)) }

@@ -1,5 +1,6 @@
 use Rattle.std.proofs.Common.{refl}
 use Rattle.chunk_laws.proofs.Law.{chunk_absent, chunk_empty, chunk_kept, chunk_there, stored_outside, value_back}
+use Rattle.chunk_laws.proofs.Said.{says}
 use Rattle.chunk_laws.proofs.WrittenSteps.{written_sound, written_value}
 use Rattle.vol_spec.specs.LastWrite.{zeros}
 use Rattle.vol_spec.proofs.RawSteps.{zeros_are}
@@ -18,6 +19,9 @@ returns-clause-kept c m raw cells h cell is apart = chunk_kept c.args.dataset.no
 
 pub returns-clause-absent : goal.returns-clause-absent
 returns-clause-absent c m raw cells h cell is unlisted (other, listed, same) = chunk_absent c.args.dataset.now c.args.scale.now raw cells h m cell other is unlisted listed same
+
+pub returns-clause-each : goal.returns-clause-each
+returns-clause-each c m raw cells h cell is = says c.args.dataset.now c.args.scale.now raw cells h m cell is
 
 pub returns-clause-empty : goal.returns-clause-empty
 returns-clause-empty c m raw cells h none cell is unlisted = chunk_empty c.args.dataset.now c.args.scale.now raw cells h m cell none is unlisted

@@ -1,4 +1,4 @@
-use Rattle.std.proofs.Common.{arith, rules, ℕ, ◌≡◌, ◌+◌, ◌*◌, ◌/◌, ◌<◌, ◌≤◌, ◌∙◌, ap, sym, subst, length, take, slice_index}
+use Rattle.std.proofs.Common.{arith, rules, ℕ, ◌≡◌, ◌+◌, ◌*◌, ◌/◌, ◌<◌, ◌≤◌, ◌∙◌, ap, sym, subst, length, slice_index}
 use Rattle.std.specs.Prelude.{map}
 use Rattle.std.specs.List.{Contains}
 use Rattle.std.proofs.Math.Nat.{mul-le-mul_left}
@@ -57,9 +57,7 @@ pub returns-clause-places : goal.returns-clause-places
 returns-clause-places c =
     let s = sizes_of c.args.shape.now in
     let pn = some_voxels s (limits c.args.shape.now) in
-    let first : c.read_value-first.result ≡ raw_value s c.args.raw.now c.args.c c.args.k 0 = c.read_value-first.ensures ∙ ap (digit c.args.raw.now (width s)) (c.find_line.ensures ∙ first_place s c.args.c c.args.k c.args.b.now c.requires.is) in
-    let is : take c.find_table-count.result c.find_table-count.new.values ≡ table s c.args.raw.now c.args.c c.args.k =
-    c.find_table-count.ensures.table ∙ ap distinct c.fill_voxels.ensures ∙ table_is s c.args.raw.now c.args.c c.args.k c.read_value-first.result (limits c.args.shape.now) c.requires.block pn first in
+    let is = returns-clause-table c in
     let some = table_some s c.args.raw.now c.args.c c.args.k (limits c.args.shape.now) c.requires.block pn in
     let head : slice_index c.find_table-count.new.values 0 ≡ slice_index (table s c.args.raw.now c.args.c c.args.k) 0 = front_first c.find_table-count.new.values c.find_table-count.result (subst (λ q. 0 < length q) (sym is) some) ∙ ap (λ q. slice_index q 0) is in
     ap (λ q. map (place_in q) c.fill_voxels-2.new.voxels) is
@@ -69,9 +67,7 @@ pub returns-clause-there : goal.returns-clause-there
 returns-clause-there c =
     let s = sizes_of c.args.shape.now in
     let pn = some_voxels s (limits c.args.shape.now) in
-    let first : c.read_value-first.result ≡ raw_value s c.args.raw.now c.args.c c.args.k 0 = c.read_value-first.ensures ∙ ap (digit c.args.raw.now (width s)) (c.find_line.ensures ∙ first_place s c.args.c c.args.k c.args.b.now c.requires.is) in
-    let is : take c.find_table-count.result c.find_table-count.new.values ≡ table s c.args.raw.now c.args.c c.args.k =
-    c.find_table-count.ensures.table ∙ ap distinct c.fill_voxels.ensures ∙ table_is s c.args.raw.now c.args.c c.args.k c.read_value-first.result (limits c.args.shape.now) c.requires.block pn first in
+    let is = returns-clause-table c in
     let some = table_some s c.args.raw.now c.args.c c.args.k (limits c.args.shape.now) c.requires.block pn in
     let head : slice_index c.find_table-count.new.values 0 ≡ slice_index (table s c.args.raw.now c.args.c c.args.k) 0 = front_first c.find_table-count.new.values c.find_table-count.result (subst (λ q. 0 < length q) (sym is) some) ∙ ap (λ q. slice_index q 0) is in
     subst (λ q. (n : ℕ) → n < length c.fill_voxels-2.new.voxels → Contains q (slice_index c.fill_voxels-2.new.voxels n)) (sym is)

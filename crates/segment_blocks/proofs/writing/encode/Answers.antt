@@ -1,4 +1,4 @@
-use Rattle.std.proofs.Common.{arith, ◌≡◌, ◌*◌, ◌<◌, ◌≤◌, ◌∙◌, ◌++◌, None, ap, subst, sym, ℕ, List, length, length-take, take, drop}
+use Rattle.std.proofs.Common.{arith, ◌≡◌, ◌*◌, ◌^◌, ◌<◌, ◌≤◌, ◌∙◌, ◌++◌, None, ap, subst, sym, ℕ, List, length, length-take, take, drop}
 use Rattle.std.specs.Prelude.{flat_map}
 use Rattle.std.specs.List.{range_with_len}
 use Rattle.std.proofs.lemmas.List.{take_at}
@@ -6,18 +6,16 @@ use Rattle.vol_spec.specs.BoxValues.{bytes_of}
 use Rattle.vol_spec.specs.SegShapes.{sizes_of}
 use Rattle.vol_spec.specs.SegWritten.{channel_bytes, channel_start}
 use Rattle.segment_blocks.specs.Reserved.{sizes_for}
-use Rattle.std.proofs.Math.Nat.{le-mul_of_pos_right}
 use Rattle.vol_spec.specs.Raw.{digit}
 use Rattle.vol_spec.specs.SegBlocks.{InChunk, num, width}
 use Rattle.vol_spec.specs.SegChunks.{seg_at}
 use Rattle.vol_spec.specs.SegFaults.{seg_fault}
-use Rattle.segment_blocks.specs.Shape.{padded}
 use Rattle.segment_blocks.proofs.Back.{table_fits}
 use Rattle.segment_blocks.proofs.Bodies.{over_front}
 use Rattle.segment_blocks.proofs.Channels.{seg_bytes_is, start_le, start_low, starts_bytes}
 use Rattle.segment_blocks.proofs.Reserves.{serves_room}
 use Rattle.segment_blocks.proofs.Rooms.{kept_singles, serves_singles}
-use Rattle.segment_blocks.proofs.Shapes.{limits, padded_is}
+use Rattle.segment_blocks.proofs.Shapes.{limits, padded_is, padded_le}
 use Rattle.segment_blocks.proofs.Sound.{is_sound, reads_back}
 use Rattle.segment_blocks.proofs.writing.encode.Goals as goal
 
@@ -69,23 +67,20 @@ pub returns-clause-sound : goal.returns-clause-sound
 returns-clause-sound c =
     let s = sizes_of c.args.shape.now in
     let h = limits c.args.shape.now in
-    let e = padded_is s in
-    let l : padded s ≤ padded s * s.channels = le-mul_of_pos_right (padded s) h.some_channels in
-    subst (λ q. seg_fault q s ≡ None) (sym (returns-clause-bytes c)) (is_sound s c.args.raw.now h (omega (arith, e, c.requires.limit)) (omega (arith, e, l, c.requires.limit)))
+    let few = padded_le s (2 ^ 22) h c.requires.limit in
+    subst (λ q. seg_fault q s ≡ None) (sym (returns-clause-bytes c)) (is_sound s c.args.raw.now h few.0 few.1)
 
 pub returns-clause-read_back : goal.returns-clause-read_back
 returns-clause-read_back c =
     let s = sizes_of c.args.shape.now in
     let h = limits c.args.shape.now in
-    let e = padded_is s in
-    let l : padded s ≤ padded s * s.channels = le-mul_of_pos_right (padded s) h.some_channels in
+    let few = padded_le s (2 ^ 22) h c.requires.limit in
     subst (λ b. (x y z d : ℕ) → InChunk s x y z → d < s.channels → seg_at b s x y z d ≡ digit c.args.raw.now (width s) (num s x y z d)) (sym (returns-clause-bytes c))
-    (reads_back s c.args.raw.now h (λ i. omega (arith, c.type_inv.raw i)) (omega (arith, e, c.requires.limit)) (omega (arith, e, l, c.requires.limit)))
+    (reads_back s c.args.raw.now h (λ i. omega (arith, c.type_inv.raw i)) few.0 few.1)
 
 pub returns-clause-offsets : goal.returns-clause-offsets
 returns-clause-offsets c =
     let s = sizes_of c.args.shape.now in
     let h = limits c.args.shape.now in
-    let e = padded_is s in
-    let l : padded s ≤ padded s * s.channels = le-mul_of_pos_right (padded s) h.some_channels in
-    λ d k lk. table_fits s c.args.raw.now d k h (omega (arith, e, l, c.requires.limit)) lk
+    let few = padded_le s (2 ^ 22) h c.requires.limit in
+    λ d k lk. table_fits s c.args.raw.now d k h few.1 lk

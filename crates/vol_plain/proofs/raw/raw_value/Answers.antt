@@ -1,4 +1,4 @@
-use Rattle.std.proofs.Common.{◌≡◌, ◌==◌, arith, sym}
+use Rattle.std.proofs.Common.{arith}
 use Rattle.vol_plain.proofs.ValueSteps.{few_voxels, no_fault, reads_within}
 use Rattle.vol_plain.proofs.raw.raw_value.Goals as goal
 

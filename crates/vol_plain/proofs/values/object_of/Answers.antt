@@ -2,8 +2,6 @@ use Rattle.std.proofs.Common.{sym, ap, ◌∙◌}
 use Rattle.vol_spec.specs.Places.{shard_of}
 use Rattle.vol_spec.specs.ShardNames.{shard_name}
 use Rattle.vol_spec.specs.StoredBytes.{object_by}
-use Rattle.vol_spec.specs.declared.sharding.Sharding.{Sharding}
-use Rattle.vol_spec.specs.declared.scale.Scale.{Scale}
 use Rattle.vol_spec.specs.Codes.{code_of}
 use Rattle.vol_plain.proofs.values.object_of.Goals as goal
 

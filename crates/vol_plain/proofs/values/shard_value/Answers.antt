@@ -1,7 +1,6 @@
 use Rattle.std.proofs.Common.{◌≡◌, ◌+◌, ◌-◌, ◌∙◌, ap, sym, arith, take, drop}
 use Rattle.std.specs.Prelude.{Ok}
 use Rattle.vol_spec.specs.Codes.{code_of}
-use Rattle.vol_spec.specs.FoundChunks.{found}
 use Rattle.vol_plain.proofs.ValueSteps.{shard_said}
 use Rattle.vol_plain.proofs.values.shard_value.Goals as goal
 

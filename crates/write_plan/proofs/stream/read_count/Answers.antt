@@ -1,6 +1,6 @@
 use Rattle.std.proofs.Common.{◌∙◌, arith}
 use Rattle.std.proofs.lemmas.Result.{err_from_is_err_and}
-use Rattle.write_plan.specs.Stream.{front, marked, count_at}
+use Rattle.write_plan.specs.Reading.{front, marked, count_at}
 use Rattle.write_plan.specs.declared.fault.PlanFault.TheVariants.{TooManyWrites, Truncated}
 use Rattle.write_plan.proofs.FeedSteps.{limited_err, limited_ok, took_more, gave_by, gave_then, refused_along, refused_first, refused_then, map_same, if_some_each}
 use Rattle.write_plan.proofs.stream.read_count.Goals as goal

@@ -6,7 +6,7 @@ use Rattle.std.proofs.lemmas.List.{length-map}
 use Rattle.std.proofs.lemmas.List.Elements.{All-push}
 use Rattle.std.proofs.lemmas.Result.{err_from_is_err_and}
 use Rattle.vol_base.specs.Bytes.{AreBytes}
-use Rattle.write_plan.specs.Stream.{writes_at}
+use Rattle.write_plan.specs.Reading.{writes_at}
 use Rattle.write_plan.specs.WriteLists.{BoxWrite, IsWriteOf, write_in, writes_in, total}
 use Rattle.write_plan.proofs.FeedSteps.{took_more}
 use Rattle.write_plan.proofs.ListSteps.{list_more, list_refused, list_done, total_last, writes_last}

@@ -3,7 +3,7 @@ use Rattle.std.specs.List.{All}
 use Rattle.std.specs.Option.{option_map}
 use Rattle.vol_base.specs.Bytes.{AreBytes}
 use Rattle.write_plan.specs.Readers.{Took}
-use Rattle.write_plan.specs.Stream.{writes_at}
+use Rattle.write_plan.specs.Reading.{writes_at}
 use Rattle.write_plan.specs.WriteLists.{IsWriteOf, writes_in, total}
 use Rattle.write_plan.proofs.stream.read_list.Given as goal
 

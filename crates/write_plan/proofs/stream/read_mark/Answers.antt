@@ -1,6 +1,6 @@
 use Rattle.std.proofs.Common.{◌∙◌, refl, sym}
 use Rattle.std.proofs.lemmas.Result.{err_from_is_err_and}
-use Rattle.write_plan.specs.Stream.{front, marked}
+use Rattle.write_plan.specs.Reading.{front, marked}
 use Rattle.write_plan.specs.declared.fault.PlanFault.TheVariants.{BadMagic}
 use Rattle.write_plan.proofs.FeedSteps.{gave_then, refused_first, refused_then, map_same, if_some_each}
 use Rattle.write_plan.proofs.stream.read_mark.Goals as goal

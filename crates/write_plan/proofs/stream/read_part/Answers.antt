@@ -1,6 +1,6 @@
 use Rattle.std.proofs.Common.{◌∙◌, ap, Err}
 use Rattle.std.proofs.lemmas.Result.{err_from_is_err_and}
-use Rattle.write_plan.specs.Stream.{front, box_at}
+use Rattle.write_plan.specs.Reading.{front, box_at}
 use Rattle.write_plan.specs.declared.fault.PlanFault.TheVariants.{Truncated}
 use Rattle.write_plan.proofs.FeedSteps.{box_refused, box_gave, not_feed, gave_then, refused_first, refused_then, map_same, if_some_each}
 use Rattle.write_plan.proofs.stream.read_part.Goals as goal

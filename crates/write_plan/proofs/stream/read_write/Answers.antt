@@ -1,6 +1,6 @@
 use Rattle.std.proofs.Common.{arith}
 use Rattle.std.proofs.lemmas.Result.{err_from_is_err_and}
-use Rattle.write_plan.specs.Stream.{box_at, write_at}
+use Rattle.write_plan.specs.Reading.{box_at, write_at}
 use Rattle.write_plan.proofs.FeedSteps.{write_refused, write_gave, refused_first, took_more}
 use Rattle.write_plan.proofs.stream.read_write.Goals as goal
 

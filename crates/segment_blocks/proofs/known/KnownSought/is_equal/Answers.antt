@@ -1,15 +1,12 @@
-use Rattle.std.proofs.Common.{arith, ◌≡◌, ◌⊎◌, ◌*◌, ℕ, List, length, slice_index, take, drop, ap, ◌∙◌, sym, subst, refl, inl, inr, ⊎_elim, Bool, true, false, IsTrue}
+use Rattle.std.proofs.Common.{arith, ◌≡◌, ◌*◌, ℕ, List, length, slice_index, take, drop, ap, ◌∙◌, sym, subst, refl, ⊎_elim, Bool, true, false, IsTrue}
 use Rattle.std.specs.Prelude.{flat_map}
+use Rattle.equal_values.proofs.Ranges.{either}
 use Rattle.vol_spec.specs.BoxValues.{bytes_of}
 use Rattle.vol_spec.specs.SegSizes.{width_of}
 use Rattle.vol_spec.specs.SegWritten.{same, table}
 use Rattle.vol_spec.specs.SegShapes.{sizes_of}
 use Rattle.segment_blocks.proofs.Equal.{AreNarrow, equal_bytes, same_is, same_self}
 use Rattle.segment_blocks.proofs.known.KnownSought.is_equal.Goals as goal
-
-either : (b : Bool) → (b ≡ true) ⊎ (b ≡ false)
-either true = inl refl
-either false = inr refl
 
 told : (b : Bool) (w v m n : ℕ) (xs ys p q : List ℕ) → (IsTrue b → (m ≡ n) × (take (v * m) p ≡ take (v * n) q)) → ((m ≡ n) × (take (v * m) p ≡ take (v * n) q) → IsTrue b)
     → v ≡ w → m ≡ length xs → n ≡ length ys → take (w * m) p ≡ flat_map (bytes_of w) xs → take (w * n) q ≡ flat_map (bytes_of w) ys → AreNarrow w xs → AreNarrow w ys → b ≡ same xs ys
