@@ -25,7 +25,7 @@ use Rattle.vol_spec.specs.Entries.{entry_bytes, entry_of}
 use Rattle.vol_spec.specs.FoundChunks.{found}
 use Rattle.vol_spec.specs.IndexBytes.{eight, numbers}
 use Rattle.vol_spec.specs.Grid.{numbers_on, whole}
-use Rattle.vol_spec.specs.LastWrite.{last, zeros}
+use Rattle.vol_spec.specs.LastWrite.{last}
 use Rattle.vol_spec.specs.Limits.{AreBlocks, AreOffsets, IsSeg, cell_counts}
 use Rattle.vol_spec.specs.Places.{id_of}
 use Rattle.vol_spec.specs.Rows.{number_at}
@@ -33,6 +33,7 @@ use Rattle.vol_spec.specs.SegChunks.{entry, field, word}
 use Rattle.vol_spec.specs.SegFaults.{seg_fault}
 use Rattle.vol_spec.specs.SegBlocks.{in_chunk}
 use Rattle.vol_spec.specs.SegWritten.{channel_start, owner, seg_bytes, table, values_place}
+use Rattle.vol_spec.specs.ShardNames.{shard_file}
 use Rattle.vol_spec.specs.Shards.{shard_bytes}
 use Rattle.vol_spec.specs.StoredBytes.{held, object_of, stored_bytes}
 use Rattle.vol_spec.specs.StoredCells.{met_cells, raw_bytes}
@@ -394,6 +395,10 @@ unfolding judge chunk_in stored_bytes found entry_of number_at eight pairs
 chunk_next objects has = ap (verdict plain first) has
 
 -- a chunk may end where its object does, and no further
+short_entry : says (sharded_by halved) second (take 31 (two_with 1 25)) ≡ Err (Shard ShortIndex)
+unfolding found entry_of number_at eight pairs
+short_entry = refl
+
 chunk_at_end : says (sharded_by plain) first (one_with 1 49 1) ≡ Ok (Some (0 ∷ []))
 unfolding found entry_of number_at eight pairs
 chunk_at_end = refl
@@ -433,11 +438,11 @@ in_box_order : raw_bytes eight_voxels 2 1 (λ p c. from_begin eight_voxels p 0 +
     ≡ 0 ∷ 1 ∷ 10 ∷ 11 ∷ 40 ∷ 41 ∷ 50 ∷ 51 ∷ 100 ∷ 101 ∷ 110 ∷ 111 ∷ 140 ∷ 141 ∷ 150 ∷ 151 ∷ []
 in_box_order = refl
 
--- two writes of two voxels, of which they share one: the last counts there, and nothing is written behind them
+-- two writes of two voxels over sevens, of which they share one: the last counts there, and what is behind them stays
 abbrev shared : List (Box3 × List ℕ)
 shared = (record { begin = no_offset; size = 2 ∷ 1 ∷ 1 ∷ [] }, 1 ∷ 2 ∷ []) ∷ (record { begin = pos 1 ∷ pos 0 ∷ pos 0 ∷ []; size = 2 ∷ 1 ∷ 1 ∷ [] }, 8 ∷ 9 ∷ []) ∷ []
 
-last_counts : map (λ x. last 1 zeros shared (pos x ∷ pos 0 ∷ pos 0 ∷ []) 0) (range_with_len 0 4) ≡ 1 ∷ 8 ∷ 9 ∷ 0 ∷ []
+last_counts : map (λ x. last 1 (λ p c. 7) shared (pos x ∷ pos 0 ∷ pos 0 ∷ []) 0) (range_with_len 0 4) ≡ 1 ∷ 8 ∷ 9 ∷ 7 ∷ []
 last_counts = refl
 
 -- a cell that one of the writes meets is met
@@ -546,3 +551,57 @@ cost_clipped_0 = refl
 cost_clipped_1 : cost_by (Some plain) (clipped (Some plain)) second (Some both_long) ≡ 64
 unfolding found entry_of number_at eight pairs
 cost_clipped_1 = refl
+
+-- segmentations of four bytes in blocks of 2 by 2 voxels: the second chunk is clipped to 1 by 2
+clipped_segments_ok : AreSizes (3 ∷ 2 ∷ 1 ∷ [])
+clipped_segments_ok = by_axis (λ axis. (1 ≤ slice_index (3 ∷ 2 ∷ 1 ∷ []) axis) × (slice_index (3 ∷ 2 ∷ 1 ∷ []) axis ≤ 2 ^ 40)) (lit≤ tt, lit≤ tt) (lit≤ tt, lit≤ tt) (lit≤ tt, lit≤ tt)
+
+square_blocks : (block : List ℕ) → IsSeg (Seg (2 ∷ 2 ∷ 1 ∷ [])) block → AreBlocks block
+square_blocks block e = subst AreBlocks (ap blocks_of e) (by_axis (λ axis. (1 ≤ slice_index (2 ∷ 2 ∷ 1 ∷ []) axis) × (slice_index (2 ∷ 2 ∷ 1 ∷ []) axis ≤ 2 ^ 24)) (lit≤ tt, lit≤ tt) (lit≤ tt, lit≤ tt) (lit≤ tt, lit≤ tt))
+
+abbrev clipped_segments : Scale
+clipped_segments = record {
+  key = key;
+  width = 4;
+  channels = 1;
+  size = 3 ∷ 2 ∷ 1 ∷ [];
+  offset = no_offset;
+  chunk = 2 ∷ 2 ∷ 1 ∷ [];
+  encoding = Seg (2 ∷ 2 ∷ 1 ∷ []);
+  sharding = None;
+  key_ok = lit≤ tt;
+  width_ok = ∣ inr (inr (inl refl)) ∣₁;
+  some_channels = lit≤ tt;
+  channels_ok = lit≤ tt;
+  size_ok = clipped_segments_ok;
+  offset_ok = no_offset_ok;
+  chunk_ok = square_ok;
+  first_ok = lit≤ tt;
+  wide_ok = λ block e. ∣ inl refl ∣₁;
+  block_ok = square_blocks;
+  padded_ok = lit≤ tt;
+  codes_ok = λ x e. no_sharding x e;
+}
+
+-- 3 above 5, which is number 2 of its block: the words 1, 0x01000003, 2, 4, 3 and 5
+abbrev three_five : List ℕ
+three_five = 1 ∷ 0 ∷ 0 ∷ 0 ∷ 3 ∷ 0 ∷ 0 ∷ 1 ∷ 2 ∷ 0 ∷ 0 ∷ 0 ∷ 4 ∷ 0 ∷ 0 ∷ 0 ∷ 3 ∷ 0 ∷ 0 ∷ 0 ∷ 5 ∷ 0 ∷ 0 ∷ 0 ∷ []
+
+three_five_encoded : encoded clipped_segments second (3 ∷ 0 ∷ 0 ∷ 0 ∷ 5 ∷ 0 ∷ 0 ∷ 0 ∷ []) ≡ three_five
+unfolding seg_bytes channel_start values_place owner table in_chunk
+three_five_encoded = refl
+
+three_five_says : says clipped_segments second three_five ≡ Ok (Some three_five)
+unfolding seg_fault word field in_chunk
+three_five_says = refl
+
+three_five_value : value_of clipped_segments second (says clipped_segments second three_five) (pos 2 ∷ pos 1 ∷ pos 0 ∷ []) 0 ≡ Ok 5
+unfolding seg_fault word field in_chunk entry
+three_five_value = refl
+
+-- 7af.shard and 03.shard
+long_name : shard_file 11 1967 ≡ 55 ∷ 97 ∷ 102 ∷ 46 ∷ 115 ∷ 104 ∷ 97 ∷ 114 ∷ 100 ∷ []
+long_name = refl
+
+filled_name : shard_file 5 3 ≡ 48 ∷ 51 ∷ 46 ∷ 115 ∷ 104 ∷ 97 ∷ 114 ∷ 100 ∷ []
+filled_name = refl
