@@ -37,8 +37,8 @@ GivesBack s raw cells =
     → value_at s cell (encoded s cell (raw cell)) p c ≡ raw_at (cell_box s cell) s.width (raw cell) p c
 
 -- a cell whose object none of them has is as before
-abbrev pub KeepsOthers : Objects → Name → Scale → CellBytes → List Cell → Type 0
-KeepsOthers m dataset s raw cells =
+abbrev pub LeavesOthers : Objects → Name → Scale → CellBytes → List Cell → Type 0
+LeavesOthers m dataset s raw cells =
     (cell : Cell) → IsCell s cell → AreElsewhere dataset s cells cell
     → chunk_in (stored_in m dataset s raw cells) dataset s cell ≡ chunk_in m dataset s cell
 

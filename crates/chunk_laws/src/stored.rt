@@ -7,7 +7,7 @@ ghost use Rattle.vol_spec.specs.CellNames.{folder_of};
 ghost use Rattle.vol_spec.specs.Grid.{Inside};
 ghost use Rattle.vol_spec.specs.Types.{Cell, Chunks, Writes};
 ghost use Rattle.chunk_laws.specs.Storable.{CellBytes, AreStorable, AreWritable, written_in};
-ghost use Rattle.chunk_laws.specs.Told.{GivesBack, HasChunks, HasLastWrites, HasNoFault, HasNoOther, HasNoneBeside, KeepsOthers, LeavesOutside, ReadsBack, SaysOfEach};
+ghost use Rattle.chunk_laws.specs.Told.{GivesBack, HasChunks, HasLastWrites, HasNoFault, HasNoOther, HasNoneBeside, LeavesOthers, LeavesOutside, ReadsBack, SaysOfEach};
 
 use vol_base::Name;
 use vol_spec::Scale;
@@ -23,7 +23,7 @@ pub fn tell_chunks(dataset: &Name, scale: &Scale)
         → GivesBack scale.now raw cells }
     // Any other cell is as before, where no object of its is put,
     ensures kept { (m : Objects) (raw : CellBytes) (cells : List Cell) → AreStorable scale.now raw cells
-        → KeepsOthers m dataset.now scale.now raw cells }
+        → LeavesOthers m dataset.now scale.now raw cells }
     // and absent, where one is.
     ensures absent { (m : Objects) (raw : CellBytes) (cells : List Cell) → AreStorable scale.now raw cells
         → HasNoneBeside m dataset.now scale.now raw cells }
