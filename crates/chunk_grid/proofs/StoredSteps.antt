@@ -1,37 +1,28 @@
 -- What the objects of a scale's chunks say of its cells and voxels, once they are put in.
-use Rattle.std.proofs.Common.{◌≡◌, ◌≢◌, ℕ, zero, suc, ◌+◌, ◌<◌, List, [], ◌∷◌, ◌++◌, Bool, true, false, cond, ◌==◌, ◌&&◌, length, get_or, map, Option, Some, None, Ok, refl, ap, ◌∙◌, sym, arith, lit<}
+use Rattle.std.proofs.Common.{◌≡◌, ◌≢◌, ℕ, zero, suc, ◌<◌, List, [], ◌∷◌, ◌++◌, Bool, true, false, cond, ◌&&◌, length, get_or, map, Some, refl, ap, ◌∙◌, sym, arith, lit<}
 use Rattle.std.specs.Prelude.{ℤ, ◌≤ℤ◌, ◌<ℤ◌, int_le, int_lt, All, Contains, filter, reverse, if◌then◌else◌}
 use Rattle.std.specs.FinMap as fin
 use Rattle.std.proofs.lemmas.Bool.{and_from, and_parts}
-use Rattle.std.proofs.lemmas.Bool.Decides.{nat_tests}
 use Rattle.std.proofs.lemmas.Grind.{reverse_onto}
-use Rattle.std.proofs.lemmas.List.{append-nil, get_or-map, length-map, take_all}
+use Rattle.std.proofs.lemmas.List.{append-nil, get_or-map, length-map}
 use Rattle.std.proofs.lemmas.List.Elements.{All-contains, All-map, filter-append, filter_passes, All-head, All-tail}
 use Rattle.std.proofs.lemmas.List.Folds.{list_any_at}
 use Rattle.vol_base.specs.declared.boxes.Box3.{Box3}
-use Rattle.vol_base.specs.declared.faults.ChunkFault.{ChunkFault}
 use Rattle.vol_base.specs.Boxes.{at, end, num, Covers}
-use Rattle.vol_base.specs.Outside.{Objects, any_under, is_under}
-use Rattle.vol_base.specs.Bytes.{AreBytes}
+use Rattle.vol_base.specs.Outside.{Objects, is_under}
 use Rattle.vol_spec.specs.CellNames.{folder_of, cell_name}
-use Rattle.vol_spec.specs.Chunks.{chunk_in, fault_of, fault_in, value_in}
-use Rattle.vol_spec.specs.Chunks as form
-use Rattle.vol_spec.specs.RawChunks.{judged, chunk_of, value_of}
-use Rattle.vol_spec.specs.declared.encoding.Encoding.TheVariants.{Raw}
-use Rattle.vol_spec.proofs.Plain.{chunk_in-plain, value_of-raw}
 use Rattle.vol_spec.specs.Grid.{whole, cells_on, IsCell, cell_box, cell_at, meets, numbers_on}
 use Rattle.vol_spec.specs.LastWrite.{Before, covers_on, covers, last, newest}
-use Rattle.vol_spec.specs.Raw.{digit, raw_at, raw_fault, raw_len}
+use Rattle.vol_spec.specs.Raw.{digit}
 use Rattle.vol_spec.specs.StoredCells.{AreInOrder, met, met_cells, written_raw, chunks_of, object_list, put_in}
 use Rattle.vol_spec.specs.declared.scale.Scale.{Scale}
 use Rattle.vol_spec.proofs.PutSteps.{put_in-other, put_in-Contains, AreApart, not_true_is}
-use Rattle.vol_spec.proofs.RawSteps.{All-reverse, length-written_raw, raw_at-written_raw}
+use Rattle.vol_spec.proofs.RawSteps.{All-reverse}
 use Rattle.vol_base.proofs.Axes.{by_axis}
-use Rattle.chunk_grid.proofs.GridSteps.{cell_at-IsCell, cell_at-Covers}
+use Rattle.chunk_grid.proofs.GridSteps.{cell_at-Covers}
 use Rattle.chunk_grid.proofs.ListingSteps.{meets-true, Contains-filter, Contains-numbers_on}
 use Rattle.chunk_grid.proofs.MeetSteps.{int_le-from, int_le-true, int_lt-from, int_lt-true}
-use Rattle.chunk_grid.proofs.NameSteps.{cell_name-injective, names_apart, is_under-cell_name, get-absent_cell}
-use Rattle.chunk_grid.proofs.OrderSteps.{AreInOrder-met_cells}
+use Rattle.chunk_grid.proofs.NameSteps.{cell_name-injective, names_apart, is_under-cell_name}
 
 -- the objects of cells, with bytes for each
 abbrev pub cell_objects : List ℕ → Scale → (List ℕ → List ℕ) → List (List ℕ) → List (List ℕ × List ℕ)

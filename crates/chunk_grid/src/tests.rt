@@ -1,37 +1,13 @@
 //! Worked examples.
 
-ghost use Rattle.std.specs.Prelude.{◌≡◌, ◌≤◌, ◌<◌, length};
+ghost use Rattle.std.specs.Prelude.{◌≤◌, ◌<◌, length};
 ghost use Rattle.vol_spec.specs.Grid.{Inside};
 
 use super::*;
+use small_scales::{raw_scale, short_name};
 use std::process::Abort;
 use vol_base::{Box3, Name};
-use vol_spec::{Encoding, Scale};
-
-// A raw scale of bytes; sizes of 0 count as 1.
-fn sample(key: Name, size: [u8; 3], offset: [i8; 3], chunk: [u8; 3]) -> Scale
-    requires { length key ≤ 200 }
-    ensures { result.key ≡ key }
-{
-    Scale {
-        key,
-        width: 1,
-        channels: 1,
-        size: [
-            size[0].max(1) as u64,
-            size[1].max(1) as u64,
-            size[2].max(1) as u64,
-        ],
-        offset: [offset[0] as i64, offset[1] as i64, offset[2] as i64],
-        chunk: [
-            chunk[0].max(1) as u64,
-            chunk[1].max(1) as u64,
-            chunk[2].max(1) as u64,
-        ],
-        encoding: Encoding::Raw,
-        sharding: None,
-    }
-}
+use vol_spec::Scale;
 
 // The box of the last cell that meets the part.
 fn last_box(scale: &Scale, part: &Box3) -> Box3
@@ -81,14 +57,6 @@ fn part(begin: [i64; 3], size: [u64; 3]) -> Box3 {
     Box3 { begin, size }
 }
 
-fn key(rt: &impl Abort) -> Name
-    ensures { length result ≤ 200 }
-{
-    let name = Name::new(b"s").expect(rt, "a key");
-    assert!(rt; name.as_bytes().len() <= 200);
-    name
-}
-
 #[test]
 fn walks_over_the_cells_of_a_part(rt: HostRuntime) {
     for (size, offset, chunk) in [
@@ -96,7 +64,8 @@ fn walks_over_the_cells_of_a_part(rt: HostRuntime) {
         ([5, 1, 3], [-3, 0, 2], [1, 1, 1]),
         ([7, 4, 2], [0, -9, 5], [3, 2, 5]),
     ] {
-        let scale = sample(key(&rt), size, offset, chunk);
+        let key = short_name(b"s").expect(&rt, "a key");
+        let scale = raw_scale(key, 1, 1, size, offset, chunk).expect(&rt, "a scale");
         let begin = scale.offset;
         let middle = [begin[0] + 1, begin[1], begin[2] + 1];
         check_cells(&rt, &scale, &whole(&scale));
@@ -107,7 +76,8 @@ fn walks_over_the_cells_of_a_part(rt: HostRuntime) {
 
 #[test]
 fn finds_cells_and_boxes(rt: HostRuntime) {
-    let scale = sample(key(&rt), [5, 1, 3], [-3, 0, 2], [2, 2, 2]);
+    let key = short_name(b"s").expect(&rt, "a key");
+    let scale = raw_scale(key, 1, 1, [5, 1, 3], [-3, 0, 2], [2, 2, 2]).expect(&rt, "a scale");
     assert_eq!(rt; grid(&scale).size, [3, 1, 2]);
     assert_eq!(rt; whole(&scale), part([-3, 0, 2], [5, 1, 3]));
     for (begin, size, is_inside) in [
@@ -138,10 +108,19 @@ fn counts_bytes_and_places(rt: HostRuntime) {
     assert_eq!(rt; byte_len(&most, 0, 1), 0);
 }
 
+// The name of a cell's object against what is wanted.
+fn check_name(rt: &impl Abort, dataset: &Name, scale: &Scale, cell: [u64; 3], wanted: &str)
+    requires { length dataset.now ≤ 200 }
+{
+    let [x, y, z] = grid(scale).size;
+    assert!(rt; cell[0] < x && cell[1] < y && cell[2] < z);
+    let name = object_name(dataset, scale, cell);
+    assert_eq!(rt; name.as_bytes(), wanted.as_bytes());
+}
+
 #[test]
 fn names_objects(rt: HostRuntime) {
-    let dataset = Name::new(b"d").expect(&rt, "a data set");
-    assert!(rt; dataset.as_bytes().len() <= 200);
+    let dataset = short_name(b"d").expect(&rt, "a data set");
     for (size, offset, chunk, cell, wanted) in [
         (
             [4, 1, 1],
@@ -165,10 +144,8 @@ fn names_objects(rt: HostRuntime) {
             "d/s/-1-0_0-1_0-1",
         ),
     ] {
-        let scale = sample(key(&rt), size, offset, chunk);
-        let [x, y, z] = grid(&scale).size;
-        assert!(rt; cell[0] < x && cell[1] < y && cell[2] < z);
-        let name = object_name(&dataset, &scale, cell);
-        assert_eq!(rt; name.as_bytes(), wanted.as_bytes());
+        let key = short_name(b"s").expect(&rt, "a key");
+        let scale = raw_scale(key, 1, 1, size, offset, chunk).expect(&rt, "a scale");
+        check_name(&rt, &dataset, &scale, cell, wanted);
     }
 }

@@ -12,7 +12,6 @@ use Rattle.vol_base.specs.declared.faults.Fault.{Fault}
 use Rattle.vol_base.specs.Boxes.{Covers, num}
 use Rattle.vol_base.specs.Outside.{Objects}
 use Rattle.vol_spec.specs.Chunks.{chunk_in, fault_of}
-use Rattle.vol_spec.specs.Chunks as form
 use Rattle.vol_spec.specs.RawChunks.{value_of}
 use Rattle.vol_spec.specs.declared.encoding.Encoding.TheVariants.{Raw}
 use Rattle.vol_spec.proofs.Plain.{value_of-raw}

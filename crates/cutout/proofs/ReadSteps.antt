@@ -1,5 +1,5 @@
 -- Reading the cells of a part, one cell on.
-use Rattle.std.proofs.Common.{◌≡◌, ℕ, ◌-◌, ◌^◌, ◌≤◌, min, List, Option, Some, None, Result, arith, refl, sym, subst}
+use Rattle.std.proofs.Common.{◌≡◌, ℕ, ◌-◌, ◌^◌, ◌≤◌, min, List, Option, Some, None, Result, arith, sym, subst}
 use Rattle.vol_base.specs.declared.boxes.Box3.{Box3}
 use Rattle.vol_spec.specs.Grid.{cell_box}
 use Rattle.vol_spec.specs.Limits.{first_bytes}

@@ -1,44 +1,15 @@
 //! Boxes read from small stores, worked out by hand.
 
-ghost use Rattle.std.specs.Prelude.{◌≡◌, ◌≤◌, None, length};
-ghost use Rattle.vol_spec.specs.declared.encoding.Encoding.TheVariants.{Raw};
-
 use crate::{ReadFault, read_cells};
 use chunk_grid::{byte_len, inside};
+use small_scales::{raw_scale, short_name};
 use std::alloc::Global;
 use std::process::Abort;
 use std::test::Fail;
-use vol_base::{Box3, ChunkFault, Fault, MemoryStore, Name};
-use vol_spec::{Encoding, Scale};
+use vol_base::{Box3, ChunkFault, Fault, MemoryStore};
 
-// A name of at most 200 bytes.
-fn name(rt: &impl Abort, text: &[u8]) -> Name
-    ensures { length result ≤ 200 }
-{
-    let name = Name::new(text).expect(rt, "a name");
-    assert!(rt; name.as_bytes().len() <= 200);
-    name
-}
-
-// Three cells in a row, the last one narrower.
-fn row_scale(key: Name) -> Scale
-    requires { length key ≤ 200 }
-    ensures unsharded { result.sharding ≡ None }
-    ensures raw { result.encoding ≡ Raw }
-{
-    Scale {
-        key,
-        width: 1,
-        channels: 1,
-        size: [5, 1, 1],
-        offset: [0; 3],
-        chunk: [2, 1, 1],
-        encoding: Encoding::Raw,
-        sharding: None,
-    }
-}
-
-// Reads voxels of the row, one of the store's calls failing: the answer, and where it is Ok these values.
+// Reads voxels of three cells in a row, the last one narrower, one of the store's calls failing: the answer, and where
+// it is Ok these values.
 fn check_row(
     rt: &impl Abort,
     alloc: Global,
@@ -50,15 +21,17 @@ fn check_row(
 ) -> Result<(), Fail> {
     let mut store = MemoryStore::new(alloc, Vec::from_slice(alloc, &[failing])?);
     for (text, bytes) in objects {
-        store.put(&name(rt, text), bytes.to_vec(alloc)?)?;
+        let name = short_name(text).expect(rt, "a name");
+        store.put(&name, bytes.to_vec(alloc)?)?;
     }
-    let scale = row_scale(name(rt, b"s"));
+    let key = short_name(b"s").expect(rt, "a key");
+    let scale = raw_scale(key, 1, 1, [5, 1, 1], [0; 3], [2, 1, 1]).expect(rt, "a scale");
     assert!(rt; inside(&scale, part));
     let mut chunk = vec![in alloc; 0; scale.raw_limit() as usize + 1]?;
     let len = byte_len(part, scale.channels, scale.width);
     assert!(rt; len <= 64);
     let mut out = vec![in alloc; 9; len as usize]?;
-    let dataset = name(rt, b"d");
+    let dataset = short_name(b"d").expect(rt, "a data set");
     let answer = read_cells(&mut store, &dataset, &scale, &mut chunk, part, &mut out);
     assert_eq!(rt; answer, wanted);
     if answer.is_ok() {

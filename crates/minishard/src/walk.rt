@@ -55,6 +55,31 @@ impl Walk {
         }
     }
 
+    /// The same walk once more.
+    pub fn duplicate(&self) -> Walk
+        ensures { result ≡ self.now }
+    {
+        Walk {
+            rows: self.rows,
+            id: self.id,
+            end: self.end,
+        }
+    }
+
+    /// How many rows it answered.
+    pub fn rows(&self) -> u64
+        ensures { result ≡ self.now.rows }
+    {
+        self.rows
+    }
+
+    /// The id of the last one; 0 before the first.
+    pub fn id(&self) -> u64
+        ensures { result ≡ self.now.id }
+    {
+        self.id
+    }
+
     // The next row by the numbers so far.
     fn step(&mut self, id_delta: u64, start_delta: u64, size: u64) -> Result<Row, IndexFault>
         requires { self.old.rows < 2 ^ 22 }

@@ -1,60 +1,16 @@
 //! Objects worked out by hand, from the format's names and its order of values.
 
-ghost use Rattle.std.specs.Prelude.{◌≡◌, ◌≤◌, None, IfOk, length};
+ghost use Rattle.std.specs.Prelude.{◌≡◌, None, IfOk};
 ghost use Rattle.vol_spec.specs.declared.encoding.Encoding.TheVariants.{Raw};
 
 use crate::{WriteFault, Written, write_scale};
+use small_scales::{raw_scale, short_name};
 use std::alloc::{AllocError, Global};
 use std::process::Abort;
 use std::test::Fail;
-use vol_base::{Box3, MemoryFeed, MemoryStore, Name};
-use vol_spec::{Encoding, Scale};
+use vol_base::{Box3, MemoryFeed, MemoryStore};
+use vol_spec::Scale;
 use write_plan::{Chunks, Plan, read_writes};
-
-// A name of at most 200 bytes.
-fn name(rt: &impl Abort, text: &[u8]) -> Name
-    ensures { length result ≤ 200 }
-{
-    let name = Name::new(text).expect(rt, "a name");
-    assert!(rt; name.as_bytes().len() <= 200);
-    name
-}
-
-// Three cells in a row, the last one narrower.
-fn small_scale(key: Name) -> Scale
-    requires { length key ≤ 200 }
-    ensures unsharded { result.sharding ≡ None }
-    ensures raw { result.encoding ≡ Raw }
-{
-    Scale {
-        key,
-        width: 1,
-        channels: 1,
-        size: [5, 2, 1],
-        offset: [0; 3],
-        chunk: [2, 2, 1],
-        encoding: Encoding::Raw,
-        sharding: None,
-    }
-}
-
-// One voxel a cell, and more cells than are prepared at once.
-fn long_scale(key: Name) -> Scale
-    requires { length key ≤ 200 }
-    ensures unsharded { result.sharding ≡ None }
-    ensures raw { result.encoding ≡ Raw }
-{
-    Scale {
-        key,
-        width: 1,
-        channels: 1,
-        size: [300, 1, 1],
-        offset: [0; 3],
-        chunk: [1; 3],
-        encoding: Encoding::Raw,
-        sharding: None,
-    }
-}
 
 // The stream of some writes.
 fn print_stream(alloc: Global, writes: &[(Box3, &[u8])]) -> Result<Vec<u8>, AllocError> {
@@ -105,7 +61,7 @@ fn check_scale(
 {
     let mut plan = plan_of(alloc, scale, writes)?;
     let mut store = MemoryStore::new(alloc, Vec::from_slice(alloc, &[failing])?);
-    let dataset = name(rt, b"d");
+    let dataset = short_name(b"d").expect(rt, "a data set");
     assert!(rt; plan.jobs().len() <= 1 << 22);
     let answer = write_scale(alloc, &mut store, &dataset, scale, &mut plan);
     assert_eq!(rt; answer, wanted);
@@ -115,7 +71,8 @@ fn check_scale(
         } else {
             None
         };
-        assert_eq!(rt; store.get(&name(rt, text)), left);
+        let name = short_name(text).expect(rt, "a name");
+        assert_eq!(rt; store.get(&name), left);
     }
     Ok(())
 }
@@ -133,7 +90,12 @@ fn written(objects: u64, bytes: u64) -> Written {
     }
 }
 
-// The names of the small scale's cells.
+// Three cells in a row, the last one narrower.
+const SIZE: [u64; 3] = [5, 2, 1];
+
+const CHUNK: [u64; 3] = [2, 2, 1];
+
+// The names of their objects.
 const LEFT: &[u8] = b"d/s/0-2_0-2_0-1";
 
 const MIDDLE: &[u8] = b"d/s/2-4_0-2_0-1";
@@ -143,9 +105,10 @@ const RIGHT: &[u8] = b"d/s/4-5_0-2_0-1";
 #[test]
 fn writes_each_cell(rt: HostRuntime) -> Result<(), Fail> {
     let alloc = rt.alloc();
-    let scale = small_scale(name(&rt, b"s"));
+    let key = short_name(b"s").expect(&rt, "a key");
+    let scale = raw_scale(key, 1, 1, SIZE, [0; 3], CHUNK).expect(&rt, "a scale");
     let all = (
-        part([0; 3], [5, 2, 1]),
+        part([0; 3], SIZE),
         [1, 2, 3, 4, 5, 6, 7, 8, 9, 10].as_slice(),
     );
     let one = (part([4, 1, 0], [1; 3]), [13].as_slice());
@@ -171,9 +134,10 @@ fn writes_each_cell(rt: HostRuntime) -> Result<(), Fail> {
 #[test]
 fn leaves_a_front_at_each_failing_call(rt: HostRuntime) -> Result<(), Fail> {
     let alloc = rt.alloc();
-    let scale = small_scale(name(&rt, b"s"));
+    let key = short_name(b"s").expect(&rt, "a key");
+    let scale = raw_scale(key, 1, 1, SIZE, [0; 3], CHUNK).expect(&rt, "a scale");
     let all = (
-        part([0; 3], [5, 2, 1]),
+        part([0; 3], SIZE),
         [1, 2, 3, 4, 5, 6, 7, 8, 9, 10].as_slice(),
     );
     let each = [
@@ -191,7 +155,9 @@ fn leaves_a_front_at_each_failing_call(rt: HostRuntime) -> Result<(), Fail> {
 #[test]
 fn writes_a_second_window(rt: HostRuntime) -> Result<(), Fail> {
     let alloc = rt.alloc();
-    let scale = long_scale(name(&rt, b"s"));
+    // One voxel a cell, and more cells than are prepared at once.
+    let key = short_name(b"s").expect(&rt, "a key");
+    let scale = raw_scale(key, 1, 1, [300, 1, 1], [0; 3], [1; 3]).expect(&rt, "a scale");
     let mut values = vec![in alloc; 1; 300]?;
     values[256] = 2;
     values[299] = 3;

@@ -30,6 +30,7 @@ fn is_served_scale(scale: &Scale) -> bool
     matches!(&scale.encoding, Encoding::Raw) && scale.sharding.is_none()
 }
 
+/// A scale of the info document, where its chunks are read.
 pub(crate) fn serve_scale(scale: Scale) -> Result<Scale, ScaleRefusal>
     ensures served { ReadsScale result (served_only scale) }
     ensures form { IfOk result IsServed }

@@ -1,71 +1,22 @@
 //! Streams and their answers, worked out by hand from the format.
 
-ghost use Rattle.std.specs.Prelude.{◌≡◌, ◌≤◌, ◌<◌, None, length};
+ghost use Rattle.std.specs.Prelude.{◌≡◌, ◌<◌, None, length};
 ghost use Rattle.write_plan.specs.Plans.{planned_cells};
 
 use crate::{Chunks, Plan, PlanFault, PlanRefusal, Writes, read_writes, window};
 use chunk_grid::{byte_len, cell_box};
+use small_scales::{raw_scale, short_name};
 use std::alloc::{AllocError, Global};
 use std::process::Abort;
 use std::test::Fail;
-use vol_base::{Box3, MemoryFeed, MemoryStore, Name};
-use vol_spec::{Encoding, Scale};
+use vol_base::{Box3, MemoryFeed, MemoryStore};
+use vol_spec::Scale;
 
 // One write of the bytes 1 to 4 to the box [0:2,0:2,0:1].
 const STREAM: [u8; 60] = [
     0x50, 0x56, 0x57, 0x31, 1, 0, 0, 0, 0, 0, 0, 0, 0, 0, 0, 0, 0, 0, 0, 0, 0, 0, 0, 0, 0, 0, 0, 0,
     0, 0, 0, 0, 2, 0, 0, 0, 0, 0, 0, 0, 2, 0, 0, 0, 0, 0, 0, 0, 1, 0, 0, 0, 0, 0, 0, 0, 1, 2, 3, 4,
 ];
-
-fn key(rt: &impl Abort) -> Name
-    ensures { length result ≤ 200 }
-{
-    let name = Name::new(b"s").expect(rt, "a key");
-    assert!(rt; name.as_bytes().len() <= 200);
-    name
-}
-
-// A raw scale of bytes; sizes of 0 count as 1.
-fn sample(key: Name, size: [u16; 3], offset: [i8; 3], chunk: [u8; 3]) -> Scale
-    requires { length key ≤ 200 }
-    ensures { result.sharding ≡ None }
-{
-    Scale {
-        key,
-        width: 1,
-        channels: 1,
-        size: [
-            size[0].max(1) as u64,
-            size[1].max(1) as u64,
-            size[2].max(1) as u64,
-        ],
-        offset: [offset[0] as i64, offset[1] as i64, offset[2] as i64],
-        chunk: [
-            chunk[0].max(1) as u64,
-            chunk[1].max(1) as u64,
-            chunk[2].max(1) as u64,
-        ],
-        encoding: Encoding::Raw,
-        sharding: None,
-    }
-}
-
-// One voxel a cell, more cells than half of the most pairs.
-fn long_scale(key: Name) -> Scale
-    requires { length key ≤ 200 }
-    ensures { result.sharding ≡ None }
-{
-    Scale {
-        key,
-        width: 1,
-        channels: 1,
-        size: [2_097_153, 1, 1],
-        offset: [0; 3],
-        chunk: [1; 3],
-        encoding: Encoding::Raw,
-        sharding: None,
-    }
-}
 
 fn zeros(alloc: Global, len: usize) -> Result<Vec<u8>, AllocError> {
     Ok(vec![in alloc; 0; len]?)
@@ -96,7 +47,8 @@ fn find_fault(
 #[test]
 fn reads_a_stream_in_pieces(rt: HostRuntime) -> Result<(), Fail> {
     let alloc = rt.alloc();
-    let scale = sample(key(&rt), [2, 2, 1], [0, 0, 0], [2, 2, 1]);
+    let key = short_name(b"s").expect(&rt, "a key");
+    let scale = raw_scale(key, 1, 1, [2, 2, 1], [0; 3], [2, 2, 1]).expect(&rt, "a scale");
     for piece in [1, 7, 64] {
         let bytes = Vec::from_slice(alloc, &STREAM)?;
         assert!(rt; piece > 0);
@@ -120,8 +72,10 @@ fn reads_a_stream_in_pieces(rt: HostRuntime) -> Result<(), Fail> {
 #[test]
 fn finds_each_fault(rt: HostRuntime) -> Result<(), Fail> {
     let alloc = rt.alloc();
-    let small = sample(key(&rt), [2, 2, 1], [0, 0, 0], [2, 2, 1]);
-    let large = sample(key(&rt), [2048, 2048, 512], [0, 0, 0], [2, 2, 1]);
+    let key = short_name(b"s").expect(&rt, "a key");
+    let small = raw_scale(key, 1, 1, [2, 2, 1], [0; 3], [2, 2, 1]).expect(&rt, "a scale");
+    let key = short_name(b"s").expect(&rt, "a key");
+    let large = raw_scale(key, 1, 1, [2048, 2048, 512], [0; 3], [2, 2, 1]).expect(&rt, "a scale");
     for piece in [1, 7] {
         assert!(rt; piece > 0);
         for (change, len, wanted) in [
@@ -155,7 +109,8 @@ fn finds_each_fault(rt: HostRuntime) -> Result<(), Fail> {
 #[test]
 fn tells_each_failing_call(rt: HostRuntime) -> Result<(), Fail> {
     let alloc = rt.alloc();
-    let scale = sample(key(&rt), [2, 2, 1], [0, 0, 0], [2, 2, 1]);
+    let key = short_name(b"s").expect(&rt, "a key");
+    let scale = raw_scale(key, 1, 1, [2, 2, 1], [0; 3], [2, 2, 1]).expect(&rt, "a scale");
     for number in 0..6 {
         let mut failing = Vec::new(alloc);
         failing.push(number)?;
@@ -268,7 +223,8 @@ fn part(begin: [i64; 3], size: [u64; 3]) -> Box3 {
 #[test]
 fn plans_overlapping_writes(rt: HostRuntime) -> Result<(), Fail> {
     let alloc = rt.alloc();
-    let scale = sample(key(&rt), [4, 2, 1], [-1, 0, 0], [2, 2, 1]);
+    let key = short_name(b"s").expect(&rt, "a key");
+    let scale = raw_scale(key, 1, 1, [4, 2, 1], [-1, 0, 0], [2, 2, 1]).expect(&rt, "a scale");
     assert_eq!(rt; window(&scale), 256);
     let all = (
         part([-1, 0, 0], [4, 2, 1]),
@@ -322,9 +278,12 @@ fn plans_overlapping_writes(rt: HostRuntime) -> Result<(), Fail> {
 #[test]
 fn refuses_too_many_pairs(rt: HostRuntime) -> Result<(), Fail> {
     let alloc = rt.alloc();
-    let scale = long_scale(key(&rt));
+    // One voxel a cell, more cells than half of the most pairs.
+    let size = [2_097_153, 1, 1];
+    let key = short_name(b"s").expect(&rt, "a key");
+    let scale = raw_scale(key, 1, 1, size, [0; 3], [1; 3]).expect(&rt, "a scale");
     let values = zeros(alloc, 2_097_153)?;
-    let whole = (part([0, 0, 0], [2_097_153, 1, 1]), values.as_slice());
+    let whole = (part([0; 3], size), values.as_slice());
     let stream = print_stream(alloc, &[whole, whole])?;
     let mut feed = MemoryFeed::new(stream, 1 << 20, Vec::new(alloc));
     let Ok(writes) = read_writes(alloc, &mut feed, &scale) else {

@@ -1,0 +1,2 @@
+pub mod RawScales
+pub mod ShortNames

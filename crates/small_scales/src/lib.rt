@@ -1,0 +1,11 @@
+//! Names and raw scales for tests, made from their parts.
+#![tactic(auto)]
+
+mod names;
+mod scales;
+mod sizes;
+#[cfg(test)]
+mod tests;
+
+pub use names::short_name;
+pub use scales::raw_scale;
