@@ -1,8 +1,10 @@
 pub mod Bounds
 pub mod CellSteps
 pub mod ObjectSteps
+pub mod PackedSteps
 pub mod PartSteps
 pub mod ShapeSteps
 pub mod SpotSteps
 pub mod SumSteps
 pub mod ValueSteps
+pub mod WrittenSteps

@@ -6,10 +6,11 @@ ghost use Rattle.vol_spec.specs.Grid.{IsCell, cell_box};
 ghost use Rattle.vol_spec.specs.Limits.{rounded};
 ghost use Rattle.vol_spec.specs.SegShapes.{sizes_of};
 ghost use Rattle.vol_spec.specs.SegSizes.{encoded_limit};
-ghost use Rattle.vol_spec.specs.declared.encoding.Encoding.TheVariants.{Raw, Seg};
+ghost use Rattle.vol_spec.specs.declared.encoding.Encoding.TheVariants.{Seg};
 
 use crate::raw::{raw_fault, raw_len, raw_value};
 use crate::segments::{seg_fault, seg_value};
+use crate::written::seg_bytes;
 use chunk_grid::cell_box;
 use std::alloc::{AllocError, Global};
 use vol_base::{Box3, ChunkFault};
@@ -103,15 +104,18 @@ pub(crate) fn find_value(bytes: &[u8], scale: &Scale, cell: [u64; 3], p: [i64; 3
     }
 }
 
-/// The bytes that the values of a cell of raw chunks are stored as: these themselves.
+/// The bytes that the values of a cell are stored as: raw chunks as they are.
 pub(crate) fn encode(
     alloc: Global,
     scale: &Scale,
     cell: [u64; 3],
     raw: &[u8],
 ) -> Result<Vec<u8>, AllocError>
-    requires { scale.now.encoding ≡ Raw }
+    requires { IsCell scale.now cell }
     ensures { IfOk result (λ bytes. bytes.items ≡ encoded scale.now cell raw.now) }
 {
-    Vec::from_slice(alloc, raw)
+    match scale.encoding {
+        Encoding::Raw => Vec::from_slice(alloc, raw),
+        Encoding::Seg { block } => seg_bytes(alloc, raw, &shape_of(scale, cell, block)),
+    }
 }

@@ -7,6 +7,7 @@ mod found;
 mod index_rows;
 mod numbers;
 mod objects;
+mod packing;
 mod placing;
 mod positions;
 mod raw;
@@ -16,6 +17,7 @@ mod sums;
 #[cfg(test)]
 mod tests;
 mod values;
+mod written;
 
 pub use found::plain_found;
 pub use objects::{StoredObject, plain_objects};

@@ -3,7 +3,6 @@ ghost use Rattle.std.specs.Prelude.{◌≡◌, ◌+◌, ◌<◌, ◌≤◌, ◌^
 ghost use Rattle.std.specs.List.{range_with_len};
 ghost use Rattle.vol_spec.specs.ShardNames.{shard_bits_of};
 ghost use Rattle.vol_spec.specs.Grid.{IsCell};
-ghost use Rattle.vol_spec.specs.declared.encoding.Encoding.TheVariants.{Raw};
 ghost use Rattle.vol_spec.specs.StoredCells.{object_list};
 ghost use Rattle.vol_spec.specs.StoredLists.{stored_list};
 ghost use Rattle.vol_spec.specs.StoredShards.{objects_in};
@@ -81,7 +80,6 @@ fn push_own(
     chunk: &CellChunk,
 ) -> Result<(), AllocError>
     requires dataset { length dataset.now ≤ 200 }
-    requires raw { scale.now.encoding ≡ Raw }
     requires cell { IsCell scale.now chunk.now.cell }
     ensures { OnOk result (stored_entries objects.new.items ≡ stored_entries objects.old.items ++ object_list dataset.now scale.now (stored_cells scale.now (chunk.now ∷ []))) }
 {
@@ -98,7 +96,6 @@ fn own_objects(
     chunks: &[CellChunk],
 ) -> Result<Vec<StoredObject>, AllocError>
     requires dataset { length dataset.now ≤ 200 }
-    requires raw { scale.now.encoding ≡ Raw }
     requires cells { All (is_cell scale.now) chunks.now }
     ensures { IfOk result (λ objects. stored_entries objects.items ≡ object_list dataset.now scale.now (stored_cells scale.now chunks.now)) }
 {
@@ -109,7 +106,7 @@ fn own_objects(
     Ok(objects)
 }
 
-/// The objects that raw chunks are stored as (precomputed volume format, chunk storage and sharded
+/// The objects that chunks are stored as (precomputed volume format, chunk storage and sharded
 /// format): an object for each chunk, in the order of the chunks; or one for each
 /// shard that has a chunk, by the shard's number, where of several chunks of one cell the first
 /// counts. Every shard number is tried, so a scale of many shard bits takes long. The one error is
@@ -123,7 +120,6 @@ pub fn plain_objects(
 ) -> Result<Vec<StoredObject>, AllocError>
     requires dataset { length dataset.now ≤ 200 }
     requires few { shard_bits_of scale.now < 64 }
-    requires raw { scale.now.encoding ≡ Raw }
     requires cells { All (is_cell scale.now) chunks.now }
     requires room { room_of (stored_cells scale.now chunks.now) < 2 ^ 62 }
     ensures { IfOk result (λ objects. stored_entries objects.items ≡ stored_list dataset.now scale.now (cell_entries chunks.now)) }

@@ -66,7 +66,7 @@ fn read_bits(bytes: &[u8], a: u64, b: u64, n: u64) -> u64
     index
 }
 
-fn get_size(shape: &SegShape, axis: usize) -> u64
+pub(crate) fn get_size(shape: &SegShape, axis: usize) -> u64
     requires { axis < 3 }
     ensures { result ≡ size (sizes_of shape.now) axis }
 {
@@ -89,7 +89,7 @@ fn count_on(shape: &SegShape, axis: usize) -> u64
     (size + block - 1) / block
 }
 
-fn count_blocks(shape: &SegShape) -> u64
+pub(crate) fn count_blocks(shape: &SegShape) -> u64
     ensures blocks { result ≡ block_count (sizes_of shape.now) }
     ensures small { result ≤ 2 ^ 24 }
 {
@@ -99,7 +99,7 @@ fn count_blocks(shape: &SegShape) -> u64
     x * y * z
 }
 
-fn count_voxels(shape: &SegShape) -> u64
+pub(crate) fn count_voxels(shape: &SegShape) -> u64
     ensures voxels { result ≡ block_voxels (sizes_of shape.now) }
     ensures small { result ≤ 2 ^ 24 }
 {
@@ -109,7 +109,7 @@ fn count_voxels(shape: &SegShape) -> u64
     x * y * z
 }
 
-fn count_entry(shape: &SegShape) -> u64
+pub(crate) fn count_entry(shape: &SegShape) -> u64
     ensures { result ≡ entry_words (sizes_of shape.now) }
 {
     if shape.wide { 2 } else { 1 }
@@ -167,7 +167,7 @@ fn find_index(bytes: &[u8], c: u32, k: u64, n: u64) -> u64
 }
 
 // Where voxel n of block k lies.
-fn find_x(shape: &SegShape, k: u64, n: u64) -> u64
+pub(crate) fn find_x(shape: &SegShape, k: u64, n: u64) -> u64
     requires block { k < block_count (sizes_of shape.now) }
     requires voxel { n < block_voxels (sizes_of shape.now) }
     ensures { result ≡ x_of (sizes_of shape.now) k n }
@@ -176,7 +176,7 @@ fn find_x(shape: &SegShape, k: u64, n: u64) -> u64
     k % count_on(shape, 0) * block + n % block
 }
 
-fn find_y(shape: &SegShape, k: u64, n: u64) -> u64
+pub(crate) fn find_y(shape: &SegShape, k: u64, n: u64) -> u64
     requires block { k < block_count (sizes_of shape.now) }
     requires voxel { n < block_voxels (sizes_of shape.now) }
     ensures { result ≡ y_of (sizes_of shape.now) k n }
@@ -185,7 +185,7 @@ fn find_y(shape: &SegShape, k: u64, n: u64) -> u64
     k / count_on(shape, 0) % count_on(shape, 1) * block + n / get_block(shape, 0) % block
 }
 
-fn find_z(shape: &SegShape, k: u64, n: u64) -> u64
+pub(crate) fn find_z(shape: &SegShape, k: u64, n: u64) -> u64
     requires block { k < block_count (sizes_of shape.now) }
     requires voxel { n < block_voxels (sizes_of shape.now) }
     ensures { result ≡ z_of (sizes_of shape.now) k n }
@@ -197,7 +197,7 @@ fn find_z(shape: &SegShape, k: u64, n: u64) -> u64
 
 // Whether it lies in the chunk, and so isn't padding.
 #[tactic(auto, unfolding(vol_spec::specs::SegBlocks::in_chunk))]
-fn is_inside(shape: &SegShape, k: u64, n: u64) -> bool
+pub(crate) fn is_inside(shape: &SegShape, k: u64, n: u64) -> bool
     requires block { k < block_count (sizes_of shape.now) }
     requires voxel { n < block_voxels (sizes_of shape.now) }
     ensures { result ≡ in_chunk (sizes_of shape.now) k n }
@@ -349,7 +349,7 @@ fn number_voxel(shape: &SegShape, x: u64, y: u64, z: u64) -> u64
 }
 
 // The value of a table's entry.
-fn read_entry(bytes: &[u8], shape: &SegShape, at: u64) -> u64
+pub(crate) fn read_entry(bytes: &[u8], shape: &SegShape, at: u64) -> u64
     requires { at < 2 ^ 36 }
     ensures { result ≡ number (take (width (sizes_of shape.now)) (drop (4 * at) bytes.now)) }
 {

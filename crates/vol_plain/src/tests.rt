@@ -1,17 +1,19 @@
 //! The bytes of known shards, and what is found and read in sound and in damaged ones.
-ghost use Rattle.std.specs.Prelude.{◌≡◌, ◌<◌, ◌≤◌, IfOk, length, [], ◌∷◌};
+ghost use Rattle.std.specs.Prelude.{◌≡◌, ◌<◌, ◌≤◌, ◌^◌, IfOk, length, [], ◌∷◌};
+ghost use Rattle.vol_spec.specs.Encodings.{encoded};
 ghost use Rattle.vol_spec.specs.Grid.{IsCell};
 ghost use Rattle.vol_spec.specs.ShardNames.{shard_bits_of};
 ghost use Rattle.vol_spec.specs.declared.encoding.Encoding.TheVariants.{Raw};
 ghost use Rattle.vol_plain.specs.ShardParts.{chunks_of};
 ghost use Rattle.chunk_laws.specs.Rooms.{room};
 
+use crate::raw::raw_len;
 use crate::{
     CellChunk, ShardChunk, StoredObject, covers, plain_found, plain_objects, plain_shard,
     plain_value,
 };
 use byteorder::{ByteOrder, LittleEndian};
-use chunk_grid::whole;
+use chunk_grid::{cell_box, whole};
 use std::alloc::{AllocError, Global};
 use std::process::Abort;
 use std::test::Fail;
@@ -463,6 +465,9 @@ const SEVEN: [u8; 56] = [
 // Two cells of a voxel of four bytes each, in one shard.
 fn segments(key: Name) -> Scale
     requires { length key ≤ 200 }
+    ensures shards { shard_bits_of result ≡ 0 }
+    ensures first { IsCell result (0 ∷ 0 ∷ 0 ∷ []) }
+    ensures second { IsCell result (1 ∷ 0 ∷ 0 ∷ []) }
 {
     Scale {
         key,
@@ -535,6 +540,151 @@ fn words_to_bytes(alloc: Global, words: &[u32]) -> Result<Vec<u8>, AllocError> {
         bytes.extend_from_slice(&word.to_le_bytes())?;
     }
     Ok(bytes)
+}
+
+// Two voxels in a row in one block, of four bytes each, of eight bytes each, and four in two blocks.
+fn pair(key: Name) -> Scale
+    requires { length key ≤ 200 }
+    ensures cell { IsCell result (0 ∷ 0 ∷ 0 ∷ []) }
+    ensures shards { shard_bits_of result ≡ 0 }
+{
+    Scale {
+        key,
+        width: 4,
+        channels: 1,
+        size: [2, 1, 1],
+        offset: [0, 0, 0],
+        chunk: [2, 1, 1],
+        encoding: Encoding::Seg { block: [2, 1, 1] },
+        sharding: None,
+    }
+}
+
+fn wide_pair(key: Name) -> Scale
+    requires { length key ≤ 200 }
+    ensures cell { IsCell result (0 ∷ 0 ∷ 0 ∷ []) }
+    ensures shards { shard_bits_of result ≡ 0 }
+{
+    Scale {
+        key,
+        width: 8,
+        channels: 1,
+        size: [2, 1, 1],
+        offset: [0, 0, 0],
+        chunk: [2, 1, 1],
+        encoding: Encoding::Seg { block: [2, 1, 1] },
+        sharding: None,
+    }
+}
+
+fn two_pairs(key: Name) -> Scale
+    requires { length key ≤ 200 }
+    ensures cell { IsCell result (0 ∷ 0 ∷ 0 ∷ []) }
+    ensures shards { shard_bits_of result ≡ 0 }
+{
+    Scale {
+        key,
+        width: 4,
+        channels: 1,
+        size: [4, 1, 1],
+        offset: [0, 0, 0],
+        chunk: [4, 1, 1],
+        encoding: Encoding::Seg { block: [2, 1, 1] },
+        sharding: None,
+    }
+}
+
+fn push_value(out: &mut Vec<u8>, value: u64, width: u32) -> Result<(), AllocError> {
+    let len = if width == 8 { 8 } else { 4 };
+    out.extend_from_slice(&value.to_le_bytes()[..len])
+}
+
+// A chunk of these values.
+fn chunk_of(
+    rt: &impl Abort,
+    alloc: Global,
+    scale: &Scale,
+    cell: [u64; 3],
+    values: &[u64],
+) -> Result<CellChunk, AllocError>
+    requires { IsCell scale.now cell }
+    ensures cell { IfOk result (λ chunk. chunk.cell ≡ cell) }
+    ensures short { IfOk result (λ chunk. length (encoded scale.now cell chunk.bytes.items) ≤ 2 ^ 27) }
+{
+    let mut bytes = Vec::new(alloc);
+    for value in values {
+        push_value(&mut bytes, *value, scale.width)?;
+    }
+    let len = raw_len(&cell_box(scale, cell), scale.channels, scale.width);
+    assert!(rt; bytes.len() as u64 == len);
+    assert!(rt; scale.can_encode());
+    Ok(CellChunk { cell, bytes })
+}
+
+fn check_words(
+    rt: &impl Abort,
+    alloc: Global,
+    scale: &Scale,
+    values: &[u64],
+    name: &[u8],
+    words: &[u32],
+) -> Result<(), Fail>
+    requires cell { IsCell scale.now (0 ∷ 0 ∷ 0 ∷ []) }
+    requires shards { shard_bits_of scale.now ≡ 0 }
+{
+    let chunks = [chunk_of(rt, alloc, scale, [0, 0, 0], values)?];
+    let objects = plain_objects(alloc, &short_name(rt, b"d"), scale, &chunks)?;
+    check_object(rt, &objects, name, &words_to_bytes(alloc, words)?);
+    Ok(())
+}
+
+// The words were found by hand or by another program.
+#[test]
+fn stores_segments(rt: HostRuntime) -> Result<(), Fail> {
+    let alloc = rt.alloc();
+    let one = pair(short_name(&rt, b"s"));
+    let name = b"d/s/0-2_0-1_0-1";
+    check_words(
+        &rt,
+        alloc,
+        &one,
+        &[7, 9],
+        name,
+        &[1, 0x01000003, 2, 2, 7, 9],
+    )?;
+    check_words(
+        &rt,
+        alloc,
+        &one,
+        &[9, 7],
+        name,
+        &[1, 0x01000003, 2, 1, 7, 9],
+    )?;
+    check_words(&rt, alloc, &one, &[5, 5], name, &[1, 2, 2, 5])?;
+    let wide = wide_pair(short_name(&rt, b"s"));
+    let words = [1, 0x01000003, 2, 1, 3, 0, 1, 1];
+    check_words(&rt, alloc, &wide, &[4294967297, 3], name, &words)?;
+    let two = two_pairs(short_name(&rt, b"s"));
+    let words = [1, 0x01000005, 4, 0x01000005, 7, 2, 7, 9, 1];
+    check_words(&rt, alloc, &two, &[7, 9, 9, 7], b"d/s/0-4_0-1_0-1", &words)
+}
+
+#[test]
+fn stores_and_reads_segments(rt: HostRuntime) -> Result<(), Fail> {
+    let alloc = rt.alloc();
+    let dataset = short_name(&rt, b"d");
+    let scale = segments(short_name(&rt, b"s"));
+    let seven = [chunk_of(&rt, alloc, &scale, [0, 0, 0], &[7])?];
+    let objects = plain_objects(alloc, &dataset, &scale, &seven)?;
+    check_object(&rt, &objects, b"d/s/0.shard", &SEVEN);
+    let both = [
+        chunk_of(&rt, alloc, &scale, [1, 0, 0], &[9])?,
+        chunk_of(&rt, alloc, &scale, [0, 0, 0], &[7])?,
+    ];
+    let store = store_all(alloc, plain_objects(alloc, &dataset, &scale, &both)?)?;
+    check_value(&rt, &store, &scale, [0, 0, 0], Ok(7));
+    check_value(&rt, &store, &scale, [1, 0, 0], Ok(9));
+    Ok(())
 }
 
 #[test]
