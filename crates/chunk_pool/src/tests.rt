@@ -3,6 +3,9 @@
 use crate::Pool;
 use std::test::Fail;
 
+// What is handed to threads.
+fn share<T: Send + Sync>(_value: &T) {}
+
 #[test]
 fn lends_and_takes_back(rt: HostRuntime) -> Result<(), Fail> {
     let mut pool = Pool::reserve(rt.alloc(), 2, 5)?;
@@ -28,6 +31,7 @@ fn tells_what_is_in_use(rt: HostRuntime) -> Result<(), Fail> {
     room[1] = 8;
     frame.set_used(2);
     assert!(rt; frame.used() == [7, 8].as_slice());
+    share(&frame);
     Ok(())
 }
 

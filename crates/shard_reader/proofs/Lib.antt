@@ -1,0 +1,8 @@
+mod WordSteps
+mod ScanSteps
+mod WindowSteps
+mod OpenSteps
+mod FoundSteps
+mod KeepSteps
+mod ChunkSteps
+mod AgainSteps

@@ -1,0 +1,19 @@
+//! A shard over a source: where the chunk of an id stands, found by byte ranges alone.
+#![tactic(auto)]
+
+mod bytes;
+mod chunk;
+mod entry;
+mod found;
+mod kept;
+mod opened;
+mod reader;
+mod scan;
+mod span;
+#[cfg(test)]
+mod tests;
+mod window;
+
+pub use bytes::LookupFault;
+pub use reader::ShardReader;
+pub use window::WINDOW_LEN;
