@@ -18,6 +18,11 @@ const BYTES: Layout = Layout { size: 512, chunk: 64, channels: 1, width: 1 };
 /// Four channels of 64-bit numbers: 64 MiB in 64 chunks of 1 MiB.
 const WIDE: Layout = Layout { size: 128, chunk: 32, channels: 4, width: 8 };
 
+/// One channel of bytes in small chunks, many and few of them: 128 MiB in 4,096 chunks of 32 KiB, and 864 KiB in 27.
+const MANY: Layout = Layout { size: 512, chunk: 32, channels: 1, width: 1 };
+
+const FEW: Layout = Layout { size: 96, chunk: 32, channels: 1, width: 1 };
+
 /// The begin and the end of a box on each axis, x first.
 pub type Spans = [(usize, usize); 3];
 
@@ -30,6 +35,8 @@ impl Layout {
         match name {
             "bytes" => Some(BYTES),
             "wide" => Some(WIDE),
+            "many" => Some(MANY),
+            "few" => Some(FEW),
             _ => None,
         }
     }
@@ -82,13 +89,13 @@ impl Layout {
         }
     }
 
-    /// Writes the info of a dataset with the scale s.
-    pub fn make_info(&self, dataset: &Path) -> io::Result<()> {
+    /// Writes the info of a dataset with the scale s, which has these members too, each with a comma behind it.
+    pub fn make_info(&self, dataset: &Path, members: &str) -> io::Result<()> {
         let (bits, channels, size, chunk) = (8 * self.width, self.channels, self.size, self.chunk);
         std::fs::create_dir_all(dataset)?;
         let info = format!(
             "{{\"@type\":\"neuroglancer_multiscale_volume\",\"type\":\"image\",\"data_type\":\"uint{bits}\",\
-             \"num_channels\":{channels},\"scales\":[{{\"key\":\"s\",\
+             \"num_channels\":{channels},\"scales\":[{{\"key\":\"s\",{members}\
              \"size\":[{size},{size},{size}],\"chunk_sizes\":[[{chunk},{chunk},{chunk}]],\
              \"resolution\":[8,8,40],\"encoding\":\"raw\"}}]}}\n"
         );

@@ -53,7 +53,7 @@ fn cut(layout: &Layout, folder: &Path, part: &Spans) -> io::Result<Vec<u8>> {
 }
 
 fn make(layout: &Layout, dataset: &Path) -> io::Result<()> {
-    layout.make_info(dataset)?;
+    layout.make_info(dataset, "")?;
     let folder = dataset.join("s");
     fs::create_dir_all(&folder)?;
     let mut noise = Noise::new();

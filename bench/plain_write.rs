@@ -141,7 +141,7 @@ fn write_stream(layout: &Layout, form: &str) -> io::Result<()> {
 
 fn main() -> ExitCode {
     layout::run_with(|layout, words| match *words {
-        ["make", dataset] => Some(layout.make_info(Path::new(dataset))),
+        ["make", dataset] => Some(layout.make_info(Path::new(dataset), "")),
         ["stream", form] => Some(write_stream(layout, form)),
         ["write", dataset, key] => Some(write(layout, &Path::new(dataset).join(key))),
         _ => None,

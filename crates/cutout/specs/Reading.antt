@@ -1,56 +1,101 @@
 -- What reading the cells of a part leaves.
-use Rattle.std.specs.Prelude.{◌≡◌, ℕ, ◌<◌, ℤ, Bool, true, false, List, None, Option, Some, Result, Ok, Err, ⊤, map, Contains}
+use Rattle.std.specs.Prelude.{◌≡◌, ℕ, ◌<◌, Bool, true, false, None, Option, Some, Result, Ok, Err, ⊤, map, Contains, length, ◌==◌, if◌then◌else◌, List}
+use Rattle.std.specs.FinMap as fin
 use Rattle.vol_base.specs.declared.boxes.Box3.{Box3}
 use Rattle.vol_base.specs.declared.faults.Fault.{Fault}
+use Rattle.vol_base.specs.declared.faults.ChunkFault.TheVariants.{ChunkLength}
+use Rattle.vol_base.specs.declared.faults.Fault.TheVariants.{Chunk}
 use Rattle.vol_base.specs.Boxes.{Covers, num, value}
-use Rattle.vol_spec.specs.Chunks.{fault_of, value_in}
-use Rattle.vol_spec.specs.RawChunks.{value_of}
 use Rattle.vol_base.specs.Outside.{Objects}
-use Rattle.vol_spec.specs.Cut.{faulty, first_fault}
 use Rattle.vol_spec.specs.BoxValues.{first_some}
-use Rattle.vol_spec.specs.Grid.{cell_at}
+use Rattle.vol_spec.specs.Chunks.{fault_of, value_in, value_of}
+use Rattle.vol_spec.specs.Cut.{cut, faulty, first_fault}
+use Rattle.vol_spec.specs.Encodings.{cell_limit}
+use Rattle.vol_spec.specs.FoundChunks.{found}
+use Rattle.vol_spec.specs.Grid.{cell_at, cell_box}
+use Rattle.vol_spec.specs.Places.{id_of}
 use Rattle.vol_spec.specs.Raw.{digit}
+use Rattle.vol_spec.specs.StoredBytes.{object_of}
+use Rattle.vol_spec.specs.Types.{Bytes, Cell, Name, Position}
 use Rattle.vol_spec.specs.declared.scale.Scale.{Scale}
-use Rattle.cutout.specs.declared.reading.CellFault.{CellFault}
-use Rattle.cutout.specs.declared.reading.CellFault.TheVariants.{NotRead, Faulty}
-use Rattle.cutout.specs.declared.reading.ReadFault.{ReadFault}
-use Rattle.cutout.specs.declared.reading.ReadFault.TheVariants.{StoreFault, Damaged}
+use Rattle.vol_spec.specs.declared.sharding.Sharding.{Sharding}
+use Rattle.vol_spec.specs.declared.span.ChunkSpan.{ChunkSpan}
+use Rattle.shard_reader.specs.declared.bytes.LookupFault.{LookupFault}
+use Rattle.shard_reader.specs.declared.bytes.LookupFault.TheVariants.{NotRead, Faulty}
+use Rattle.cutout.specs.declared.fault.CutFault.{CutFault}
+use Rattle.cutout.specs.declared.fault.CutFault.TheVariants.{OutsideScale, StoreFault, Damaged}
+use Rattle.cutout.specs.declared.found.Found.{Found}
+use Rattle.cutout.specs.declared.found.Found.TheVariants.{Absent, At}
 
 -- an answer on a cell's chunk shows what the objects say of it: that it is absent, its bytes, or its fault
-abbrev pub Shows : Result Bool CellFault → List ℕ → Result (Option (List ℕ)) Fault → Type 0
+abbrev pub Shows : Result Bool LookupFault → Bytes → Result (Option Bytes) Fault → Type 0
 Shows (Ok false) bytes seen = seen ≡ Ok None
 Shows (Ok true) bytes seen = seen ≡ Ok (Some bytes)
 Shows (Err (Faulty fault)) bytes seen = seen ≡ Err fault
 Shows (Err NotRead) bytes seen = Unit {0}
 
--- what putting the values of a box into those of a part leaves: the box's values where both have the position, the part's elsewhere
-pub record Took (b part : Box3) (channels w : ℕ) (seen : Result (Option (List ℕ)) Fault) (old new : List ℕ) : Type 0 where
-  pub taken : (p : List ℤ) (c : ℕ) → Covers b p → Covers part p → c < channels → value_of b w seen p c ≡ Ok (digit new w (num part p c))
-  pub kept : (p : List ℤ) (c : ℕ) → Covers part p → (Covers b p → ⊥) → c < channels → value w new (num part p c) ≡ value w old (num part p c)
+-- a chunk of raw values by the number of its bytes, and by that of its values
+abbrev pub judged_found : Option ℕ → ℕ → Result Bool LookupFault
+judged_found None wanted = Ok false
+judged_found (Some n) wanted = if n == wanted then Ok true else Err (Faulty (Chunk (ChunkLength n wanted)))
+
+-- what putting the values of a cell into those of a part leaves: the cell's values where both have the position, the part's elsewhere
+pub record Took (s : Scale) (cell : Cell) (part : Box3) (seen : Result (Option Bytes) Fault) (old new : Bytes) : Type 0 where
+  pub taken : (p : Position) (c : ℕ) → Covers (cell_box s cell) p → Covers part p → c < s.channels → value_of s cell seen p c ≡ Ok (digit new s.width (num part p c))
+  pub kept : (p : Position) (c : ℕ) → Covers part p → (Covers (cell_box s cell) p → ⊥) → c < s.channels → value s.width new (num part p c) ≡ value s.width old (num part p c)
 
 -- what reading a cell answers: its fault, or else its values were taken
-abbrev pub Reads : Result ⊤ CellFault → Result (Option (List ℕ)) Fault → Type 0 → Type 0
+abbrev pub Reads : Result ⊤ LookupFault → Result (Option Bytes) Fault → Type 0 → Type 0
 Reads (Ok done) seen taken = (fault_of seen ≡ None) × taken
 Reads (Err (Faulty fault)) seen taken = seen ≡ Err fault
 Reads (Err NotRead) seen taken = Unit {0}
 
 -- what reading some cells of a part leaves: none of them has a fault, and each voxel of the part in one of them has its value
-pub record ReadSoFar (m : Objects) (dataset : List ℕ) (s : Scale) (part : Box3) (cells : List (List ℕ)) (out : List ℕ) : Type 0 where
+pub record ReadSoFar (m : Objects) (dataset : Name) (s : Scale) (part : Box3) (cells : List Cell) (out : Bytes) : Type 0 where
   pub sound : first_some (map (faulty m dataset s) cells) ≡ None
-  pub values : (p : List ℤ) (c : ℕ) → Covers part p → Contains cells (cell_at s p) → c < s.channels → value_in m dataset s p c ≡ Ok (digit out s.width (num part p c))
+  pub values : (p : Position) (c : ℕ) → Covers part p → Contains cells (cell_at s p) → c < s.channels → value_in m dataset s p c ≡ Ok (digit out s.width (num part p c))
 
 -- the fault of a cell, with the cell
-abbrev pub placed : List ℕ → CellFault → ReadFault
+abbrev pub placed : Cell → LookupFault → CutFault
 placed cell NotRead = StoreFault
 placed cell (Faulty fault) = Damaged cell fault
 
 -- what reading all cells of a part leaves: none has a fault, and each voxel of the part has its value
-pub record ReadWhole (m : Objects) (dataset : List ℕ) (s : Scale) (part : Box3) (out : List ℕ) : Type 0 where
+pub record ReadWhole (m : Objects) (dataset : Name) (s : Scale) (part : Box3) (out : Bytes) : Type 0 where
   pub sound : first_fault m dataset s part ≡ None
-  pub values : (p : List ℤ) (c : ℕ) → Covers part p → c < s.channels → value_in m dataset s p c ≡ Ok (digit out s.width (num part p c))
+  pub values : (p : Position) (c : ℕ) → Covers part p → c < s.channels → value_in m dataset s p c ≡ Ok (digit out s.width (num part p c))
 
 -- what reading the cells of a part answers: the first that has a fault, or else each voxel has its value
-abbrev pub ReadsAll : Result ⊤ ReadFault → Objects → List ℕ → Scale → Box3 → List ℕ → Type 0
+abbrev pub ReadsAll : Result ⊤ CutFault → Objects → Name → Scale → Box3 → Bytes → Type 0
 ReadsAll (Ok done) m dataset s part out = ReadWhole m dataset s part out
 ReadsAll (Err (Damaged cell fault)) m dataset s part out = first_fault m dataset s part ≡ Some (cell, fault)
 ReadsAll (Err StoreFault) m dataset s part out = Unit {0}
+ReadsAll (Err OutsideScale) m dataset s part out = ⊥
+
+-- what a cutout answers: its bytes, or the first cell that has a fault
+abbrev pub HasCut : Result ⊤ CutFault → Objects → Name → Scale → Box3 → Bytes → Type 0
+HasCut (Ok done) m dataset s part out = (first_fault m dataset s part ≡ None) × (out ≡ cut m dataset s part)
+HasCut (Err (Damaged cell fault)) m dataset s part out = first_fault m dataset s part ≡ Some (cell, fault)
+HasCut (Err StoreFault) m dataset s part out = Unit {0}
+HasCut (Err OutsideScale) m dataset s part out = Unit {0}
+
+-- where an object has a cell's chunk: its own object is the chunk, a shard has it where it is found
+abbrev pub span_by : Option Sharding → Scale → Cell → Bytes → Result (Option ChunkSpan) Fault
+span_by None s cell object = Ok (Some (record { start = 0; len = length object }))
+span_by (Some sharding) s cell object = found object sharding (cell_limit s cell) (id_of s cell)
+
+abbrev pub span_of : Scale → Cell → Option Bytes → Result (Option ChunkSpan) Fault
+span_of s cell None = Ok None
+span_of s cell (Some object) = span_by s.sharding s cell object
+
+-- where the objects have it, none where it is absent, or a fault on the way to it
+abbrev pub span_in : Objects → Name → Scale → Cell → Result (Option ChunkSpan) Fault
+span_in m dataset s cell = span_of s cell (fin.get m (object_of dataset s cell))
+
+-- what a search for a cell's chunk answers: the object's name and the span in it
+abbrev pub Locates : Result Found CutFault → Objects → Name → Scale → Cell → Type 0
+Locates (Ok Absent) m dataset s cell = span_in m dataset s cell ≡ Ok None
+Locates (Ok (At name start len)) m dataset s cell = (name ≡ object_of dataset s cell) × (span_in m dataset s cell ≡ Ok (Some (record { start = start; len = len })))
+Locates (Err (Damaged at fault)) m dataset s cell = (at ≡ cell) × (span_in m dataset s cell ≡ Err fault)
+Locates (Err StoreFault) m dataset s cell = Unit {0}
+Locates (Err OutsideScale) m dataset s cell = ⊥

@@ -1,8 +1,14 @@
-//! The cells of a scale, read for a box of its voxels. So far a scale that is unsharded and raw.
+//! Boxes of voxels and places of chunks, read from the objects of a scale. So far its chunks are raw.
 #![tactic(auto)]
 
-mod reading;
+mod cells;
+mod chunk;
+mod fault;
+mod found;
+mod reader;
 #[cfg(test)]
 mod tests;
 
-pub use reading::{ReadFault, read_cells};
+pub use fault::CutFault;
+pub use found::Found;
+pub use reader::Reader;

@@ -1,94 +1,291 @@
-//! Boxes read from small stores, worked out by hand.
+//! Boxes and places read from small stores, worked out by hand.
+ghost use Rattle.std.specs.Prelude.{◌≡◌, ◌≤◌, length};
+ghost use Rattle.vol_spec.specs.declared.encoding.Encoding.TheVariants.{Raw};
 
-use crate::{ReadFault, read_cells};
-use chunk_grid::{byte_len, inside};
+use crate::{CutFault, Found, Reader};
+use chunk_grid::{byte_len, grid, inside};
 use small_scales::{raw_scale, short_name};
 use std::alloc::Global;
 use std::process::Abort;
 use std::test::Fail;
-use vol_base::{Box3, ChunkFault, Fault, MemoryStore};
+use vol_base::{Box3, ChunkFault, Fault, MemoryStore, Name, ShardFault};
+use vol_spec::{Encoding, HashKind, Scale, Sharding};
 
-// Reads voxels of three cells in a row, the last one narrower, one of the store's calls failing: the answer, and where
-// it is Ok these values.
-fn check_row(
+fn store_of(
     rt: &impl Abort,
     alloc: Global,
     objects: &[(&[u8], &[u8])],
     failing: u64,
-    part: &Box3,
-    wanted: Result<(), ReadFault>,
-    values: &[u8],
-) -> Result<(), Fail> {
+) -> Result<MemoryStore, Fail> {
     let mut store = MemoryStore::new(alloc, Vec::from_slice(alloc, &[failing])?);
     for (text, bytes) in objects {
         let name = short_name(text).expect(rt, "a name");
         store.put(&name, bytes.to_vec(alloc)?)?;
     }
+    Ok(store)
+}
+
+// Five voxels in three cells of a row, the last one narrower.
+fn row_scale(rt: &impl Abort) -> Scale
+    ensures { result.encoding ≡ Raw }
+{
     let key = short_name(b"s").expect(rt, "a key");
-    let scale = raw_scale(key, 1, 1, [5, 1, 1], [0; 3], [2, 1, 1]).expect(rt, "a scale");
-    assert!(rt; inside(&scale, part));
-    let mut chunk = vec![in alloc; 0; scale.raw_limit() as usize + 1]?;
+    raw_scale(key, 1, 1, [5, 1, 1], [0; 3], [2, 1, 1]).expect(rt, "a scale")
+}
+
+// One shard of one minishard.
+fn one_minishard() -> Sharding {
+    Sharding {
+        preshift: 0,
+        hash: HashKind::Identity,
+        minishard_bits: 0,
+        shard_bits: 0,
+    }
+}
+
+// The same cells in shards.
+fn sharded_scale(key: Name, sharding: Sharding) -> Scale
+    requires { length key ≤ 200 }
+    ensures { result.encoding ≡ Raw }
+{
+    Scale {
+        key,
+        width: 1,
+        channels: 1,
+        size: [5, 1, 1],
+        offset: [0; 3],
+        chunk: [2, 1, 1],
+        encoding: Encoding::Raw,
+        sharding: Some(sharding),
+    }
+}
+
+// Cuts a box out, one of the store's calls failing: the answer, and where it is Ok these values; and how many bytes
+// were asked for.
+fn check_cut(
+    rt: &impl Abort,
+    alloc: Global,
+    scale: &Scale,
+    store: &mut MemoryStore,
+    part: &Box3,
+    wanted: Result<(), CutFault>,
+    values: &[u8],
+    asked: u64,
+) -> Result<(), Fail>
+    requires { scale.now.encoding ≡ Raw }
+{
+    let dataset = short_name(b"d").expect(rt, "a data set");
+    let mut reader = Reader::open(alloc, &dataset, scale)?;
     let len = byte_len(part, scale.channels, scale.width);
     assert!(rt; len <= 64);
     let mut out = vec![in alloc; 9; len as usize]?;
-    let dataset = short_name(b"d").expect(rt, "a data set");
-    let answer = read_cells(&mut store, &dataset, &scale, &mut chunk, part, &mut out);
+    let answer = reader.cutout(store, part, &mut out);
     assert_eq!(rt; answer, wanted);
+    assert_eq!(rt;
+        answer.is_err_and(|fault| fault == CutFault::OutsideScale),
+        !inside(scale, part)
+    );
     if answer.is_ok() {
         assert!(rt; out.as_slice() == values);
     }
+    assert_eq!(rt; store.asked(), asked);
     Ok(())
 }
 
-const LEFT: (&[u8], &[u8]) = (b"d/s/0-2_0-1_0-1", &[1, 2]);
+const LEFT_NAME: &[u8] = b"d/s/0-2_0-1_0-1";
 
-const MIDDLE: (&[u8], &[u8]) = (b"d/s/2-4_0-1_0-1", &[3, 4]);
+const LEFT: (&[u8], &[u8]) = (LEFT_NAME, &[1, 2]);
 
-const LONG_MIDDLE: (&[u8], &[u8]) = (b"d/s/2-4_0-1_0-1", &[3, 4, 5]);
+const MIDDLE_NAME: &[u8] = b"d/s/2-4_0-1_0-1";
+
+const MIDDLE: (&[u8], &[u8]) = (MIDDLE_NAME, &[3, 4]);
+
+const LONG_MIDDLE: (&[u8], &[u8]) = (MIDDLE_NAME, &[3, 4, 5]);
 
 const LAST: (&[u8], &[u8]) = (b"d/s/4-5_0-1_0-1", &[5]);
+
+const SHARD: &[u8] = b"d/s/0.shard";
+
+// The chunks of the cells 0 and 2: an entry, the chunks, and two rows.
+const BYTES: [u8; 67] = [
+    3, 0, 0, 0, 0, 0, 0, 0, 51, 0, 0, 0, 0, 0, 0, 0, 1, 2, 5, 0, 0, 0, 0, 0, 0, 0, 0, 2, 0, 0, 0,
+    0, 0, 0, 0, 0, 0, 0, 0, 0, 0, 0, 0, 0, 0, 0, 0, 0, 0, 0, 0, 2, 0, 0, 0, 0, 0, 0, 0, 1, 0, 0, 0,
+    0, 0, 0, 0,
+];
 
 // A call that isn't made.
 const NONE_FAILS: u64 = 99;
 
+const ALL: Box3 = Box3 {
+    begin: [0; 3],
+    size: [5, 1, 1],
+};
+
+const THREE: Box3 = Box3 {
+    begin: [1, 0, 0],
+    size: [3, 1, 1],
+};
+
+const OUTSIDE: Box3 = Box3 {
+    begin: [3, 0, 0],
+    size: [3, 1, 1],
+};
+
 #[test]
-fn reads_the_cells_of_a_box(rt: HostRuntime) -> Result<(), Fail> {
+fn cuts_boxes_out(rt: HostRuntime) -> Result<(), Fail> {
     let alloc = rt.alloc();
-    let all = Box3 {
-        begin: [0; 3],
-        size: [5, 1, 1],
-    };
-    let three = Box3 {
-        begin: [1, 0, 0],
-        size: [3, 1, 1],
-    };
-    let row = [LEFT, MIDDLE, LAST];
-    check_row(&rt, alloc, &row, NONE_FAILS, &all, Ok(()), &[1, 2, 3, 4, 5])?;
-    check_row(&rt, alloc, &row, NONE_FAILS, &three, Ok(()), &[2, 3, 4])?;
-    check_row(
-        &rt,
-        alloc,
-        &[LEFT, LAST],
-        NONE_FAILS,
-        &three,
-        Ok(()),
-        &[2, 0, 0],
-    )?;
-    check_row(&rt, alloc, &row, 1, &all, Err(ReadFault::StoreFault), &[])?;
-    let damaged = ReadFault::Damaged {
+    let scale = row_scale(&rt);
+    let damaged = CutFault::Damaged {
         cell: [1, 0, 0],
         fault: Fault::Chunk(ChunkFault::ChunkLength {
             found: 3,
             wanted: 2,
         }),
     };
-    check_row(
+    let mut store = store_of(&rt, alloc, &[LEFT, MIDDLE, LAST], NONE_FAILS)?;
+    check_cut(
         &rt,
         alloc,
-        &[LEFT, LONG_MIDDLE],
-        NONE_FAILS,
-        &three,
-        Err(damaged),
+        &scale,
+        &mut store,
+        &ALL,
+        Ok(()),
+        &[1, 2, 3, 4, 5],
+        8,
+    )?;
+    check_cut(
+        &rt,
+        alloc,
+        &scale,
+        &mut store,
+        &THREE,
+        Ok(()),
+        &[2, 3, 4],
+        14,
+    )?;
+    let outside = Err(CutFault::OutsideScale);
+    check_cut(&rt, alloc, &scale, &mut store, &OUTSIDE, outside, &[], 14)?;
+    let mut store = store_of(&rt, alloc, &[LEFT, LAST], NONE_FAILS)?;
+    check_cut(
+        &rt,
+        alloc,
+        &scale,
+        &mut store,
+        &THREE,
+        Ok(()),
+        &[2, 0, 0],
+        6,
+    )?;
+    let mut store = store_of(&rt, alloc, &[LEFT, LONG_MIDDLE], NONE_FAILS)?;
+    check_cut(&rt, alloc, &scale, &mut store, &THREE, Err(damaged), &[], 6)?;
+    let mut store = store_of(&rt, alloc, &[LEFT, MIDDLE, LAST], 1)?;
+    check_cut(
+        &rt,
+        alloc,
+        &scale,
+        &mut store,
+        &ALL,
+        Err(CutFault::StoreFault),
         &[],
+        3,
     )
+}
+
+// Where the chunk of a cell of the reader's scale stands.
+fn locate(
+    rt: &impl Abort,
+    reader: &mut Reader,
+    scale: &Scale,
+    store: &mut MemoryStore,
+    cell: [u64; 3],
+) -> Result<Found, CutFault>
+    requires { reader.old.scale ≡ scale.now }
+{
+    let [x, y, z] = grid(scale).size;
+    assert!(rt; cell[0] < x && cell[1] < y && cell[2] < z);
+    reader.locate(store, cell)
+}
+
+// Where the chunk of a cell stands: the place and the length of it in its object, and the object's name.
+fn check_place(
+    rt: &impl Abort,
+    alloc: Global,
+    scale: &Scale,
+    store: &mut MemoryStore,
+    cell: [u64; 3],
+    wanted: Option<(&[u8], u64, u64)>,
+) -> Result<(), Fail>
+    requires { scale.now.encoding ≡ Raw }
+{
+    let dataset = short_name(b"d").expect(rt, "a data set");
+    let mut reader = Reader::open(alloc, &dataset, scale)?;
+    match (locate(rt, &mut reader, scale, store, cell), wanted) {
+        (Ok(Found::Absent), None) => {}
+        (Ok(Found::At { name, start, len }), Some((object, place, count))) => {
+            assert!(rt; name.as_bytes() == object);
+            assert_eq!(rt; (start, len), (place, count));
+        }
+        _ => return Err("another place")?,
+    }
+    Ok(())
+}
+
+#[test]
+fn reads_shards(rt: HostRuntime) -> Result<(), Fail> {
+    let alloc = rt.alloc();
+    let key = short_name(b"s").expect(&rt, "a key");
+    let scale = sharded_scale(key, one_minishard());
+    let mut store = store_of(&rt, alloc, &[(SHARD, &BYTES)], NONE_FAILS)?;
+    // The entry, two rows, and three bytes of chunks; nothing is asked twice.
+    check_cut(
+        &rt,
+        alloc,
+        &scale,
+        &mut store,
+        &ALL,
+        Ok(()),
+        &[1, 2, 0, 0, 5],
+        67,
+    )?;
+    check_place(&rt, alloc, &scale, &mut store, [0; 3], Some((SHARD, 16, 2)))?;
+    check_place(&rt, alloc, &scale, &mut store, [1, 0, 0], None)?;
+    check_place(
+        &rt,
+        alloc,
+        &scale,
+        &mut store,
+        [2, 0, 0],
+        Some((SHARD, 18, 1)),
+    )?;
+    let mut store = store_of(&rt, alloc, &[(SHARD, &BYTES[..66])], NONE_FAILS)?;
+    let fault = Fault::Shard(ShardFault::ShortMinishard);
+    let damaged = CutFault::Damaged {
+        cell: [0; 3],
+        fault,
+    };
+    check_cut(&rt, alloc, &scale, &mut store, &ALL, Err(damaged), &[], 16)
+}
+
+#[test]
+fn finds_objects(rt: HostRuntime) -> Result<(), Fail> {
+    let alloc = rt.alloc();
+    let scale = row_scale(&rt);
+    let mut store = store_of(&rt, alloc, &[LEFT, LONG_MIDDLE], NONE_FAILS)?;
+    check_place(
+        &rt,
+        alloc,
+        &scale,
+        &mut store,
+        [0; 3],
+        Some((LEFT_NAME, 0, 2)),
+    )?;
+    check_place(
+        &rt,
+        alloc,
+        &scale,
+        &mut store,
+        [1, 0, 0],
+        Some((MIDDLE_NAME, 0, 3)),
+    )?;
+    check_place(&rt, alloc, &scale, &mut store, [2, 0, 0], None)
 }

@@ -14,7 +14,6 @@ pub mod LastWrite
 pub mod Limits
 pub mod Places
 pub mod Raw
-pub mod RawChunks
 pub mod Rows
 pub mod SegBlocks
 pub mod SegChunks

@@ -1,5 +1,5 @@
 -- What is told of a refusal whose status always has the same line.
-use Rattle.std.proofs.Common.{◌≡◌, ◌∙◌, Option, Some, IfSome, ap, inl, subst, sym}
+use Rattle.std.proofs.Common.{◌≡◌, ◌∙◌, Some, IfSome, ap, inl, subst, sym}
 use Rattle.vol_spec.proofs.Told.{from_told}
 use Rattle.vol_spec.specs.Types.{Bytes}
 use Rattle.vol_tool.specs.Statuses.{fixed_line, Reports}

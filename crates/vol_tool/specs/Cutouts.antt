@@ -8,12 +8,10 @@ use Rattle.vol_spec.specs.Grid.{Inside, whole}
 use Rattle.vol_spec.specs.Raw.{raw_len}
 use Rattle.vol_spec.specs.Types.{Bytes, Cell, Name}
 use Rattle.vol_spec.specs.declared.scale.Scale.{Scale}
-use Rattle.cutout.specs.declared.reading.ReadFault.{ReadFault}
-use Rattle.cutout.specs.declared.reading.ReadFault.TheVariants.{StoreFault as UnreadStore, Damaged as UnreadDamaged}
 use Rattle.vol_shell.specs.Effects.{Gains, GainsFront}
 use Rattle.vol_shell.specs.Lines.{damaged_line, info_line, large_line, memory_line, outside_line, output_line, store_line}
 use Rattle.vol_tool.specs.Refusals.{info_text}
-use Rattle.vol_tool.specs.Scales.{stored_scale}
+use Rattle.vol_tool.specs.Scales.{readable}
 use Rattle.vol_tool.specs.Seen.{Outlets, Silent, Tells}
 use Rattle.vol_tool.specs.declared.refusal.NoScale.{NoScale}
 use Rattle.vol_tool.specs.declared.refusal.CutoutRefusal.{CutoutRefusal}
@@ -31,7 +29,7 @@ IsSound m dataset s part = IsRequest s part × (first_fault m dataset s part ≡
 
 -- the scale is there, and the box can be cut out of it
 abbrev pub CanCut : Objects → Name → Name → Box3 → Type 0
-CanCut m dataset key part = IsOkAnd (stored_scale m dataset key) (λ s. IsSound m dataset s part)
+CanCut m dataset key part = IsOkAnd (readable m dataset key) (λ s. IsSound m dataset s part)
 
 -- why a box is no request, and the number of bytes that is told (at most 2^128 - 1)
 abbrev pub IsTooLarge : Scale → Box3 → ℕ → Type 0
@@ -63,10 +61,16 @@ Cuts (Err refused.NoMemory) told m dataset part old new = Unit {0}
 Cuts result told m dataset part old new = IsOkAnd told (λ s. CutsScale result m dataset s part old new)
 
 -- what reading the values of a part answers
-abbrev pub HasCut : Result ⊤ ReadFault → Objects → Name → Scale → Box3 → Bytes → Type 0
-HasCut (Done done) m dataset s part out = (first_fault m dataset s part ≡ None) × (out ≡ cut m dataset s part)
-HasCut (Err (UnreadDamaged cell fault)) m dataset s part out = first_fault m dataset s part ≡ Some (cell, fault)
-HasCut (Err UnreadStore) m dataset s part out = Unit {0}
+abbrev pub HasRead : Result ⊤ CutoutRefusal → Objects → Name → Scale → Box3 → Bytes → Type 0
+HasRead (Done done) m dataset s part out = (first_fault m dataset s part ≡ None) × (out ≡ cut m dataset s part)
+HasRead (Err (refused.Damaged cell fault)) m dataset s part out = first_fault m dataset s part ≡ Some (cell, fault)
+HasRead (Err other) m dataset s part out = Unit {0}
+
+-- why values aren't read
+abbrev pub IsUnread : CutoutRefusal → Type 0
+IsUnread refused.StoreFault = Unit {0}
+IsUnread (refused.Damaged cell fault) = Unit {0}
+IsUnread other = ⊥
 
 -- what a cutout answers where nothing is told: a box that it refuses is the one that was asked for, and nothing is written but by a
 -- cutout that succeeds, or where the outlet fails
@@ -93,20 +97,20 @@ cut_of (Err why) m dataset part = []
 
 -- the output gained a front of the cutout
 abbrev pub CutsFront : Objects → Name → Name → Box3 → Outlets → Type 0
-CutsFront m dataset key part o = GainsFront o.out_old o.out_new (cut_of (stored_scale m dataset key) m dataset part)
+CutsFront m dataset key part o = GainsFront o.out_old o.out_new (cut_of (readable m dataset key) m dataset part)
 
 -- what each status of `cutout` says over objects that are told
 abbrev pub CutoutShows : Status → Objects → Name → Name → Box3 → Outlets → Type 0
 CutoutShows Ok m dataset key part o =
-    IsOkAnd (stored_scale m dataset key) (λ s. IsSound m dataset s part × Gains o.out_old o.out_new (cut m dataset s part))
+    IsOkAnd (readable m dataset key) (λ s. IsSound m dataset s part × Gains o.out_old o.out_new (cut m dataset s part))
 CutoutShows InfoRefused m dataset key part o =
-    IsErrAnd (stored_scale m dataset key) (λ why. Tells o (info_line dataset (info_text why)))
-CutoutShows RequestRefused m dataset key part o = IsOkAnd (stored_scale m dataset key) (λ s. RefusesBox s part o)
+    IsErrAnd (readable m dataset key) (λ why. Tells o (info_line dataset (info_text why)))
+CutoutShows RequestRefused m dataset key part o = IsOkAnd (readable m dataset key) (λ s. RefusesBox s part o)
 CutoutShows Damaged m dataset key part o =
-    IsOkAnd (stored_scale m dataset key) (λ s. MeetsFault m dataset s part o) × CutsFront m dataset key part o
+    IsOkAnd (readable m dataset key) (λ s. MeetsFault m dataset s part o) × CutsFront m dataset key part o
 CutoutShows StoreFault m dataset key part o = CutsFront m dataset key part o
 CutoutShows OutFault m dataset key part o =
-    IsOkAnd (stored_scale m dataset key) (λ s. IsSound m dataset s part × GainsFront o.out_old o.out_new (cut m dataset s part))
+    IsOkAnd (readable m dataset key) (λ s. IsSound m dataset s part × GainsFront o.out_old o.out_new (cut m dataset s part))
 CutoutShows NoMemory m dataset key part o = CutsFront m dataset key part o
 CutoutShows Usage m dataset key part o = ⊥
 CutoutShows FeedFault m dataset key part o = ⊥

@@ -1,7 +1,5 @@
 -- The statuses and the lines of refusals.
-use Rattle.std.specs.Prelude.{List, ℕ, codes}
-use Rattle.cutout.specs.declared.reading.ReadFault.{ReadFault}
-use Rattle.cutout.specs.declared.reading.ReadFault.TheVariants.{StoreFault as UnreadStore, Damaged as UnreadDamaged}
+use Rattle.std.specs.Prelude.{codes}
 use Rattle.info_doc.specs.Texts.{fault_text as info_fault_text}
 use Rattle.info_doc.specs.declared.fault.InfoFault.{InfoFault}
 use Rattle.info_doc.specs.declared.fault.InfoFault.TheVariants.{OutOfMemory as InfoMemory}
@@ -33,16 +31,11 @@ abbrev pub scale_refused : InfoFault → ScaleRefusal
 scale_refused InfoMemory = scale.NoMemory
 scale_refused fault = scale.NoScale (Refused fault)
 
--- what a scale that isn't read is, as a refusal of a cutout,
+-- what a scale that isn't read is, as a refusal of a cutout
 abbrev pub cutout_without : ScaleRefusal → CutoutRefusal
 cutout_without (scale.NoScale why) = cutout.NoScale why
 cutout_without scale.StoreFault = cutout.StoreFault
 cutout_without scale.NoMemory = cutout.NoMemory
-
--- and cells that aren't read
-abbrev pub unread : ReadFault → CutoutRefusal
-unread UnreadStore = cutout.StoreFault
-unread (UnreadDamaged cell fault) = cutout.Damaged cell fault
 
 abbrev pub cutout_status : CutoutRefusal → Status
 cutout_status (cutout.NoScale why) = InfoRefused

@@ -1,5 +1,5 @@
 -- What `write` answers over the objects that a store tells and the stream that a feed tells.
-use Rattle.std.specs.Prelude.{◌≡◌, ◌⊎◌, Bool, true, false, ℕ, ◌≤◌, ◌<◌, ◌^◌, [], length, Option, Some, None, IfSome, Result, Ok, Err, ⊤, IsOkAnd, IsErrAnd, IsSomeAnd}
+use Rattle.std.specs.Prelude.{◌≡◌, ◌⊎◌, Bool, true, false, ℕ, ◌≤◌, ◌<◌, ◌^◌, [], length, Option, Some, Result, Ok, Err, ⊤, IsOkAnd, IsErrAnd, IsSomeAnd}
 use Rattle.std.specs.Option.{option_map}
 use Rattle.vol_base.specs.declared.boxes.Box3.{Box3}
 use Rattle.vol_base.specs.Outside.{any_under, Draft, Objects, OnlyReads}
@@ -20,8 +20,9 @@ use Rattle.vol_shell.specs.Effects.{Gains, GainsFront}
 use Rattle.vol_shell.specs.Lines.{cells_line, feed_line, folder_line, info_line, memory_line, output_line, store_line, stream_line, written_line}
 use Rattle.vol_tool.specs.Cutouts.{TellsNoScale}
 use Rattle.vol_tool.specs.Refusals.{info_text}
-use Rattle.vol_tool.specs.Scales.{stored_scale}
-use Rattle.vol_tool.specs.Seen.{outlets, Outlets, Seen, Silent, Tells}
+use Rattle.vol_tool.specs.Scales.{stored_scale, writable}
+use Rattle.vol_tool.specs.Seen.{Outlets, Silent, Tells}
+use Rattle.vol_tool.specs.declared.info.Purpose.{Purpose}
 use Rattle.vol_tool.specs.declared.refusal.NoScale.{NoScale}
 use Rattle.vol_tool.specs.declared.refusal.WriteRefusal.{WriteRefusal}
 use Rattle.vol_tool.specs.declared.refusal.WriteRefusal.TheVariants as refused
@@ -35,7 +36,7 @@ pub record HasStored (m : Objects) (now : Option Objects) (left : Option Bytes) 
   pub few : pairs s writes ≤ 2 ^ 22
   pub end : left ≡ Some []
   pub put : now ≡ Some (put_in m (stored_list dataset s (chunks_of s zeros writes)))
-  pub same : stored_scale (put_in m (stored_list dataset s (chunks_of s zeros writes))) dataset key ≡ stored_scale m dataset key
+  pub same : (purpose : Purpose) → stored_scale purpose (put_in m (stored_list dataset s (chunks_of s zeros writes))) dataset key ≡ stored_scale purpose m dataset key
 
 -- each box inside the scale reads back as the writes: no cell of it has a fault, its cutout is the bytes of the last write at each voxel and
 -- channel, else 0, none missing, and nothing is wrong with its cells
@@ -43,7 +44,7 @@ abbrev pub AllReadBack : Option Objects → Name → Scale → Writes → Type 0
 AllReadBack objects dataset s writes = IsSomeAnd objects (λ now. (b : Box3) → Inside s b → ReadsBack now dataset s writes b)
 
 abbrev pub WrittenBack : Objects → Option Objects → Bytes → Name → Name → Type 0
-WrittenBack m now bytes dataset key = IsOkAnd (stored_scale m dataset key) (λ s. IsOkAnd (writes_of bytes s) (AllReadBack now dataset s))
+WrittenBack m now bytes dataset key = IsOkAnd (writable m dataset key) (λ s. IsOkAnd (writes_of bytes s) (AllReadBack now dataset s))
 
 -- a front of the objects of writes that can be stored: the folder was empty, and there are not too many cells
 abbrev pub FrontPut : Objects → Option Objects → Bytes → Name → Scale → Type 0
@@ -134,15 +135,15 @@ count_line s writes = written_line (length (met_cells s writes)) (length (met_ce
 -- what each status of `write` says over objects that are told: the scale and its folder are judged before the feed is read, of which this
 -- is left before and after the call
 abbrev pub WriteJudges : Status → Objects → Name → Name → Option Bytes → Option Bytes → Outlets → Type 0
-WriteJudges InfoRefused m dataset key old new o = IsErrAnd (stored_scale m dataset key) (λ why. Tells o (info_line dataset (info_text why)))
+WriteJudges InfoRefused m dataset key old new o = IsErrAnd (writable m dataset key) (λ why. Tells o (info_line dataset (info_text why)))
 WriteJudges RequestRefused m dataset key old new o =
-    IsOkAnd (stored_scale m dataset key) (λ s. any_under m (folder_of dataset s) ≡ true → (new ≡ old) × Tells o folder_line)
+    IsOkAnd (writable m dataset key) (λ s. any_under m (folder_of dataset s) ≡ true → (new ≡ old) × Tells o folder_line)
 WriteJudges StoreFault m dataset key old new o = Unit {0}
 WriteJudges NoMemory m dataset key old new o = Unit {0}
 WriteJudges Usage m dataset key old new o = ⊥
 WriteJudges Damaged m dataset key old new o = ⊥
 WriteJudges DoorFault m dataset key old new o = ⊥
-WriteJudges other m dataset key old new o = IsOkAnd (stored_scale m dataset key) (λ s. any_under m (folder_of dataset s) ≡ false)
+WriteJudges other m dataset key old new o = IsOkAnd (writable m dataset key) (λ s. any_under m (folder_of dataset s) ≡ false)
 
 -- why a stream can't be written, with the line: it has a fault, or its writes meet too many cells
 abbrev pub RefusesStream : Bytes → Scale → Outlets → Type 0
@@ -153,21 +154,21 @@ RefusesStream bytes s o =
 -- and over a feed that is told too
 abbrev pub WriteShows : Status → Objects → Option Objects → Bytes → Option Bytes → Name → Name → Outlets → Type 0
 WriteShows Done m now bytes left dataset key o =
-    IsOkAnd (stored_scale m dataset key) (λ s. IsOkAnd (writes_of bytes s) (λ writes.
+    IsOkAnd (writable m dataset key) (λ s. IsOkAnd (writes_of bytes s) (λ writes.
     HasStored m now left dataset key s writes × Gains o.out_old o.out_new (count_line s writes)))
 WriteShows OutFault m now bytes left dataset key o =
-    IsOkAnd (stored_scale m dataset key) (λ s. IsOkAnd (writes_of bytes s) (λ writes.
+    IsOkAnd (writable m dataset key) (λ s. IsOkAnd (writes_of bytes s) (λ writes.
     HasStored m now left dataset key s writes × GainsFront o.out_old o.out_new (count_line s writes)))
 WriteShows RequestRefused m now bytes left dataset key o =
-    IsOkAnd (stored_scale m dataset key) (λ s. any_under m (folder_of dataset s) ≡ false → RefusesStream bytes s o)
-WriteShows StoreFault m now bytes left dataset key o = (now ≡ Some m) ⊎ IsOkAnd (stored_scale m dataset key) (FrontPut m now bytes dataset)
-WriteShows NoMemory m now bytes left dataset key o = (now ≡ Some m) ⊎ IsOkAnd (stored_scale m dataset key) (FrontPut m now bytes dataset)
+    IsOkAnd (writable m dataset key) (λ s. any_under m (folder_of dataset s) ≡ false → RefusesStream bytes s o)
+WriteShows StoreFault m now bytes left dataset key o = (now ≡ Some m) ⊎ IsOkAnd (writable m dataset key) (FrontPut m now bytes dataset)
+WriteShows NoMemory m now bytes left dataset key o = (now ≡ Some m) ⊎ IsOkAnd (writable m dataset key) (FrontPut m now bytes dataset)
 WriteShows other m now bytes left dataset key o = Unit {0}
 
 -- the scale is there, its folder is empty, and the stream can be written
 abbrev pub CanWrite : Objects → Bytes → Name → Name → Type 0
 CanWrite m bytes dataset key =
-    IsOkAnd (stored_scale m dataset key) (λ s. (any_under m (folder_of dataset s) ≡ false) × IsOkAnd (writes_of bytes s) (λ writes. pairs s writes ≤ 2 ^ 22))
+    IsOkAnd (writable m dataset key) (λ s. (any_under m (folder_of dataset s) ≡ false) × IsOkAnd (writes_of bytes s) (λ writes. pairs s writes ≤ 2 ^ 22))
 
 -- the line of a folder that isn't empty, of some fault of a stream, or of too many cells
 abbrev pub TellsRequest : Outlets → Type 0

@@ -1,18 +1,17 @@
 //! The command `cutout`.
-ghost use Rattle.std.specs.Prelude.{◌≡◌, ◌≤◌, ◌+◌, ◌<◌, length, IfSome};
+ghost use Rattle.std.specs.Prelude.{◌≡◌, ◌≤◌, length, IfErr, IfSome};
 ghost use Rattle.vol_base.specs.Causes.{Rose};
 ghost use Rattle.vol_base.specs.Outside.{OnlyReads};
-ghost use Rattle.vol_base.specs.Bytes.{AreBytes};
-ghost use Rattle.vol_spec.specs.Limits.{first_bytes};
 ghost use Rattle.vol_spec.specs.Raw.{raw_len};
-ghost use Rattle.vol_tool.specs.Cutouts.{Cuts, CutsScale, HasCut, IsRequest, JudgesPart, Writes};
-ghost use Rattle.vol_tool.specs.Scales.{stored_scale, IsServed};
+ghost use Rattle.vol_spec.specs.declared.encoding.Encoding.TheVariants.{Raw};
+ghost use Rattle.vol_tool.specs.Cutouts.{Cuts, CutsScale, HasRead, IsRequest, IsUnread, JudgesPart, Writes};
+ghost use Rattle.vol_tool.specs.Scales.{readable};
 
 use crate::buffers::make_buffer;
-use crate::info::read_scale;
+use crate::info::{Purpose, read_scale};
 use crate::refusal::CutoutRefusal;
 use chunk_grid::{byte_len, inside, whole};
-use cutout::{ReadFault, read_cells};
+use cutout::{CutFault, Reader};
 use info_doc::Scale;
 use std::alloc::Global;
 use vol_base::{Box3, Name, Outlet, Source};
@@ -38,53 +37,40 @@ fn judge_part(scale: &Scale, part: &Box3) -> Result<usize, CutoutRefusal>
     Ok(bytes as usize)
 }
 
-// Knows that the elements of bytes are bytes.
-fn tell_bytes(bytes: &[u8])
-    ensures { AreBytes bytes.now }
-{
-    let _ = bytes.len();
-}
-
-// Reads the values of a part, by way of a buffer for one chunk.
+// Reads the values of a part.
 fn read_values<S: Source>(
     store: &mut S,
-    dataset: &Name,
-    scale: &Scale,
+    reader: &mut Reader,
     part: &Box3,
-    chunk: &mut [u8],
     out: &mut [u8],
-) -> Result<(), ReadFault>
-    requires dataset { length dataset.now ≤ 200 }
-    requires served { IsServed scale.now }
-    requires part { IsRequest scale.now part.now }
-    requires room { length chunk.old ≡ first_bytes scale.now.width scale.now.channels scale.now.size scale.now.chunk + 1 }
-    requires len { length out.old ≡ raw_len part.now scale.now.channels scale.now.width }
-    ensures read { IfSome (S.objects store.old) (λ m. HasCut result m dataset.now scale.now part.now out.new) }
+) -> Result<(), CutoutRefusal>
+    requires part { IsRequest reader.old.scale part.now }
+    requires len { length out.old ≡ raw_len part.now reader.old.scale.channels reader.old.scale.width }
+    ensures read { IfSome (S.objects store.old) (λ m. HasRead result m reader.old.dataset reader.old.scale part.now out.new) }
+    ensures unread { IfErr result IsUnread }
     ensures kept { OnlyReads (S.objects store.old) (S.objects store.new) (S.draft store.old) (S.draft store.new) }
     ensures later { S.faults store.old ≤ S.faults store.new }
-    ensures fault { result ≡ Err ReadFault.StoreFault → Rose (S.faults store.old) (S.faults store.new) }
+    ensures fault { result ≡ Err CutoutRefusal.StoreFault → Rose (S.faults store.old) (S.faults store.new) }
 {
-    read_cells(store, dataset, scale, chunk, part, out)?;
-    tell_bytes(out);
-    Ok(())
+    match reader.cutout(store, part, out) {
+        Ok(()) => Ok(()),
+        Err(CutFault::OutsideScale) => unreachable!(),
+        Err(CutFault::StoreFault) => Err(CutoutRefusal::StoreFault),
+        Err(CutFault::Damaged { cell, fault }) => Err(CutoutRefusal::Damaged { cell, fault }),
+    }
 }
 
-// Cuts a part out of a scale, by way of buffers for one chunk and for the part.
+// Cuts a part out of a scale, by way of a buffer for the part.
 fn cut_into<S: Source, O: Outlet>(
     store: &mut S,
     out: &mut O,
-    dataset: &Name,
-    scale: &Scale,
+    reader: &mut Reader,
     part: &Box3,
-    chunk: &mut [u8],
     values: &mut [u8],
 ) -> Result<(), CutoutRefusal>
-    requires dataset { length dataset.now ≤ 200 }
-    requires served { IsServed scale.now }
-    requires part { IsRequest scale.now part.now }
-    requires room { length chunk.old ≡ first_bytes scale.now.width scale.now.channels scale.now.size scale.now.chunk + 1 }
-    requires len { length values.old ≡ raw_len part.now scale.now.channels scale.now.width }
-    ensures cuts { IfSome (S.objects store.old) (λ m. CutsScale result m dataset.now scale.now part.now (O.written out.old) (O.written out.new)) }
+    requires part { IsRequest reader.old.scale part.now }
+    requires len { length values.old ≡ raw_len part.now reader.old.scale.channels reader.old.scale.width }
+    ensures cuts { IfSome (S.objects store.old) (λ m. CutsScale result m reader.old.dataset reader.old.scale part.now (O.written out.old) (O.written out.new)) }
     ensures kept { OnlyReads (S.objects store.old) (S.objects store.new) (S.draft store.old) (S.draft store.new) }
     ensures store_later { S.faults store.old ≤ S.faults store.new }
     ensures out_later { O.faults out.old ≤ O.faults out.new }
@@ -92,7 +78,10 @@ fn cut_into<S: Source, O: Outlet>(
     ensures out_fault { result ≡ Err CutoutRefusal.OutFault → Rose (O.faults out.old) (O.faults out.new) }
     ensures unwritten { Writes result part.now (O.written out.old) (O.written out.new) }
 {
-    read_values(store, dataset, scale, part, chunk, values)?;
+    match read_values(store, reader, part, values) {
+        Ok(()) => {}
+        Err(refusal) => return Err(refusal),
+    }
     match write_all(out, values) {
         Ok(()) => Ok(()),
         Err(_) => Err(CutoutRefusal::OutFault),
@@ -109,7 +98,7 @@ fn cut_scale<S: Source, O: Outlet>(
     part: &Box3,
 ) -> Result<(), CutoutRefusal>
     requires dataset { length dataset.now ≤ 200 }
-    requires served { IsServed scale.now }
+    requires raw { scale.now.encoding ≡ Raw }
     ensures cuts { IfSome (S.objects store.old) (λ m. CutsScale result m dataset.now scale.now part.now (O.written out.old) (O.written out.new)) }
     ensures kept { OnlyReads (S.objects store.old) (S.objects store.new) (S.draft store.old) (S.draft store.new) }
     ensures store_later { S.faults store.old ≤ S.faults store.new }
@@ -120,8 +109,8 @@ fn cut_scale<S: Source, O: Outlet>(
 {
     let len = judge_part(scale, part)?;
     let mut values = make_buffer(alloc, len)?;
-    let mut chunk = make_buffer(alloc, scale.raw_limit() as usize + 1)?;
-    cut_into(store, out, dataset, scale, part, &mut chunk, &mut values)
+    let mut reader = Reader::open(alloc, dataset, scale)?;
+    cut_into(store, out, &mut reader, part, &mut values)
 }
 
 /// Cuts a box out of the scale of a key, and writes its values. Nothing is written but a whole cutout, or a
@@ -136,7 +125,7 @@ pub(crate) fn cut_out<S: Source, O: Outlet>(
 ) -> Result<(), CutoutRefusal>
     requires dataset { length dataset.now ≤ 200 }
     requires key { length key.now ≤ 200 }
-    ensures cuts { IfSome (S.objects store.old) (λ m. Cuts result (stored_scale m dataset.now key.now) m dataset.now part.now (O.written out.old) (O.written out.new)) }
+    ensures cuts { IfSome (S.objects store.old) (λ m. Cuts result (readable m dataset.now key.now) m dataset.now part.now (O.written out.old) (O.written out.new)) }
     ensures kept { OnlyReads (S.objects store.old) (S.objects store.new) (S.draft store.old) (S.draft store.new) }
     ensures store_later { S.faults store.old ≤ S.faults store.new }
     ensures out_later { O.faults out.old ≤ O.faults out.new }
@@ -144,6 +133,6 @@ pub(crate) fn cut_out<S: Source, O: Outlet>(
     ensures out_fault { result ≡ Err CutoutRefusal.OutFault → Rose (O.faults out.old) (O.faults out.new) }
     ensures unwritten { Writes result part.now (O.written out.old) (O.written out.new) }
 {
-    let scale = read_scale(alloc, store, dataset, key)?;
+    let scale = read_scale(alloc, store, Purpose::Reading, dataset, key)?;
     cut_scale(alloc, store, out, dataset, &scale, part)
 }

@@ -1,9 +1,8 @@
 //! Why a command was refused.
 
-use cutout::ReadFault;
 use info_doc::InfoFault;
 use std::alloc::AllocError;
-use vol_base::{Box3, Fault};
+use vol_base::{Box3, Fault, OutOfMemory};
 use write_plan::{PlanFault, PlanRefusal};
 
 /// Why a data set has no scale of a key that is served.
@@ -13,7 +12,7 @@ pub(crate) enum NoScale {
     Absent,
     /// The info document gives no scale.
     Refused(InfoFault),
-    /// The scale is sharded or segmented, which isn't served yet.
+    /// The scale is segmented, or sharded and to be written, which isn't served yet.
     NotBuilt,
 }
 
@@ -98,17 +97,14 @@ impl From<ScaleRefusal> for CutoutRefusal {
     }
 }
 
-impl From<ReadFault> for CutoutRefusal {
+impl From<OutOfMemory> for CutoutRefusal {
     ghost use Rattle.std.specs.Prelude.{◌≡◌};
-    ghost use Rattle.vol_tool.specs.Refusals.{unread};
+    ghost use Rattle.vol_tool.specs.declared.refusal.CutoutRefusal.TheVariants as refusals;
 
-    ghost from_gives = { λ fault e. e ≡ unread fault };
+    ghost from_gives = { λ _ e. e ≡ refusals.NoMemory };
 
-    fn from(fault: ReadFault) -> CutoutRefusal {
-        match fault {
-            ReadFault::StoreFault => CutoutRefusal::StoreFault,
-            ReadFault::Damaged { cell, fault } => CutoutRefusal::Damaged { cell, fault },
-        }
+    fn from(_e: OutOfMemory) -> CutoutRefusal {
+        CutoutRefusal::NoMemory
     }
 }
 

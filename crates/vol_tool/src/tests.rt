@@ -1,6 +1,7 @@
 //! Calls of the tool over stand-ins in memory. What each answers was worked out by hand.
 
 mod plain;
+mod shards;
 mod writes;
 
 use crate::top::run;

@@ -6,10 +6,10 @@ ghost use Rattle.write_plan.specs.Plans.{pairs};
 ghost use Rattle.write_plan.specs.WriteLists.{IsWriteOf};
 ghost use Rattle.shard_writer.specs.Writing.{Drops};
 ghost use Rattle.vol_shell.specs.Lines.{written_line};
-ghost use Rattle.vol_tool.specs.Scales.{IsServed, stored_scale};
+ghost use Rattle.vol_tool.specs.Scales.{IsWritable, writable};
 ghost use Rattle.vol_tool.specs.Storing.{Judges, KeepsFeed, KeepsPlan, KeepsStore, Prints, PutsWrites, WritesAll, WritesScale};
 
-use crate::info::read_scale;
+use crate::info::{Purpose, read_scale};
 use crate::refusal::WriteRefusal;
 use chunk_laws::tell_chunks;
 use info_doc::Scale;
@@ -36,7 +36,7 @@ fn put_plan<S: Store>(
     plan: &mut Plan,
 ) -> Result<Written, WriteRefusal>
     requires dataset { length dataset.now ≤ 200 }
-    requires served { IsServed scale.now }
+    requires served { IsWritable scale.now }
     requires scale { plan.old.scale ≡ scale.now }
     requires few { pairs scale.now plan.old.writes ≤ 2 ^ 22 }
     ensures put { IfSome (S.objects store.old) (λ m. PutsWrites result m (S.objects store.new) dataset.now scale.now plan.old.writes) }
@@ -62,7 +62,7 @@ fn write_planned<S: Store>(
     writes: Writes,
 ) -> Result<Written, WriteRefusal>
     requires dataset { length dataset.now ≤ 200 }
-    requires served { IsServed scale.now }
+    requires served { IsWritable scale.now }
     requires fits { All (IsWriteOf scale.now) writes }
     ensures put { IfSome (S.objects store.old) (λ m. PutsWrites result m (S.objects store.new) dataset.now scale.now writes) }
     ensures draft { Drops (S.draft store.old) (S.draft store.new) }
@@ -83,7 +83,7 @@ fn write_stream<S: Store, F: Feed>(
     scale: &Scale,
 ) -> Result<Written, WriteRefusal>
     requires dataset { length dataset.now ≤ 200 }
-    requires served { IsServed scale.now }
+    requires served { IsWritable scale.now }
     ensures judges { IfSome (S.objects store.old) (λ m. Judges result (Ok scale.now) m dataset.now) }
     ensures writes { (key : List ℕ) → IfSome (S.objects store.old) (λ m. IfSome (F.left feed.old) (λ bytes. WritesScale result m (S.objects store.new) bytes (F.left feed.new) dataset.now key scale.now)) }
     ensures feed { KeepsFeed result (F.left feed.old) (F.left feed.new) }
@@ -115,8 +115,8 @@ pub(crate) fn write_objects<S: Store, F: Feed>(
 ) -> Result<Written, WriteRefusal>
     requires dataset { length dataset.now ≤ 200 }
     requires key { length key.now ≤ 200 }
-    ensures judges { IfSome (S.objects store.old) (λ m. Judges result (stored_scale m dataset.now key.now) m dataset.now) }
-    ensures writes { IfSome (S.objects store.old) (λ m. IfSome (F.left feed.old) (λ bytes. WritesAll result (stored_scale m dataset.now key.now) m (S.objects store.new) bytes (F.left feed.new) dataset.now key.now)) }
+    ensures judges { IfSome (S.objects store.old) (λ m. Judges result (writable m dataset.now key.now) m dataset.now) }
+    ensures writes { IfSome (S.objects store.old) (λ m. IfSome (F.left feed.old) (λ bytes. WritesAll result (writable m dataset.now key.now) m (S.objects store.new) bytes (F.left feed.new) dataset.now key.now)) }
     ensures feed { KeepsFeed result (F.left feed.old) (F.left feed.new) }
     ensures draft { Drops (S.draft store.old) (S.draft store.new) }
     ensures kept { IfErr result (λ refusal. KeepsStore refusal (S.objects store.old) (S.objects store.new) (S.draft store.old) (S.draft store.new)) }
@@ -125,7 +125,7 @@ pub(crate) fn write_objects<S: Store, F: Feed>(
     ensures store_fault { result ≡ Err WriteRefusal.StoreFault → Rose (S.faults store.old) (S.faults store.new) }
     ensures feed_fault { result ≡ Err WriteRefusal.FeedFault → Rose (F.faults feed.old) (F.faults feed.new) }
 {
-    let scale = read_scale(alloc, store, dataset, key)?;
+    let scale = read_scale(alloc, store, Purpose::Writing, dataset, key)?;
     write_stream(alloc, store, feed, dataset, &scale)
 }
 

@@ -1,9 +1,7 @@
 //! Cutouts against the plain program, value by value.
-ghost use Rattle.std.specs.Prelude.{◌≡◌, ◌≤◌, length, true};
-ghost use Rattle.vol_tool.specs.Scales.{IsServed, is_served};
+ghost use Rattle.std.specs.Prelude.{◌≤◌, length};
 
 use super::{call, no_feed, outlet_of, put};
-use crate::info::serve_scale;
 use chunk_grid::{byte_len, whole};
 use info_doc::{Scale, scale_of};
 use std::alloc::{AllocError, Global};
@@ -170,7 +168,8 @@ fn number_of(bytes: &[u8]) -> u64 {
     number
 }
 
-fn compare(
+/// Bytes of a part against the plain program.
+pub(super) fn compare(
     rt: &impl Abort,
     store: &MemoryStore,
     dataset: &Name,
@@ -179,7 +178,6 @@ fn compare(
     bytes: &[u8],
 )
     requires dataset { length dataset.now ≤ 200 }
-    requires served { IsServed scale.now }
 {
     assert_eq!(rt;
         bytes.len() as u128,
@@ -195,6 +193,28 @@ fn compare(
     }
 }
 
+/// Whether the plain program finds a fault at some value of a part.
+pub(super) fn has_fault(
+    rt: &impl Abort,
+    store: &MemoryStore,
+    dataset: &Name,
+    scale: &Scale,
+    part: &Box3,
+) -> bool
+    requires { length dataset.now ≤ 200 }
+{
+    let len = byte_len(part, 1, 1).min(1 << 16) as u64;
+    for n in 0..len {
+        let (p, _) = place_of(part, n);
+        assert!(rt; covers(&whole(scale), p));
+        assert!(rt; scale.channels > 0);
+        if plain_value(store, dataset, scale, p, 0).is_err() {
+            return true;
+        }
+    }
+    false
+}
+
 fn check_part<R: Threads + Wait + Abort + Sync>(
     rt: &R,
     alloc: Global,
@@ -205,7 +225,6 @@ fn check_part<R: Threads + Wait + Abort + Sync>(
     stored: usize,
 ) -> Result<(), Fail>
     requires dataset { length dataset.now ≤ 200 }
-    requires served { IsServed scale.now }
 {
     let part = Box3::parse(text)?;
     let words = format!(in alloc; "cutout d s {text}")?;
@@ -230,9 +249,6 @@ fn check_case<R: Threads + Wait + Abort + Sync>(
     assert!(rt; dataset.as_bytes().len() == 1 && key.as_bytes().len() == 1);
     let info = info_of(alloc, case)?;
     let scale = scale_of(alloc, info.as_bytes(), &key)?;
-    let Ok(scale) = serve_scale(scale) else {
-        return Err("served")?;
-    };
     let mut store = MemoryStore::new(alloc, Vec::new(alloc));
     put(alloc, &mut store, "d/info", info.as_bytes())?;
     for (name, first, len) in case.chunks {

@@ -1,0 +1,228 @@
+//! The cutout of a sharded scale as an ordinary Rust program does it, for comparison: eight neighbouring chunks have one
+//! minishard, and MurmurHash3 places them in four minishards of each of two shards. The volumes many and few have one shard.
+//!
+//!     plain_sharded LAYOUT make DATASET                 writes the dataset, with the scale s
+//!     plain_sharded LAYOUT cutout DATASET KEY BOX       writes the values of the box to standard output
+//!
+//! The shard and the index that were read last are kept. Each chunk is one pread, and is copied by rows.
+
+#[allow(dead_code)]
+mod layout;
+
+use layout::{Layout, Noise, Spans};
+use std::collections::BTreeMap;
+use std::fs::{self, File};
+use std::io::{self, Write};
+use std::os::fd::AsFd;
+use std::os::unix::fs::FileExt;
+use std::path::{Path, PathBuf};
+use std::process::ExitCode;
+
+const PRESHIFT: u32 = 3;
+const MINISHARD_BITS: u32 = 2;
+const BASE: u64 = 16 << MINISHARD_BITS;
+
+fn shard_bits(layout: &Layout) -> u32 {
+    if layout.chunk == 32 { 0 } else { 1 }
+}
+
+/// What the scale's info has beside the members of an unsharded one.
+fn members(layout: &Layout) -> String {
+    let shard_bits = shard_bits(layout);
+    format!(
+        "\"sharding\":{{\"@type\":\"neuroglancer_uint64_sharded_v1\",\"preshift_bits\":{PRESHIFT},\
+         \"hash\":\"murmurhash3_x86_128\",\"minishard_bits\":{MINISHARD_BITS},\"shard_bits\":{shard_bits}}},"
+    )
+}
+
+/// The compressed Morton code of a cell of a cube of cells.
+fn code(count: usize, cell: [usize; 3]) -> u64 {
+    let mut code = 0;
+    let mut place = 0;
+    for bit in 0..usize::BITS {
+        if 1usize.checked_shl(bit).is_none_or(|step| step >= count) {
+            break;
+        }
+        for number in cell {
+            code |= ((number >> bit & 1) as u64) << place;
+            place += 1;
+        }
+    }
+    code
+}
+
+fn finalize(h: u32) -> u32 {
+    let h = (h ^ h >> 16).wrapping_mul(0x85ebca6b);
+    let h = (h ^ h >> 13).wrapping_mul(0xc2b2ae35);
+    h ^ h >> 16
+}
+
+fn stir(h: [u32; 4]) -> [u32; 4] {
+    let sum = h[0].wrapping_add(h[1]).wrapping_add(h[2]).wrapping_add(h[3]);
+    [sum, h[1].wrapping_add(sum), h[2].wrapping_add(sum), h[3].wrapping_add(sum)]
+}
+
+/// The low eight bytes of MurmurHash3_x86_128 of a number's eight bytes.
+fn hash(value: u64) -> u64 {
+    let low = (value as u32).wrapping_mul(0x239b961b).rotate_left(15).wrapping_mul(0xab0e9789);
+    let high = ((value >> 32) as u32)
+        .wrapping_mul(0xab0e9789)
+        .rotate_left(16)
+        .wrapping_mul(0x38b34ae5);
+    let h = stir(stir([low ^ 8, high ^ 8, 8, 8]).map(finalize));
+    h[0] as u64 | (h[1] as u64) << 32
+}
+
+/// The shard and the minishard of an id.
+fn place(shard_bits: u32, id: u64) -> (u64, u64) {
+    let hash = hash(id >> PRESHIFT);
+    (hash >> MINISHARD_BITS & ((1 << shard_bits) - 1), hash & ((1 << MINISHARD_BITS) - 1))
+}
+
+fn number_at(bytes: &[u8], place: usize) -> u64 {
+    u64::from_le_bytes(bytes[8 * place..8 * place + 8].try_into().unwrap())
+}
+
+/// The chunks of a minishard, by their ids: where they begin in the object, and their lengths.
+type Index = Vec<(u64, u64, u64)>;
+
+fn read_index(file: &File, minishard: u64) -> io::Result<Index> {
+    let mut entry = [0; 16];
+    file.read_exact_at(&mut entry, 16 * minishard)?;
+    let (start, end) = (number_at(&entry, 0), number_at(&entry, 1));
+    let mut bytes = vec![0; (end - start) as usize];
+    file.read_exact_at(&mut bytes, BASE + start)?;
+    let rows = bytes.len() / 24;
+    let (mut id, mut place) = (0, 0);
+    let mut index = Vec::with_capacity(rows);
+    for row in 0..rows {
+        id += number_at(&bytes, row);
+        place += number_at(&bytes, rows + row);
+        let len = number_at(&bytes, 2 * rows + row);
+        index.push((id, BASE + place, len));
+        place += len;
+    }
+    Ok(index)
+}
+
+/// The shard and the index that were read last.
+struct Reader {
+    folder: PathBuf,
+    shard_bits: u32,
+    shard: Option<(u64, File)>,
+    index: Option<((u64, u64), Index)>,
+}
+
+impl Reader {
+    fn read(&mut self, id: u64, chunk: &mut [u8]) -> io::Result<bool> {
+        let (shard, minishard) = place(self.shard_bits, id);
+        if self.shard.as_ref().is_none_or(|(kept, _)| *kept != shard) {
+            let file = File::open(self.folder.join(format!("{shard:x}.shard")))?;
+            self.shard = Some((shard, file));
+        }
+        let (_, file) = self.shard.as_ref().unwrap();
+        if self.index.as_ref().is_none_or(|(kept, _)| *kept != (shard, minishard)) {
+            self.index = Some(((shard, minishard), read_index(file, minishard)?));
+        }
+        let (_, index) = self.index.as_ref().unwrap();
+        let Ok(found) = index.binary_search_by_key(&id, |row| row.0) else {
+            return Ok(false);
+        };
+        let (_, start, len) = index[found];
+        if len != chunk.len() as u64 {
+            return Err(io::ErrorKind::InvalidData.into());
+        }
+        file.read_exact_at(chunk, start)?;
+        Ok(true)
+    }
+}
+
+fn parse_box(layout: &Layout, text: &str) -> Option<Spans> {
+    let inside = text.strip_prefix('[')?.strip_suffix(']')?;
+    let mut spans = [(0, 0); 3];
+    let mut axes = inside.split(',');
+    for span in &mut spans {
+        let (begin, end) = axes.next()?.split_once(':')?;
+        *span = (begin.parse().ok()?, end.parse().ok()?);
+    }
+    let sound = spans.iter().all(|(begin, end)| begin < end && *end <= layout.size);
+    (axes.next().is_none() && sound).then_some(spans)
+}
+
+fn cut(layout: &Layout, folder: &Path, part: &Spans) -> io::Result<Vec<u8>> {
+    let mut out = vec![0; layout.bytes_of(part)];
+    let mut chunk = vec![0; layout.bytes_of(&layout.cell_box([0, 0, 0]))];
+    let shard_bits = shard_bits(layout);
+    let mut reader = Reader { folder: folder.to_path_buf(), shard_bits, shard: None, index: None };
+    let count = layout.size / layout.chunk;
+    for cell in layout.cells(part) {
+        if reader.read(code(count, cell), &mut chunk)? {
+            layout.copy_rows(&layout.cell_box(cell), &chunk, part, &mut out);
+        }
+    }
+    Ok(out)
+}
+
+/// The bytes of a shard of chunks by minishard and id.
+fn shard_of(chunks: &BTreeMap<(u64, u64), Vec<u8>>) -> Vec<u8> {
+    let mut bytes = vec![0; BASE as usize];
+    for minishard in 0..1 << MINISHARD_BITS {
+        let rows: Vec<_> = chunks.range((minishard, 0)..(minishard + 1, 0)).collect();
+        if rows.is_empty() {
+            continue;
+        }
+        let first = bytes.len() as u64 - BASE;
+        rows.iter().for_each(|(_, chunk)| bytes.extend_from_slice(chunk));
+        let start = bytes.len() as u64 - BASE;
+        let mut last = 0;
+        for ((_, id), _) in &rows {
+            bytes.extend((id - last).to_le_bytes());
+            last = *id;
+        }
+        for row in 0..rows.len() {
+            bytes.extend((if row == 0 { first } else { 0 }).to_le_bytes());
+        }
+        rows.iter().for_each(|(_, chunk)| bytes.extend((chunk.len() as u64).to_le_bytes()));
+        let end = bytes.len() as u64 - BASE;
+        let entry = 16 * minishard as usize;
+        bytes[entry..entry + 8].copy_from_slice(&start.to_le_bytes());
+        bytes[entry + 8..entry + 16].copy_from_slice(&end.to_le_bytes());
+    }
+    bytes
+}
+
+fn make(layout: &Layout, dataset: &Path) -> io::Result<()> {
+    layout.make_info(dataset, &members(layout))?;
+    let folder = dataset.join("s");
+    fs::create_dir_all(&folder)?;
+    let mut noise = Noise::new();
+    let mut shards = BTreeMap::<u64, BTreeMap<(u64, u64), Vec<u8>>>::new();
+    let count = layout.size / layout.chunk;
+    for cell in layout.cells(&[(0, layout.size); 3]) {
+        let id = code(count, cell);
+        let (shard, minishard) = place(shard_bits(layout), id);
+        let chunk = noise.take(layout.bytes_of(&layout.cell_box(cell)));
+        shards.entry(shard).or_default().insert((minishard, id), chunk);
+    }
+    for (shard, chunks) in shards {
+        fs::write(folder.join(format!("{shard:x}.shard")), shard_of(&chunks))?;
+    }
+    Ok(())
+}
+
+fn write_out(values: &[u8]) -> io::Result<()> {
+    let out = io::stdout().as_fd().try_clone_to_owned()?;
+    File::from(out).write_all(values)
+}
+
+fn main() -> ExitCode {
+    layout::run_with(|layout, words| match *words {
+        ["make", dataset] => Some(make(layout, Path::new(dataset))),
+        ["cutout", dataset, key, part] => {
+            let part = parse_box(layout, part)?;
+            let folder = Path::new(dataset).join(key);
+            Some(cut(layout, &folder, &part).and_then(|values| write_out(&values)))
+        }
+        _ => None,
+    })
+}

@@ -1,0 +1,89 @@
+//! Where the chunk of a cell stands.
+ghost use Rattle.std.specs.Prelude.{◌≡◌, ◌≢◌, ◌+◌, ◌≤◌, length, IfErr, IfSome, None, Some, Err};
+ghost use Rattle.vol_base.specs.Causes.{Rose};
+ghost use Rattle.vol_base.specs.Outside.{OnlyReads};
+ghost use Rattle.vol_spec.specs.Grid.{IsCell};
+ghost use Rattle.vol_spec.specs.declared.encoding.Encoding.TheVariants.{Raw};
+ghost use Rattle.cutout.specs.Keeping.{search_cost};
+ghost use Rattle.cutout.specs.Reading.{Locates};
+
+use crate::CutFault;
+use crate::cells::place_fault;
+use chunk_grid::{byte_len, cell_box, grid, object_name};
+use morton_code::code;
+use shard_index::{place, shard_name};
+use shard_reader::ShardReader;
+use vol_base::{Name, Source};
+use vol_spec::{Scale, Sharding};
+
+/// Where the chunk of a cell stands: nowhere, or in an object, so many bytes from a place on. Both are
+/// counted in bytes, the place from the object's begin.
+#[derive(Drop)]
+pub enum Found {
+    Absent,
+    At { name: Name, start: u64, len: u64 },
+}
+
+/// The whole of an object of a cell's own.
+pub(crate) fn locate_own<S: Source>(
+    store: &mut S,
+    dataset: &Name,
+    scale: &Scale,
+    cell: [u64; 3],
+) -> Result<Found, CutFault>
+    requires dataset { length dataset.now ≤ 200 }
+    requires cell { IsCell scale.now cell }
+    requires unsharded { scale.now.sharding ≡ None }
+    ensures found { IfSome (S.objects store.old) (λ m. Locates result m dataset.now scale.now cell) }
+    ensures sound { IfErr result (λ fault. fault ≡ CutFault.StoreFault) }
+    ensures asked { S.asked store.new ≡ S.asked store.old }
+    ensures kept { OnlyReads (S.objects store.old) (S.objects store.new) (S.draft store.old) (S.draft store.new) }
+    ensures later { S.faults store.old ≤ S.faults store.new }
+    ensures fault { result ≡ Err CutFault.StoreFault → Rose (S.faults store.old) (S.faults store.new) }
+{
+    let name = object_name(dataset, scale, cell);
+    match store.size(&name) {
+        Err(_) => Err(CutFault::StoreFault),
+        Ok(None) => Ok(Found::Absent),
+        Ok(Some(len)) => Ok(Found::At {
+            name,
+            start: 0,
+            len,
+        }),
+    }
+}
+
+/// The span of a shard.
+pub(crate) fn locate_in_shard<S: Source>(
+    shards: &mut ShardReader,
+    store: &mut S,
+    dataset: &Name,
+    scale: &Scale,
+    sharding: &Sharding,
+    cell: [u64; 3],
+) -> Result<Found, CutFault>
+    requires dataset { length dataset.now ≤ 200 }
+    requires cell { IsCell scale.now cell }
+    requires sharding { scale.now.sharding ≡ Some sharding.now }
+    requires raw { scale.now.encoding ≡ Raw }
+    ensures found { IfSome (S.objects store.old) (λ m. Locates result m dataset.now scale.now cell) }
+    ensures inside { result ≢ Err CutFault.OutsideScale }
+    ensures asked { IfSome (S.objects store.old) (λ m. S.asked store.new ≤ S.asked store.old + search_cost m dataset.now scale.now cell) }
+    ensures kept { OnlyReads (S.objects store.old) (S.objects store.new) (S.draft store.old) (S.draft store.new) }
+    ensures later { S.faults store.old ≤ S.faults store.new }
+    ensures fault { result ≡ Err CutFault.StoreFault → Rose (S.faults store.old) (S.faults store.new) }
+{
+    shards.forget();
+    let id = code(&grid(scale), cell);
+    let part = cell_box(scale, cell);
+    let limit = byte_len(&part, scale.channels, scale.width) as u64;
+    match shards.locate(store, dataset, scale, sharding, limit, id) {
+        Err(fault) => Err(place_fault(cell, fault)),
+        Ok(None) => Ok(Found::Absent),
+        Ok(Some(span)) => Ok(Found::At {
+            name: shard_name(dataset, scale, place(sharding, id).shard),
+            start: span.start,
+            len: span.len,
+        }),
+    }
+}

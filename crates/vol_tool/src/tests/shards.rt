@@ -1,0 +1,737 @@
+//! Cutouts of sharded scales over stand-ins in memory. What each answers was worked out by a plain reader in another
+//! language, and the plain program says the same.
+
+use super::plain::{compare, has_fault};
+use super::{call, no_feed, outlet_of, put};
+use info_doc::scale_of;
+use std::alloc::{AllocError, Global};
+use std::process::Abort;
+use std::sync::Wait;
+use std::test::Fail;
+use std::thread::Threads;
+use vol_base::{Box3, MemoryStore, Name};
+
+// Eleven voxels in cells of two, by their ids in two minishards of one shard.
+const SIX_CELLS: &str =
+    "{\"type\":\"image\",\"data_type\":\"uint8\",\"num_channels\":1,\"scales\":[{\"key\":\"s\",\"size\":[11,1,1],\"chunk_sizes\":[[2,1,1]],\"resolution\":[8,8,40],\"encoding\":\"raw\",\"sharding\":{\"@type\":\"neuroglancer_uint64_sharded_v1\",\"preshift_bits\":0,\"hash\":\"identity\",\"minishard_bits\":1,\"shard_bits\":0}}]}";
+
+// The values 1 to 11: minishard 0 has the chunks 0, 2 and 4, minishard 1 has 1, 3 and 5.
+const SIX_CHUNKS: [u8; 187] = [
+    6, 0, 0, 0, 0, 0, 0, 0, 78, 0, 0, 0, 0, 0, 0, 0, 83, 0, 0, 0, 0, 0, 0, 0, 155, 0, 0, 0, 0, 0,
+    0, 0, 1, 2, 5, 6, 9, 10, 0, 0, 0, 0, 0, 0, 0, 0, 2, 0, 0, 0, 0, 0, 0, 0, 2, 0, 0, 0, 0, 0, 0,
+    0, 0, 0, 0, 0, 0, 0, 0, 0, 0, 0, 0, 0, 0, 0, 0, 0, 0, 0, 0, 0, 0, 0, 0, 0, 2, 0, 0, 0, 0, 0, 0,
+    0, 2, 0, 0, 0, 0, 0, 0, 0, 2, 0, 0, 0, 0, 0, 0, 0, 3, 4, 7, 8, 11, 1, 0, 0, 0, 0, 0, 0, 0, 2,
+    0, 0, 0, 0, 0, 0, 0, 2, 0, 0, 0, 0, 0, 0, 0, 78, 0, 0, 0, 0, 0, 0, 0, 0, 0, 0, 0, 0, 0, 0, 0,
+    0, 0, 0, 0, 0, 0, 0, 0, 2, 0, 0, 0, 0, 0, 0, 0, 2, 0, 0, 0, 0, 0, 0, 0, 1, 0, 0, 0, 0, 0, 0, 0,
+];
+
+// Two voxels, each a cell: two minishards, one, one that all ids share, and sixteen shards by the hash.
+const TWO_MINISHARDS: &str =
+    "{\"type\":\"image\",\"data_type\":\"uint8\",\"num_channels\":1,\"scales\":[{\"key\":\"s\",\"size\":[2,1,1],\"chunk_sizes\":[[1,1,1]],\"resolution\":[8,8,40],\"encoding\":\"raw\",\"sharding\":{\"@type\":\"neuroglancer_uint64_sharded_v1\",\"preshift_bits\":0,\"hash\":\"identity\",\"minishard_bits\":1,\"shard_bits\":0}}]}";
+
+const ONE_MINISHARD: &str =
+    "{\"type\":\"image\",\"data_type\":\"uint8\",\"num_channels\":1,\"scales\":[{\"key\":\"s\",\"size\":[2,1,1],\"chunk_sizes\":[[1,1,1]],\"resolution\":[8,8,40],\"encoding\":\"raw\",\"sharding\":{\"@type\":\"neuroglancer_uint64_sharded_v1\",\"preshift_bits\":0,\"hash\":\"identity\",\"minishard_bits\":0,\"shard_bits\":0}}]}";
+
+const NO_ID_BITS: &str =
+    "{\"type\":\"image\",\"data_type\":\"uint8\",\"num_channels\":1,\"scales\":[{\"key\":\"s\",\"size\":[2,1,1],\"chunk_sizes\":[[1,1,1]],\"resolution\":[8,8,40],\"encoding\":\"raw\",\"sharding\":{\"@type\":\"neuroglancer_uint64_sharded_v1\",\"preshift_bits\":64,\"hash\":\"identity\",\"minishard_bits\":0,\"shard_bits\":0}}]}";
+
+const HASHED: &str =
+    "{\"type\":\"image\",\"data_type\":\"uint8\",\"num_channels\":1,\"scales\":[{\"key\":\"s\",\"size\":[2,1,1],\"chunk_sizes\":[[1,1,1]],\"resolution\":[8,8,40],\"encoding\":\"raw\",\"sharding\":{\"@type\":\"neuroglancer_uint64_sharded_v1\",\"preshift_bits\":0,\"hash\":\"murmurhash3_x86_128\",\"minishard_bits\":3,\"shard_bits\":4}}]}";
+
+// The values 10 and 11 in two minishards, in one, and each in a shard of its own.
+const TWO_INDEXES: [u8; 82] = [
+    1, 0, 0, 0, 0, 0, 0, 0, 25, 0, 0, 0, 0, 0, 0, 0, 26, 0, 0, 0, 0, 0, 0, 0, 50, 0, 0, 0, 0, 0, 0,
+    0, 10, 0, 0, 0, 0, 0, 0, 0, 0, 0, 0, 0, 0, 0, 0, 0, 0, 1, 0, 0, 0, 0, 0, 0, 0, 11, 1, 0, 0, 0,
+    0, 0, 0, 0, 25, 0, 0, 0, 0, 0, 0, 0, 1, 0, 0, 0, 0, 0, 0, 0,
+];
+
+const ONE_INDEX: [u8; 66] = [
+    2, 0, 0, 0, 0, 0, 0, 0, 50, 0, 0, 0, 0, 0, 0, 0, 10, 11, 0, 0, 0, 0, 0, 0, 0, 0, 1, 0, 0, 0, 0,
+    0, 0, 0, 0, 0, 0, 0, 0, 0, 0, 0, 0, 0, 0, 0, 0, 0, 0, 0, 1, 0, 0, 0, 0, 0, 0, 0, 1, 0, 0, 0, 0,
+    0, 0, 0,
+];
+
+const IN_SHARD_8: [u8; 153] = [
+    0, 0, 0, 0, 0, 0, 0, 0, 0, 0, 0, 0, 0, 0, 0, 0, 1, 0, 0, 0, 0, 0, 0, 0, 25, 0, 0, 0, 0, 0, 0,
+    0, 0, 0, 0, 0, 0, 0, 0, 0, 0, 0, 0, 0, 0, 0, 0, 0, 0, 0, 0, 0, 0, 0, 0, 0, 0, 0, 0, 0, 0, 0, 0,
+    0, 0, 0, 0, 0, 0, 0, 0, 0, 0, 0, 0, 0, 0, 0, 0, 0, 0, 0, 0, 0, 0, 0, 0, 0, 0, 0, 0, 0, 0, 0, 0,
+    0, 0, 0, 0, 0, 0, 0, 0, 0, 0, 0, 0, 0, 0, 0, 0, 0, 0, 0, 0, 0, 0, 0, 0, 0, 0, 0, 0, 0, 0, 0, 0,
+    0, 10, 0, 0, 0, 0, 0, 0, 0, 0, 0, 0, 0, 0, 0, 0, 0, 0, 1, 0, 0, 0, 0, 0, 0, 0,
+];
+
+const IN_SHARD_3: [u8; 153] = [
+    0, 0, 0, 0, 0, 0, 0, 0, 0, 0, 0, 0, 0, 0, 0, 0, 0, 0, 0, 0, 0, 0, 0, 0, 0, 0, 0, 0, 0, 0, 0, 0,
+    1, 0, 0, 0, 0, 0, 0, 0, 25, 0, 0, 0, 0, 0, 0, 0, 0, 0, 0, 0, 0, 0, 0, 0, 0, 0, 0, 0, 0, 0, 0,
+    0, 0, 0, 0, 0, 0, 0, 0, 0, 0, 0, 0, 0, 0, 0, 0, 0, 0, 0, 0, 0, 0, 0, 0, 0, 0, 0, 0, 0, 0, 0, 0,
+    0, 0, 0, 0, 0, 0, 0, 0, 0, 0, 0, 0, 0, 0, 0, 0, 0, 0, 0, 0, 0, 0, 0, 0, 0, 0, 0, 0, 0, 0, 0, 0,
+    0, 11, 1, 0, 0, 0, 0, 0, 0, 0, 0, 0, 0, 0, 0, 0, 0, 0, 1, 0, 0, 0, 0, 0, 0, 0,
+];
+
+// Numbers of eight bytes, each put at a place of the shard of six chunks; how many bytes of it are left; a box; and
+// the bytes of the cutout, or the line of its refusal.
+#[derive(Clone, Copy)]
+struct Damage<'a> {
+    numbers: &'a [(u8, u64)],
+    len: usize,
+    part: &'a str,
+    out: &'a [u8],
+    err: &'a str,
+}
+
+const DAMAGES: [Damage; 56] = [
+    Damage {
+        numbers: &[],
+        len: 187,
+        part: "[0:11,0:1,0:1]",
+        out: &[1, 2, 3, 4, 5, 6, 7, 8, 9, 10, 11],
+        err: "",
+    },
+    Damage {
+        numbers: &[],
+        len: 187,
+        part: "[3:9,0:1,0:1]",
+        out: &[4, 5, 6, 7, 8, 9],
+        err: "",
+    },
+    Damage {
+        numbers: &[],
+        len: 0,
+        part: "[0:2,0:1,0:1]",
+        out: &[],
+        err: "damaged 0,0,0: shard short index\n",
+    },
+    Damage {
+        numbers: &[],
+        len: 15,
+        part: "[0:2,0:1,0:1]",
+        out: &[],
+        err: "damaged 0,0,0: shard short index\n",
+    },
+    Damage {
+        numbers: &[],
+        len: 16,
+        part: "[0:2,0:1,0:1]",
+        out: &[],
+        err: "damaged 0,0,0: shard short minishard\n",
+    },
+    Damage {
+        numbers: &[],
+        len: 31,
+        part: "[2:4,0:1,0:1]",
+        out: &[],
+        err: "damaged 1,0,0: shard short index\n",
+    },
+    Damage {
+        numbers: &[],
+        len: 32,
+        part: "[2:4,0:1,0:1]",
+        out: &[],
+        err: "damaged 1,0,0: shard short minishard\n",
+    },
+    Damage {
+        numbers: &[],
+        len: 109,
+        part: "[0:2,0:1,0:1]",
+        out: &[],
+        err: "damaged 0,0,0: shard short minishard\n",
+    },
+    Damage {
+        numbers: &[],
+        len: 110,
+        part: "[0:2,0:1,0:1]",
+        out: &[1, 2],
+        err: "",
+    },
+    Damage {
+        numbers: &[],
+        len: 110,
+        part: "[2:4,0:1,0:1]",
+        out: &[],
+        err: "damaged 1,0,0: shard short minishard\n",
+    },
+    Damage {
+        numbers: &[],
+        len: 186,
+        part: "[10:11,0:1,0:1]",
+        out: &[],
+        err: "damaged 5,0,0: shard short minishard\n",
+    },
+    Damage {
+        numbers: &[],
+        len: 186,
+        part: "[8:10,0:1,0:1]",
+        out: &[9, 10],
+        err: "",
+    },
+    Damage {
+        numbers: &[(0, 78), (8, 6)],
+        len: 187,
+        part: "[0:2,0:1,0:1]",
+        out: &[],
+        err: "damaged 0,0,0: shard bad range\n",
+    },
+    Damage {
+        numbers: &[(16, 155), (24, 83)],
+        len: 187,
+        part: "[2:4,0:1,0:1]",
+        out: &[],
+        err: "damaged 1,0,0: shard bad range\n",
+    },
+    Damage {
+        numbers: &[(8, 79)],
+        len: 187,
+        part: "[0:2,0:1,0:1]",
+        out: &[],
+        err: "damaged 0,0,0: shard bad length 73\n",
+    },
+    Damage {
+        numbers: &[(24, 154)],
+        len: 187,
+        part: "[2:4,0:1,0:1]",
+        out: &[],
+        err: "damaged 1,0,0: shard bad length 71\n",
+    },
+    Damage {
+        numbers: &[(0, 0), (8, 100663320)],
+        len: 187,
+        part: "[0:2,0:1,0:1]",
+        out: &[],
+        err: "damaged 0,0,0: shard too many rows 4194305\n",
+    },
+    Damage {
+        numbers: &[(0, 0), (8, 100663296)],
+        len: 187,
+        part: "[0:2,0:1,0:1]",
+        out: &[],
+        err: "damaged 0,0,0: shard short minishard\n",
+    },
+    Damage {
+        numbers: &[(8, 174)],
+        len: 187,
+        part: "[0:2,0:1,0:1]",
+        out: &[],
+        err: "damaged 0,0,0: shard short minishard\n",
+    },
+    Damage {
+        numbers: &[(0, 6), (8, 6)],
+        len: 187,
+        part: "[0:11,0:1,0:1]",
+        out: &[0, 0, 3, 4, 0, 0, 7, 8, 0, 0, 11],
+        err: "",
+    },
+    Damage {
+        numbers: &[(0, u64::MAX), (8, u64::MAX)],
+        len: 187,
+        part: "[4:6,0:1,0:1]",
+        out: &[0, 0],
+        err: "",
+    },
+    Damage {
+        numbers: &[(24, u64::MAX)],
+        len: 187,
+        part: "[2:4,0:1,0:1]",
+        out: &[],
+        err: "damaged 1,0,0: shard bad length 18446744073709551532\n",
+    },
+    Damage {
+        numbers: &[(46, 0)],
+        len: 187,
+        part: "[4:6,0:1,0:1]",
+        out: &[],
+        err: "damaged 2,0,0: index id 1\n",
+    },
+    Damage {
+        numbers: &[(46, 0)],
+        len: 187,
+        part: "[0:2,0:1,0:1]",
+        out: &[1, 2],
+        err: "",
+    },
+    Damage {
+        numbers: &[(54, 0)],
+        len: 187,
+        part: "[8:10,0:1,0:1]",
+        out: &[],
+        err: "damaged 4,0,0: index id 2\n",
+    },
+    Damage {
+        numbers: &[(54, 0)],
+        len: 187,
+        part: "[4:6,0:1,0:1]",
+        out: &[5, 6],
+        err: "",
+    },
+    Damage {
+        numbers: &[(123, u64::MAX)],
+        len: 187,
+        part: "[6:8,0:1,0:1]",
+        out: &[],
+        err: "damaged 3,0,0: index id 1\n",
+    },
+    Damage {
+        numbers: &[(131, 0)],
+        len: 187,
+        part: "[10:11,0:1,0:1]",
+        out: &[],
+        err: "damaged 5,0,0: index id 2\n",
+    },
+    Damage {
+        numbers: &[(131, u64::MAX - 1)],
+        len: 187,
+        part: "[10:11,0:1,0:1]",
+        out: &[],
+        err: "damaged 5,0,0: index id 2\n",
+    },
+    Damage {
+        numbers: &[(38, u64::MAX)],
+        len: 187,
+        part: "[0:2,0:1,0:1]",
+        out: &[0, 0],
+        err: "",
+    },
+    Damage {
+        numbers: &[(38, 1)],
+        len: 187,
+        part: "[0:2,0:1,0:1]",
+        out: &[0, 0],
+        err: "",
+    },
+    Damage {
+        numbers: &[(38, 1)],
+        len: 187,
+        part: "[4:6,0:1,0:1]",
+        out: &[0, 0],
+        err: "",
+    },
+    Damage {
+        numbers: &[(38, 4)],
+        len: 187,
+        part: "[8:10,0:1,0:1]",
+        out: &[1, 2],
+        err: "",
+    },
+    Damage {
+        numbers: &[(46, 4)],
+        len: 187,
+        part: "[4:6,0:1,0:1]",
+        out: &[0, 0],
+        err: "",
+    },
+    Damage {
+        numbers: &[(62, u64::MAX - 1)],
+        len: 187,
+        part: "[0:2,0:1,0:1]",
+        out: &[],
+        err: "damaged 0,0,0: index start 0\n",
+    },
+    Damage {
+        numbers: &[(62, u64::MAX - 2)],
+        len: 187,
+        part: "[0:2,0:1,0:1]",
+        out: &[],
+        err: "damaged 0,0,0: shard short chunk\n",
+    },
+    Damage {
+        numbers: &[(70, u64::MAX - 3)],
+        len: 187,
+        part: "[4:6,0:1,0:1]",
+        out: &[],
+        err: "damaged 2,0,0: index start 1\n",
+    },
+    Damage {
+        numbers: &[(70, u64::MAX)],
+        len: 187,
+        part: "[0:2,0:1,0:1]",
+        out: &[1, 2],
+        err: "",
+    },
+    Damage {
+        numbers: &[(78, u64::MAX)],
+        len: 187,
+        part: "[8:10,0:1,0:1]",
+        out: &[],
+        err: "damaged 4,0,0: index start 2\n",
+    },
+    Damage {
+        numbers: &[(179, u64::MAX - 81)],
+        len: 187,
+        part: "[10:11,0:1,0:1]",
+        out: &[],
+        err: "damaged 5,0,0: index start 2\n",
+    },
+    Damage {
+        numbers: &[(139, u64::MAX)],
+        len: 187,
+        part: "[2:4,0:1,0:1]",
+        out: &[],
+        err: "damaged 1,0,0: index start 0\n",
+    },
+    Damage {
+        numbers: &[(62, 155)],
+        len: 187,
+        part: "[0:2,0:1,0:1]",
+        out: &[],
+        err: "damaged 0,0,0: shard short chunk\n",
+    },
+    Damage {
+        numbers: &[(62, 154)],
+        len: 187,
+        part: "[0:2,0:1,0:1]",
+        out: &[],
+        err: "damaged 0,0,0: shard short chunk\n",
+    },
+    Damage {
+        numbers: &[(70, 1000)],
+        len: 187,
+        part: "[4:6,0:1,0:1]",
+        out: &[],
+        err: "damaged 2,0,0: shard short chunk\n",
+    },
+    Damage {
+        numbers: &[(155, 72)],
+        len: 187,
+        part: "[10:11,0:1,0:1]",
+        out: &[0],
+        err: "",
+    },
+    Damage {
+        numbers: &[(155, 71)],
+        len: 187,
+        part: "[10:11,0:1,0:1]",
+        out: &[0],
+        err: "",
+    },
+    Damage {
+        numbers: &[(155, 73)],
+        len: 187,
+        part: "[10:11,0:1,0:1]",
+        out: &[],
+        err: "damaged 5,0,0: shard short chunk\n",
+    },
+    Damage {
+        numbers: &[(86, 3)],
+        len: 187,
+        part: "[0:2,0:1,0:1]",
+        out: &[],
+        err: "damaged 0,0,0: chunk too long 3 limit 2\n",
+    },
+    Damage {
+        numbers: &[(86, 1)],
+        len: 187,
+        part: "[0:2,0:1,0:1]",
+        out: &[],
+        err: "damaged 0,0,0: chunk length 1 wanted 2\n",
+    },
+    Damage {
+        numbers: &[(94, 0)],
+        len: 187,
+        part: "[4:6,0:1,0:1]",
+        out: &[],
+        err: "damaged 2,0,0: chunk length 0 wanted 2\n",
+    },
+    Damage {
+        numbers: &[(102, u64::MAX)],
+        len: 187,
+        part: "[8:10,0:1,0:1]",
+        out: &[],
+        err: "damaged 4,0,0: index start 2\n",
+    },
+    Damage {
+        numbers: &[(179, 2)],
+        len: 187,
+        part: "[10:11,0:1,0:1]",
+        out: &[],
+        err: "damaged 5,0,0: chunk too long 2 limit 1\n",
+    },
+    Damage {
+        numbers: &[(179, 0)],
+        len: 187,
+        part: "[10:11,0:1,0:1]",
+        out: &[],
+        err: "damaged 5,0,0: chunk length 0 wanted 1\n",
+    },
+    Damage {
+        numbers: &[(94, 3), (123, 0)],
+        len: 187,
+        part: "[0:11,0:1,0:1]",
+        out: &[],
+        err: "damaged 2,0,0: chunk too long 3 limit 2\n",
+    },
+    Damage {
+        numbers: &[(123, 0)],
+        len: 187,
+        part: "[2:11,0:1,0:1]",
+        out: &[],
+        err: "damaged 3,0,0: index id 1\n",
+    },
+    Damage {
+        numbers: &[(8, 79), (24, 154)],
+        len: 187,
+        part: "[3:11,0:1,0:1]",
+        out: &[],
+        err: "damaged 1,0,0: shard bad length 71\n",
+    },
+];
+
+const TWO_DAMAGES: [Damage; 6] = [
+    Damage {
+        numbers: &[],
+        len: 82,
+        part: "[0:2,0:1,0:1]",
+        out: &[10, 11],
+        err: "",
+    },
+    Damage {
+        numbers: &[(0, 0), (8, 0)],
+        len: 82,
+        part: "[0:2,0:1,0:1]",
+        out: &[0, 11],
+        err: "",
+    },
+    Damage {
+        numbers: &[(0, 2), (8, 25)],
+        len: 82,
+        part: "[0:1,0:1,0:1]",
+        out: &[],
+        err: "damaged 0,0,0: shard bad length 23\n",
+    },
+    Damage {
+        numbers: &[],
+        len: 8,
+        part: "[0:1,0:1,0:1]",
+        out: &[],
+        err: "damaged 0,0,0: shard short index\n",
+    },
+    Damage {
+        numbers: &[],
+        len: 33,
+        part: "[0:1,0:1,0:1]",
+        out: &[],
+        err: "damaged 0,0,0: shard short minishard\n",
+    },
+    Damage {
+        numbers: &[(33, 1)],
+        len: 82,
+        part: "[0:1,0:1,0:1]",
+        out: &[0],
+        err: "",
+    },
+];
+
+const ONE_DAMAGES: [Damage; 6] = [
+    Damage {
+        numbers: &[],
+        len: 66,
+        part: "[0:2,0:1,0:1]",
+        out: &[10, 11],
+        err: "",
+    },
+    Damage {
+        numbers: &[(26, 0)],
+        len: 66,
+        part: "[0:1,0:1,0:1]",
+        out: &[10],
+        err: "",
+    },
+    Damage {
+        numbers: &[(26, 0)],
+        len: 66,
+        part: "[1:2,0:1,0:1]",
+        out: &[],
+        err: "damaged 1,0,0: index id 1\n",
+    },
+    Damage {
+        numbers: &[(34, 1000)],
+        len: 66,
+        part: "[0:1,0:1,0:1]",
+        out: &[],
+        err: "damaged 0,0,0: shard short chunk\n",
+    },
+    Damage {
+        numbers: &[(50, 2)],
+        len: 66,
+        part: "[0:1,0:1,0:1]",
+        out: &[],
+        err: "damaged 0,0,0: chunk too long 2 limit 1\n",
+    },
+    Damage {
+        numbers: &[(18, 1), (26, 0)],
+        len: 66,
+        part: "[0:1,0:1,0:1]",
+        out: &[0],
+        err: "",
+    },
+];
+
+// Objects, and what a cutout of both voxels gives.
+const OBJECTS: [(&str, &[(&str, &[u8])], [u8; 2]); 8] = [
+    (TWO_MINISHARDS, &[], [0, 0]),
+    (TWO_MINISHARDS, &[("d/s/00.shard", &TWO_INDEXES)], [0, 0]),
+    (NO_ID_BITS, &[("d/s/0.shard", &ONE_INDEX)], [10, 11]),
+    (HASHED, &[], [0, 0]),
+    (HASHED, &[("d/s/8.shard", &IN_SHARD_8)], [10, 0]),
+    (HASHED, &[("d/s/3.shard", &IN_SHARD_3)], [0, 11]),
+    (
+        HASHED,
+        &[("d/s/8.shard", &IN_SHARD_8), ("d/s/3.shard", &IN_SHARD_3)],
+        [10, 11],
+    ),
+    (
+        HASHED,
+        &[("d/s/3.shard", &IN_SHARD_8), ("d/s/8.shard", &IN_SHARD_3)],
+        [0, 0],
+    ),
+];
+
+// A call that isn't made.
+const NONE_FAILS: u64 = 99;
+
+fn put_number(bytes: &mut [u8], at: u8, number: u64) {
+    for (i, byte) in number.to_le_bytes().iter().enumerate() {
+        if let Some(place) = bytes.get_mut((at as usize).wrapping_add(i)) {
+            *place = *byte;
+        }
+    }
+}
+
+fn damaged(alloc: Global, shard: &[u8], damage: &Damage) -> Result<Vec<u8>, AllocError> {
+    let mut bytes = shard.to_vec(alloc)?;
+    for (at, number) in damage.numbers {
+        put_number(&mut bytes, *at, *number);
+    }
+    bytes.truncate(damage.len);
+    Ok(bytes)
+}
+
+// A store of a document and a shard's object, a call failing.
+fn store_of(alloc: Global, info: &str, shard: &[u8], failing: u64) -> Result<MemoryStore, Fail> {
+    let mut store = MemoryStore::new(alloc, Vec::from_slice(alloc, &[failing])?);
+    put(alloc, &mut store, "d/info", info.as_bytes())?;
+    put(alloc, &mut store, "d/s/0.shard", shard)?;
+    Ok(store)
+}
+
+// A cutout by the tool: its status, what it prints and what it tells.
+fn check_cutout<R: Threads + Wait + Abort + Sync>(
+    rt: &R,
+    alloc: Global,
+    store: &mut MemoryStore,
+    part: &str,
+    status: u8,
+    out: &[u8],
+    err: &str,
+) -> Result<(), Fail> {
+    let words = format!(in alloc; "cutout d s {part}")?;
+    let mut printed = outlet_of(alloc, 7, &[])?;
+    let mut told = outlet_of(alloc, 7, &[])?;
+    let mut feed = no_feed(alloc);
+    let found = call(rt, alloc, &words, store, &mut feed, &mut printed, &mut told)?;
+    assert_eq!(rt; found, status, "at {part}");
+    assert!(rt; printed.written() == out, "out at {part}");
+    assert!(rt; told.written() == err.as_bytes(), "err at {part}");
+    Ok(())
+}
+
+// The same by the plain program, which finds a fault where nothing is printed.
+fn check_plain(
+    rt: &impl Abort,
+    alloc: Global,
+    info: &str,
+    store: &MemoryStore,
+    part: &str,
+    out: &[u8],
+) -> Result<(), Fail> {
+    let dataset = Name::new(b"d").ok_or("data set")?;
+    let key = Name::new(b"s").ok_or("key")?;
+    assert!(rt; dataset.as_bytes().len() == 1 && key.as_bytes().len() == 1);
+    let scale = scale_of(alloc, info.as_bytes(), &key)?;
+    let part = Box3::parse(part)?;
+    if out.is_empty() {
+        assert!(rt; has_fault(rt, store, &dataset, &scale, &part));
+    } else {
+        compare(rt, store, &dataset, &scale, &part, out);
+    }
+    Ok(())
+}
+
+fn check_damage<R: Threads + Wait + Abort + Sync>(
+    rt: &R,
+    alloc: Global,
+    info: &str,
+    shard: &[u8],
+    damage: &Damage,
+) -> Result<(), Fail> {
+    let bytes = damaged(alloc, shard, damage)?;
+    let mut store = store_of(alloc, info, &bytes, NONE_FAILS)?;
+    let status = if damage.err.is_empty() { 0 } else { 4 };
+    check_cutout(
+        rt,
+        alloc,
+        &mut store,
+        damage.part,
+        status,
+        damage.out,
+        damage.err,
+    )?;
+    check_plain(rt, alloc, info, &store, damage.part, damage.out)
+}
+
+#[test]
+fn tells_damaged_shards(rt: HostRuntime) -> Result<(), Fail> {
+    let alloc = rt.alloc();
+    for damage in &DAMAGES {
+        check_damage(&rt, alloc, SIX_CELLS, &SIX_CHUNKS, damage)?;
+    }
+    for damage in &TWO_DAMAGES {
+        check_damage(&rt, alloc, TWO_MINISHARDS, &TWO_INDEXES, damage)?;
+    }
+    for damage in &ONE_DAMAGES {
+        check_damage(&rt, alloc, ONE_MINISHARD, &ONE_INDEX, damage)?;
+    }
+    Ok(())
+}
+
+// A cutout of all six cells, a call of the store failing.
+fn check_failing<R: Threads + Wait + Abort + Sync>(
+    rt: &R,
+    alloc: Global,
+    failing: u64,
+    status: u8,
+    out: &[u8],
+    err: &str,
+) -> Result<(), Fail> {
+    let mut store = store_of(alloc, SIX_CELLS, &SIX_CHUNKS, failing)?;
+    check_cutout(rt, alloc, &mut store, "[0:11,0:1,0:1]", status, out, err)
+}
+
+// Objects, and what a cutout of both voxels gives.
+fn check_objects<R: Threads + Wait + Abort + Sync>(
+    rt: &R,
+    alloc: Global,
+    info: &str,
+    objects: &[(&str, &[u8])],
+    out: &[u8],
+) -> Result<(), Fail> {
+    let mut store = MemoryStore::new(alloc, Vec::new(alloc));
+    put(alloc, &mut store, "d/info", info.as_bytes())?;
+    for (name, bytes) in objects {
+        put(alloc, &mut store, name, bytes)?;
+    }
+    check_cutout(rt, alloc, &mut store, "[0:2,0:1,0:1]", 0, out, "")?;
+    check_plain(rt, alloc, info, &store, "[0:2,0:1,0:1]", out)
+}
+
+#[test]
+fn finds_shards_by_their_names(rt: HostRuntime) -> Result<(), Fail> {
+    let alloc = rt.alloc();
+    for (info, objects, out) in &OBJECTS {
+        check_objects(&rt, alloc, info, objects, out)?;
+    }
+    // The document, and for each of the six cells its entry, the three columns of its index, its shard's length and
+    // its chunk.
+    for failing in 0..37 {
+        check_failing(&rt, alloc, failing, 5, &[], "store fault\n")?;
+    }
+    let values = [1, 2, 3, 4, 5, 6, 7, 8, 9, 10, 11];
+    check_failing(&rt, alloc, 37, 0, &values, "")
+}
