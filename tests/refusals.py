@@ -102,7 +102,7 @@ def with_loop(name):
 
 def with_pipe(name):
     def arrange(folder):
-        (folder / name).unlink()
+        (folder / name).unlink(missing_ok=True)
         os.mkfifo(folder / name)
 
     return arrange
