@@ -1,4 +1,11 @@
 pub mod CellLens
+pub mod CountSteps
+pub mod JobSteps
 pub mod ListedSteps
+pub mod ObjectSteps
+pub mod PlaceSteps
+pub mod PlannedSteps
 pub mod PutSteps
+pub mod StateSteps
 pub mod WindowSteps
+pub mod WorkSteps

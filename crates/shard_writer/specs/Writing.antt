@@ -1,5 +1,5 @@
 -- What a writer of a scale puts into a store.
-use Rattle.std.specs.Prelude.{◌≡◌, ◌≢◌, ◌⊎◌, ℕ, ◌≤◌, length, map, take, Option, Some, None, IfSome, Result, Ok, Err, IsErrOf}
+use Rattle.std.specs.Prelude.{◌≡◌, ◌≢◌, ◌⊎◌, ℕ, ◌≤◌, length, map, replicate, take, Option, Some, None, IfSome, Result, Ok, Err, IsErrOf}
 use Rattle.std.specs.List.{range_with_len, sum_by}
 use Rattle.vol_base.specs.Causes.{Rose}
 use Rattle.vol_base.specs.Outside.{Draft, Objects}
@@ -7,26 +7,43 @@ use Rattle.vol_base.specs.declared.faults.Fault.{Fault}
 use Rattle.vol_spec.specs.Encodings.{raw_size}
 use Rattle.vol_spec.specs.StoredCells.{cell_of, put_in}
 use Rattle.vol_spec.specs.StoredLists.{stored_list}
-use Rattle.vol_spec.specs.Types.{Cell, Chunks, Listed, Name}
+use Rattle.vol_spec.specs.Types.{Bytes, Cell, Chunks, Listed, Name}
 use Rattle.write_plan.specs.Jobs.{Work, jobs_fault}
 use Rattle.shard_writer.specs.declared.written.WriteFault.{WriteFault}
 use Rattle.shard_writer.specs.declared.written.WriteFault.TheVariants.{StoreFault, Damaged, OutOfMemory}
 
--- the chunks of jobs over objects: the cell of each with its raw bytes
+-- the chunks of jobs: the cell of each with its raw bytes
+abbrev pub chunks_with : Work → (ℕ → Bytes) → Chunks
+chunks_with work raw = map (λ job. (cell_of work.cells job, raw job)) (range_with_len 0 (length work.cells))
+
+-- and over objects
 abbrev pub job_chunks : Work → Objects → Chunks
-job_chunks work m = map (λ job. (cell_of work.cells job, work.raw m job)) (range_with_len 0 (length work.cells))
+job_chunks work m = chunks_with work (work.raw m)
 
 -- the objects that the jobs' chunks are stored as
 abbrev pub job_objects : Name → Work → Objects → Listed
 job_objects dataset work m = stored_list dataset work.scale (job_chunks work m)
 
+-- how many bytes the values of a job's cell have
+abbrev pub job_len : Work → ℕ → ℕ
+job_len work job = raw_size work.scale (cell_of work.cells job)
+
+-- the raw bytes of jobs over objects; where none are told, as many zeros
+abbrev pub raw_in : Option Objects → (Objects → ℕ → Bytes) → (ℕ → ℕ) → ℕ → Bytes
+raw_in None raw len job = replicate (len job) 0
+raw_in (Some m) raw len job = raw m job
+
+-- the objects that the jobs' chunks are stored as, of which only the number and the lengths are known where no objects are told
+abbrev pub told_objects : Name → Work → Option Objects → Listed
+told_objects dataset work o = stored_list dataset work.scale (chunks_with work (raw_in o work.raw (job_len work)))
+
+-- how many bytes objects have together
+abbrev pub joint_len : Listed → ℕ
+joint_len list = sum_by (λ (o : Name × Bytes). length o.1) list
+
 -- the first fault of all jobs
 abbrev pub first_of_jobs : Work → Objects → Option (Cell × Fault)
 first_of_jobs work m = jobs_fault work m 0 (length work.cells)
-
--- how many bytes the values of the jobs' cells have
-abbrev pub raw_total : Work → ℕ
-raw_total work = sum_by (raw_size work.scale) work.cells
 
 -- a front of some objects was put in
 pub record PutsFront (list : Listed) (old : Objects) (new : Option Objects) : Type 0 where

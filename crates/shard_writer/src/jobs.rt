@@ -11,6 +11,7 @@ ghost use Rattle.vol_spec.specs.StoredCells.{cell_of, put_in};
 ghost use Rattle.shard_writer.specs.Plain.{bytes_in, bytes_from, objects_from};
 ghost use Rattle.shard_writer.specs.Writing.{Drops, PutsFront};
 
+use crate::steps::find_job;
 use chunk_grid::{byte_len, cell_box, object_name};
 use vol_base::{Name, Store, StoreRefusal};
 use vol_spec::Scale;
@@ -28,17 +29,17 @@ fn put_object<S: Store>(store: &mut S, name: &Name, bytes: &[u8]) -> Result<(), 
     store.finish()
 }
 
-// The cell of a job.
-fn find_cell<C: Chunks>(chunks: &C, job: u64) -> [u64; 3]
+/// The cell of a job.
+pub(crate) fn find_cell<C: Chunks>(chunks: &C, job: u64) -> [u64; 3]
     requires { job < length (C.work chunks.now).cells }
     ensures cell { result ≡ cell_of (C.work chunks.now).cells job }
     ensures in_grid { IsCell (C.work chunks.now).scale result }
 {
-    chunks.jobs().get(job).cell
+    find_job(chunks, job).cell
 }
 
-// How many bytes the values of a cell have.
-fn find_len(scale: &Scale, cell: [u64; 3]) -> usize
+/// How many bytes the values of a cell have.
+pub(crate) fn find_len(scale: &Scale, cell: [u64; 3]) -> usize
     requires { IsCell scale.now cell }
     ensures len { result ≡ raw_size scale.now cell }
     ensures first { result ≤ first_bytes scale.now.width scale.now.channels scale.now.size scale.now.chunk }
@@ -47,8 +48,8 @@ fn find_len(scale: &Scale, cell: [u64; 3]) -> usize
     byte_len(&cell_box(scale, cell), scale.channels, scale.width) as usize
 }
 
-// Puts the raw bytes of a job that is prepared.
-fn fill_job<C: Chunks>(chunks: &C, job: u64, raw: &mut [u8])
+/// Puts the raw bytes of a job that is prepared.
+pub(crate) fn fill_job<C: Chunks>(chunks: &C, job: u64, raw: &mut [u8])
     requires ready { IsSome (C.ready chunks.now job) }
     requires len { length raw.old ≡ raw_size (C.work chunks.now).scale (cell_of (C.work chunks.now).cells job) }
     ensures { raw.new ≡ bytes_in (C.ready chunks.now job) }

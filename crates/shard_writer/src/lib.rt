@@ -2,9 +2,13 @@
 #![tactic(auto)]
 
 mod jobs;
+mod runs;
 mod scale;
+mod sharded;
+mod steps;
 #[cfg(test)]
 mod tests;
+mod windows;
 mod written;
 
 pub use scale::write_scale;

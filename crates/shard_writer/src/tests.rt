@@ -1,15 +1,18 @@
 //! Objects worked out by hand, from the format's names and its order of values.
 
-ghost use Rattle.std.specs.Prelude.{◌≡◌, None, IfOk};
+ghost use Rattle.std.specs.Prelude.{◌≡◌, ◌≤◌, IfOk};
 ghost use Rattle.vol_spec.specs.declared.encoding.Encoding.TheVariants.{Raw};
 
 use crate::{WriteFault, Written, write_scale};
+use chunk_grid::grid;
 use small_scales::{raw_scale, short_name};
 use std::alloc::{AllocError, Global};
 use std::process::Abort;
+use std::sync::Wait;
 use std::test::Fail;
-use vol_base::{Box3, MemoryFeed, MemoryStore};
-use vol_spec::Scale;
+use std::thread::Threads;
+use vol_base::{Box3, FreeGate, MemoryFeed, MemoryStore};
+use vol_spec::{HashKind, Scale, Sharding};
 use write_plan::{Chunks, Plan, read_writes};
 
 // The stream of some writes.
@@ -30,7 +33,6 @@ fn print_stream(alloc: Global, writes: &[(Box3, &[u8])]) -> Result<Vec<u8>, Allo
 
 // The plan of some writes.
 fn plan_of(alloc: Global, scale: &Scale, writes: &[(Box3, &[u8])]) -> Result<Plan, Fail>
-    requires { scale.now.sharding ≡ None }
     ensures { IfOk result (λ plan. plan.scale ≡ scale.now) }
 {
     let stream = print_stream(alloc, writes)?;
@@ -46,8 +48,8 @@ fn plan_of(alloc: Global, scale: &Scale, writes: &[(Box3, &[u8])]) -> Result<Pla
 
 // Writing some writes into a store one of whose calls fails answers this, and leaves so many of these objects:
 // those in front.
-fn check_scale(
-    rt: &impl Abort,
+fn check_scale<R: Threads + Wait + Abort + Sync>(
+    rt: &R,
     alloc: Global,
     scale: &Scale,
     writes: &[(Box3, &[u8])],
@@ -56,14 +58,15 @@ fn check_scale(
     objects: &[(&[u8], &[u8])],
     stand: u64,
 ) -> Result<(), Fail>
-    requires unsharded { scale.now.sharding ≡ None }
-    requires raw { scale.now.encoding ≡ Raw }
+    requires { scale.now.encoding ≡ Raw }
 {
     let mut plan = plan_of(alloc, scale, writes)?;
     let mut store = MemoryStore::new(alloc, Vec::from_slice(alloc, &[failing])?);
     let dataset = short_name(b"d").expect(rt, "a data set");
     assert!(rt; plan.jobs().len() <= 1 << 22);
-    let answer = write_scale(alloc, &mut store, &dataset, scale, &mut plan);
+    let answer = write_scale(
+        rt, alloc, &mut store, &dataset, scale, &mut plan, 1, &FreeGate,
+    );
     assert_eq!(rt; answer, wanted);
     for (number, (text, bytes)) in objects.iter().enumerate() {
         let left = if (number as u64) < stand {
@@ -175,6 +178,163 @@ fn writes_a_second_window(rt: HostRuntime) -> Result<(), Fail> {
         (770, fault, 1),
     ] {
         check_scale(&rt, alloc, &scale, &[all], call, wanted, &some, stand)?;
+    }
+    Ok(())
+}
+
+// The scale with its chunks in shards, by the plain bits of their ids.
+fn in_shards(rt: &impl Abort, scale: &Scale, minishard_bits: u32, shard_bits: u32) -> Scale
+    requires minishards { minishard_bits ≤ 24 }
+    requires shards { shard_bits ≤ 40 }
+    ensures { result.encoding ≡ scale.now.encoding }
+{
+    assert!(rt; grid(scale).bits() <= 64);
+    Scale {
+        key: scale.key.duplicate(),
+        width: scale.width,
+        channels: scale.channels,
+        size: scale.size,
+        offset: scale.offset,
+        chunk: scale.chunk,
+        encoding: scale.encoding,
+        sharding: Some(Sharding {
+            preshift: 0,
+            hash: HashKind::Identity,
+            minishard_bits,
+            shard_bits,
+        }),
+    }
+}
+
+// Four cells of a voxel each.
+const ROW: [u64; 3] = [4, 1, 1];
+
+const ZERO: &[u8] = b"d/s/0.shard";
+
+const ONE: &[u8] = b"d/s/1.shard";
+
+// Two minishards with one chunk each: entries, and each chunk before its index.
+const LOW: [u8; 82] = [
+    1, 0, 0, 0, 0, 0, 0, 0, 25, 0, 0, 0, 0, 0, 0, 0, // entries
+    26, 0, 0, 0, 0, 0, 0, 0, 50, 0, 0, 0, 0, 0, 0, 0, //
+    10, 0, 0, 0, 0, 0, 0, 0, 0, 0, 0, 0, 0, 0, 0, 0, 0, 1, 0, 0, 0, 0, 0, 0, 0, // chunk 0
+    11, 1, 0, 0, 0, 0, 0, 0, 0, 25, 0, 0, 0, 0, 0, 0, 0, 1, 0, 0, 0, 0, 0, 0, 0, // chunk 1
+];
+
+const HIGH: [u8; 82] = [
+    1, 0, 0, 0, 0, 0, 0, 0, 25, 0, 0, 0, 0, 0, 0, 0, // entries
+    26, 0, 0, 0, 0, 0, 0, 0, 50, 0, 0, 0, 0, 0, 0, 0, //
+    12, 2, 0, 0, 0, 0, 0, 0, 0, 0, 0, 0, 0, 0, 0, 0, 0, 1, 0, 0, 0, 0, 0, 0, 0, // chunk 2
+    13, 3, 0, 0, 0, 0, 0, 0, 0, 25, 0, 0, 0, 0, 0, 0, 0, 1, 0, 0, 0, 0, 0, 0, 0, // chunk 3
+];
+
+// The first minishard is empty.
+const LAST: [u8; 57] = [
+    0, 0, 0, 0, 0, 0, 0, 0, 0, 0, 0, 0, 0, 0, 0, 0, // entries
+    1, 0, 0, 0, 0, 0, 0, 0, 25, 0, 0, 0, 0, 0, 0, 0, //
+    13, 3, 0, 0, 0, 0, 0, 0, 0, 0, 0, 0, 0, 0, 0, 0, 0, 1, 0, 0, 0, 0, 0, 0, 0, // chunk 3
+];
+
+// Two minishards with two chunks each.
+const BOTH: [u8; 132] = [
+    2, 0, 0, 0, 0, 0, 0, 0, 50, 0, 0, 0, 0, 0, 0, 0, // entries
+    52, 0, 0, 0, 0, 0, 0, 0, 100, 0, 0, 0, 0, 0, 0, 0, //
+    10, 12, // chunks 0 and 2
+    0, 0, 0, 0, 0, 0, 0, 0, 2, 0, 0, 0, 0, 0, 0, 0, // ids
+    0, 0, 0, 0, 0, 0, 0, 0, 0, 0, 0, 0, 0, 0, 0, 0, // starts
+    1, 0, 0, 0, 0, 0, 0, 0, 1, 0, 0, 0, 0, 0, 0, 0, // sizes
+    11, 13, // chunks 1 and 3
+    1, 0, 0, 0, 0, 0, 0, 0, 2, 0, 0, 0, 0, 0, 0, 0, // ids
+    50, 0, 0, 0, 0, 0, 0, 0, 0, 0, 0, 0, 0, 0, 0, 0, // starts
+    1, 0, 0, 0, 0, 0, 0, 0, 1, 0, 0, 0, 0, 0, 0, 0, // sizes
+];
+
+#[test]
+fn writes_each_shard(rt: HostRuntime) -> Result<(), Fail> {
+    let alloc = rt.alloc();
+    let key = short_name(b"s").expect(&rt, "a key");
+    let plain = raw_scale(key, 1, 1, ROW, [0; 3], [1; 3]).expect(&rt, "a scale");
+    let all = (part([0; 3], ROW), [10, 11, 12, 13].as_slice());
+    let last = (part([3, 0, 0], [1; 3]), [13].as_slice());
+    let two = in_shards(&rt, &plain, 1, 1);
+    let each = [(ZERO, LOW.as_slice()), (ONE, HIGH.as_slice())];
+    let wanted = Ok(Written {
+        objects: 2,
+        cells: 4,
+        bytes: 164,
+    });
+    check_scale(&rt, alloc, &two, &[last, all], 26, wanted, &each, 2)?;
+    let one = [(ONE, LAST.as_slice()), (ZERO, [].as_slice())];
+    let wanted = Ok(Written {
+        objects: 1,
+        cells: 1,
+        bytes: 57,
+    });
+    check_scale(&rt, alloc, &two, &[last], 8, wanted, &one, 1)?;
+    check_scale(&rt, alloc, &two, &[], 0, Ok(written(0, 0)), &each, 0)?;
+    let single = in_shards(&rt, &plain, 1, 0);
+    let wanted = Ok(Written {
+        objects: 1,
+        cells: 4,
+        bytes: 132,
+    });
+    check_scale(&rt, alloc, &single, &[all], 15, wanted, &[(ZERO, &BOTH)], 1)?;
+    Ok(())
+}
+
+#[test]
+fn leaves_whole_shards_at_each_failing_call(rt: HostRuntime) -> Result<(), Fail> {
+    let alloc = rt.alloc();
+    let key = short_name(b"s").expect(&rt, "a key");
+    let plain = raw_scale(key, 1, 1, ROW, [0; 3], [1; 3]).expect(&rt, "a scale");
+    let two = in_shards(&rt, &plain, 1, 1);
+    let all = (part([0; 3], ROW), [10, 11, 12, 13].as_slice());
+    let each = [(ZERO, LOW.as_slice()), (ONE, HIGH.as_slice())];
+    let fault = Err(WriteFault::StoreFault);
+    for call in 0..26 {
+        check_scale(&rt, alloc, &two, &[all], call, fault, &each, call / 13)?;
+    }
+    Ok(())
+}
+
+// A shard of one minishard, whose chunks of a byte each have the ids 0, 1, 2, ..
+fn print_shard(alloc: Global, values: &[u8]) -> Result<Vec<u8>, AllocError> {
+    let mut bytes = Vec::new(alloc);
+    bytes.extend_from_slice(&values.len().to_le_bytes())?;
+    bytes.extend_from_slice(&values.len().wrapping_mul(25).to_le_bytes())?;
+    bytes.extend_from_slice(values)?;
+    for (number, others) in [(0u64, 1u64), (0, 0), (1, 1)] {
+        for row in 0..values.len() {
+            let stored = if row == 0 { number } else { others };
+            bytes.extend_from_slice(&stored.to_le_bytes())?;
+        }
+    }
+    Ok(bytes)
+}
+
+#[test]
+fn writes_a_minishard_over_windows(rt: HostRuntime) -> Result<(), Fail> {
+    let alloc = rt.alloc();
+    // More cells in one minishard than are prepared at once.
+    let key = short_name(b"s").expect(&rt, "a key");
+    let size = [600, 1, 1];
+    let plain = raw_scale(key, 1, 1, size, [0; 3], [1; 3]).expect(&rt, "a scale");
+    let single = in_shards(&rt, &plain, 0, 0);
+    let mut values = vec![in alloc; 1; 600]?;
+    values[255] = 2;
+    values[256] = 3;
+    values[599] = 4;
+    let shard = print_shard(alloc, &values)?;
+    let all = (part([0; 3], size), values.as_slice());
+    let one = [(ZERO, shard.as_slice())];
+    let wanted = Ok(Written {
+        objects: 1,
+        cells: 600,
+        bytes: 15_016,
+    });
+    let fault = Err(WriteFault::StoreFault);
+    for (call, wanted, stand) in [(607, wanted, 1), (606, fault, 0), (258, fault, 0)] {
+        check_scale(&rt, alloc, &single, &[all], call, wanted, &one, stand)?;
     }
     Ok(())
 }

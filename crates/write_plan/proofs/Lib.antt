@@ -2,6 +2,7 @@ pub mod BoxSteps
 pub mod FeedSteps
 pub mod FillSteps
 pub mod FoundSteps
+pub mod KeySteps
 pub mod ListSteps
 pub mod NumberSteps
 pub mod OrderSteps

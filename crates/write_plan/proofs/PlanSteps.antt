@@ -16,15 +16,17 @@ use Rattle.vol_spec.specs.StoredLists.{in_key_order}
 use Rattle.vol_spec.specs.declared.scale.Scale.{Scale}
 use Rattle.chunk_grid.proofs.GridSteps.{cell_box-short}
 use Rattle.chunk_grid.proofs.ListingSteps.{Contains-filter}
+use Rattle.write_plan.specs.Jobs.{job_at, jobs_of}
 use Rattle.write_plan.specs.Pairs.{ArePairs, AreRead, IsPlan, run_of}
 use Rattle.write_plan.specs.Plans.{no_fault, Planned, planned_cells, ready_of}
 use Rattle.write_plan.specs.WriteLists.{BoxWrite, IsWriteOf}
+use Rattle.write_plan.specs.declared.jobs.Job.{Job}
 use Rattle.write_plan.specs.declared.pairs.Pair.{Pair}
 use Rattle.vol_spec.proofs.RawSteps.{length-written_raw}
-use Rattle.chunk_grid.proofs.JobOrder.{in_key_order-jobs, jobs_in_order}
 use Rattle.chunk_grid.proofs.OrderSteps.{cells_in_order}
 use Rattle.write_plan.specs.PlanLaws.{met_jobs}
 use Rattle.write_plan.proofs.FoundSteps.{cell_from}
+use Rattle.write_plan.proofs.KeySteps.{cell_at-jobs_of}
 use Rattle.write_plan.proofs.RunSteps.{number_from, same_number}
 
 -- a test holds of some element exactly where the filter keeps one
@@ -88,12 +90,12 @@ read_met s ws ps cells h read =
     let c : Contains (map (λ (pair : Pair). pair.number) ps) (cell_number s cell) = met_numbered s ws ps cell h is e in
     cell_from s cells cell read.order.each is (All-contains (Contains (map (cell_number s) cells)) (map (λ (pair : Pair). pair.number) ps) (cell_number s cell) (All-map (Contains (map (cell_number s) cells)) (λ (pair : Pair). pair.number) ps read.to) c))
 
-pub planned : (s t : Scale) (ws vs : List BoxWrite) (ps qs : List Pair) (cells : List (List ℕ)) → t ≡ s → ws ≡ vs → qs ≡ ps → s.sharding ≡ None → All (IsWriteOf s) ws → ArePairs s vs ps → AreRead s qs cells → IsPlan t ws cells ps
-planned s t ws vs ps qs cells es ew ep unsharded fits pairs read =
+pub planned : (s t : Scale) (ws vs : List BoxWrite) (ps qs : List Pair) (cells : List (List ℕ)) (jobs : List Job) → t ≡ s → ws ≡ vs → qs ≡ ps → All (IsWriteOf s) ws → ArePairs s vs ps → AreRead s qs cells
+    → jobs ≡ jobs_of s (in_key_order s cells) → IsPlan t ws jobs ps
+planned s t ws vs ps qs cells jobs es ew ep fits pairs read is =
     let own : ArePairs s ws ps = subst (λ (xs : List BoxWrite). ArePairs s xs ps) (sym ew) pairs in
     let met : cells ≡ met_cells s ws = read_met s ws ps cells own (subst (λ xs. AreRead s xs cells) ep read) in
-    subst (λ (x : Scale). IsPlan x ws cells ps) (sym es)
-    (record { fits = fits; ready = own; cells = sym (in_key_order-jobs s cells (jobs_in_order s cells unsharded read.order)) ∙ ap (in_key_order s) met })
+    subst (λ (x : Scale). IsPlan x ws jobs ps) (sym es) (record { fits = fits; ready = own; jobs_are = is ∙ ap (λ cs. jobs_of s (in_key_order s cs)) met })
 
 below_from : (a b : ℕ) → nat_lt a b ≡ true → a < b
 below_from a b e = grind (arith, nat_tests)
@@ -110,12 +112,23 @@ room_at s ws job n true e h =
     record { in_grid = (met_jobs s ws).each job [] low; len = sym h ∙ length-written_raw s zeros ws (cell_of (in_key_order s (met_cells s ws)) job) }
 room_at s ws job n false e h = absurd h
 
-pub room : (plan : Planned) (s : Scale) (ws : List BoxWrite) (jobs : List (List ℕ)) (cell : List ℕ) (job n : ℕ) → plan ≡ record { scale = s; writes = ws } → jobs ≡ in_key_order s (met_cells s ws) → cell ≡ cell_of jobs job
-    → IsSomeAnd (ready_of plan job) (λ bytes. length bytes ≡ n) → IsRoom s cell n
-room plan s ws jobs cell job n is all own h =
+-- the cell of a job
+own_cell : (s : Scale) (ws : List BoxWrite) (jobs : List Job) (own : Job) (job : ℕ) → jobs ≡ jobs_of s (in_key_order s (met_cells s ws)) → own ≡ job_at jobs job → job < length (in_key_order s (met_cells s ws))
+    → own.cell ≡ cell_of (in_key_order s (met_cells s ws)) job
+own_cell s ws jobs own job all is low = ap (λ (j : Job). j.cell) (is ∙ ap (λ (js : List Job). job_at js job) all) ∙ cell_at-jobs_of s (in_key_order s (met_cells s ws)) job low
+
+ready_low : (plan : Planned) (job n : ℕ) (b : Bool) → b ≡ nat_lt job (length (planned_cells plan))
+    → IsSomeAnd (if b then Some (written_raw plan.scale zeros plan.writes (cell_of (planned_cells plan) job)) else None) (λ bytes. length bytes ≡ n) → job < length (planned_cells plan)
+ready_low plan job n true e h = below_from job (length (planned_cells plan)) (sym e)
+ready_low plan job n false e h = absurd h
+
+pub room : (plan : Planned) (s : Scale) (ws : List BoxWrite) (jobs : List Job) (own : Job) (job n : ℕ) → plan ≡ record { scale = s; writes = ws } → jobs ≡ jobs_of s (in_key_order s (met_cells s ws)) → own ≡ job_at jobs job
+    → IsSomeAnd (ready_of plan job) (λ bytes. length bytes ≡ n) → IsRoom s own.cell n
+room plan s ws jobs own job n is all own_is h =
     let whole : Planned = record { scale = s; writes = ws } in
     let ready : IsSomeAnd (ready_of whole job) (λ bytes. length bytes ≡ n) = subst (λ (p : Planned). IsSomeAnd (ready_of p job) (λ bytes. length bytes ≡ n)) is h in
-    subst (λ (c : List ℕ). IsRoom s c n) (sym (own ∙ ap (λ (cs : List (List ℕ)). cell_of cs job) all)) (room_at s ws job n (nat_lt job (length (in_key_order s (met_cells s ws)))) refl ready)
+    let low : job < length (in_key_order s (met_cells s ws)) = ready_low whole job n (nat_lt job (length (planned_cells whole))) refl ready in
+    subst (λ (c : List ℕ). IsRoom s c n) (sym (own_cell s ws jobs own job all own_is low)) (room_at s ws job n (nat_lt job (length (in_key_order s (met_cells s ws)))) refl ready)
 
 -- no job has a fault
 pub none_first : (plan : Planned) (m : Objects) (xs : List ℕ) → first_some (map (no_fault plan m) xs) ≡ None
@@ -123,8 +136,9 @@ none_first plan m [] = refl
 none_first plan m (x ∷ xs) = none_first plan m xs
 
 -- a job below the number of jobs, and room for its bytes
-pub job_in_grid : (s : Scale) (ws : List BoxWrite) (jobs : List (List ℕ)) (cell : List ℕ) (job : ℕ) → jobs ≡ in_key_order s (met_cells s ws) → cell ≡ cell_of jobs job → job < length (in_key_order s (met_cells s ws)) → IsCell s cell
-job_in_grid s ws jobs cell job all own low = subst (IsCell s) (sym (own ∙ ap (λ (cs : List (List ℕ)). cell_of cs job) all)) ((met_jobs s ws).each job [] low)
+pub job_in_grid : (s : Scale) (ws : List BoxWrite) (jobs : List Job) (own : Job) (job : ℕ) → jobs ≡ jobs_of s (in_key_order s (met_cells s ws)) → own ≡ job_at jobs job → job < length (in_key_order s (met_cells s ws))
+    → IsCell s own.cell
+job_in_grid s ws jobs own job all is low = subst (IsCell s) (sym (own_cell s ws jobs own job all is low)) ((met_jobs s ws).each job [] low)
 
 below_true : (a b : ℕ) → a < b → nat_lt a b ≡ true
 below_true a b h = grind (arith, nat_tests)
@@ -134,11 +148,11 @@ ready_at : (s : Scale) (ws : List BoxWrite) (job n : ℕ) (b : Bool) → b ≡ t
 ready_at s ws job n true e len = length-written_raw s zeros ws (cell_of (in_key_order s (met_cells s ws)) job) ∙ sym len
 ready_at s ws job n false e len = absurd (cc e)
 
-pub job_room : (plan : Planned) (jobs : List (List ℕ)) (cell : List ℕ) (job n : ℕ) → jobs ≡ planned_cells plan → cell ≡ cell_of jobs job → job < length (planned_cells plan)
-    → n ≡ raw_len (cell_box plan.scale cell) plan.scale.channels plan.scale.width → IsSomeAnd (ready_of plan job) (λ bytes. length bytes ≡ n)
-job_room plan jobs cell job n all own low len =
+pub job_room : (plan : Planned) (jobs : List Job) (own : Job) (job n : ℕ) → jobs ≡ jobs_of plan.scale (planned_cells plan) → own ≡ job_at jobs job → job < length (planned_cells plan)
+    → n ≡ raw_len (cell_box plan.scale own.cell) plan.scale.channels plan.scale.width → IsSomeAnd (ready_of plan job) (λ bytes. length bytes ≡ n)
+job_room plan jobs own job n all is low len =
     ready_at plan.scale plan.writes job n (nat_lt job (length (planned_cells plan))) (below_true _ _ low)
-    (len ∙ ap (λ (c : List ℕ). raw_len (cell_box plan.scale c) plan.scale.channels plan.scale.width) (own ∙ ap (λ (cs : List (List ℕ)). cell_of cs job) all))
+    (len ∙ ap (λ (c : List ℕ). raw_len (cell_box plan.scale c) plan.scale.channels plan.scale.width) (own_cell plan.scale plan.writes jobs own job all is low))
 
 -- the counted bytes of a cell
 pub record IsCounted (s : Scale) (cell : List ℕ) (n : ℕ) : Type 0 where

@@ -1,5 +1,5 @@
 -- The jobs of a writer, and what preparing them answers.
-use Rattle.std.specs.Prelude.{◌≡◌, ◌≢◌, ℕ, ◌/◌, ◌^◌, ◌≤◌, ◌<◌, min, max, List, length, map, Option, Some, None, Result, Ok, Err, ⊤, IsErrOf}
+use Rattle.std.specs.Prelude.{◌≡◌, ◌≢◌, ℕ, ◌/◌, ◌^◌, ◌≤◌, ◌<◌, min, max, List, [], length, map, slice_index_or, Option, Some, None, Result, Ok, Err, ⊤, IsErrOf}
 use Rattle.std.specs.FinMap as fin
 use Rattle.std.specs.List.{range_with_len}
 use Rattle.vol_base.specs.Causes.{Rose}
@@ -7,13 +7,41 @@ use Rattle.vol_base.specs.Outside.{Objects}
 use Rattle.vol_base.specs.declared.faults.Fault.{Fault}
 use Rattle.vol_spec.specs.BoxValues.{first_some}
 use Rattle.vol_spec.specs.Encodings.{raw_size}
+use Rattle.vol_spec.specs.Grid.{IsCell}
 use Rattle.vol_spec.specs.Limits.{first_bytes, limit_of}
+use Rattle.vol_spec.specs.Places.{id_of, minishard_of, shard_of}
 use Rattle.vol_spec.specs.StoredBytes.{object_of}
 use Rattle.vol_spec.specs.StoredCells.{cell_of}
 use Rattle.vol_spec.specs.Types.{Bytes, Cell, Name}
 use Rattle.vol_spec.specs.declared.scale.Scale.{Scale}
+use Rattle.vol_spec.specs.declared.sharding.Sharding.{Sharding}
+use Rattle.write_plan.specs.declared.jobs.Job.{Job}
 use Rattle.write_plan.specs.declared.chunks.PrepareFault.{PrepareFault}
-use Rattle.write_plan.specs.declared.chunks.PrepareFault.TheVariants.{StoreFault, Damaged, OutOfMemory}
+use Rattle.write_plan.specs.declared.chunks.PrepareFault.TheVariants.{StoreFault, Damaged}
+
+-- The job of a cell: with the id of its chunk and the place of the id in a sharded scale; in an unsharded one all three numbers are 0.
+abbrev pub job_by : Option Sharding → Scale → Cell → Job
+job_by None s cell = record { cell = cell; id = 0; place = record { shard = 0; minishard = 0 } }
+job_by (Some sharding) s cell =
+    record { cell = cell; id = id_of s cell; place = record { shard = shard_of sharding (id_of s cell); minishard = minishard_of sharding (id_of s cell) } }
+
+abbrev pub job_of : Scale → Cell → Job
+job_of s cell = job_by s.sharding s cell
+
+abbrev pub jobs_of : Scale → List Cell → List Job
+jobs_of s cells = map (job_of s) cells
+
+-- the job of a cell of the grid
+pub record IsJob (s : Scale) (job : Job) : Type 0 where
+  pub in_grid : IsCell s job.cell
+  pub is : job ≡ job_of s job.cell
+
+abbrev pub cells_in : List Job → List Cell
+cells_in jobs = map (λ (job : Job). job.cell) jobs
+
+-- a job of a list of jobs
+abbrev pub job_at : List Job → ℕ → Job
+job_at jobs n = slice_index_or jobs n (record { cell = []; id = 0; place = record { shard = 0; minishard = 0 } })
 
 -- jobs: the cells of a scale, and over objects the raw bytes of each job's cell, and its fault with the cell that has it, or none
 pub record Work : Type 0 where
@@ -53,12 +81,11 @@ frame_len s = max (first_bytes s.width s.channels s.size s.chunk) (limit_of s.en
 abbrev pub window_of : Scale → ℕ
 window_of s = max 2 (min 256 (2 ^ 28 / frame_len s))
 
--- jobs are prepared exactly where none has a fault, and the first fault is told, but for a store that fails and want of memory
+-- jobs are prepared exactly where none has a fault, and the first fault is told, but for a store that fails
 abbrev pub Prepares : Result ⊤ PrepareFault → Option (List ℕ × Fault) → Type 0
 Prepares (Ok done) first = first ≡ None
 Prepares (Err StoreFault) first = Unit {0}
 Prepares (Err (Damaged cell fault)) first = first ≡ Some (cell, fault)
-Prepares (Err OutOfMemory) first = Unit {0}
 
 -- the store's count of faults doesn't fall, and a fault of the store comes only where it rose
 pub record HasPrepareCause {A : Type 0} (before now : ℕ) (result : Result A PrepareFault) : Type 0 where

@@ -1,5 +1,6 @@
 pub mod Fills
 pub mod Jobs
+pub mod Orders
 pub mod Pairs
 pub mod PlanLaws
 pub mod Plans

@@ -7,7 +7,9 @@ use Rattle.vol_spec.specs.StoredCells.{AreInOrder, cell_number, met_cells}
 use Rattle.vol_spec.specs.StoredLists.{in_key_order}
 use Rattle.vol_spec.specs.Types.{Cell}
 use Rattle.vol_spec.specs.declared.scale.Scale.{Scale}
+use Rattle.write_plan.specs.Jobs.{jobs_of}
 use Rattle.write_plan.specs.WriteLists.{BoxWrite, IsWriteOf}
+use Rattle.write_plan.specs.declared.jobs.Job.{Job}
 use Rattle.write_plan.specs.declared.pairs.Pair.{Pair}
 
 -- how many cells the grid has
@@ -44,7 +46,7 @@ pub record AreRead (s : Scale) (ps : List Pair) (cells : List Cell) : Type 0 whe
   pub to : All (λ (pair : Pair). Contains (map (cell_number s) cells) pair.number) ps
 
 -- what a plan keeps: its writes are those of its scale, and its jobs are the cells that they meet, in the order of their keys
-pub record IsPlan (s : Scale) (writes : List BoxWrite) (jobs : List (List ℕ)) (ps : List Pair) : Type 0 where
+pub record IsPlan (s : Scale) (writes : List BoxWrite) (jobs : List Job) (ps : List Pair) : Type 0 where
   pub fits : All (IsWriteOf s) writes
   pub ready : ArePairs s writes ps
-  pub cells : jobs ≡ in_key_order s (met_cells s writes)
+  pub jobs_are : jobs ≡ jobs_of s (in_key_order s (met_cells s writes))

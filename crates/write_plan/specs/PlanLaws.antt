@@ -26,6 +26,9 @@ ready_fits plan job =
     some_fits (nat_lt job (length (planned_cells plan))) (written_raw plan.scale zeros plan.writes (cell_of (planned_cells plan) job)) _
     (length-written_raw plan.scale zeros plan.writes (cell_of (planned_cells plan) job))
 
+pub plan_fits : (plan : Planned) (job : ℕ) → FitsJob (work_of plan) job (written_raw plan.scale zeros plan.writes (cell_of (planned_cells plan) job))
+plan_fits plan job = length-written_raw plan.scale zeros plan.writes (cell_of (planned_cells plan) job)
+
 -- nothing that a plan tells depends on objects
 pub plan_keeps : (plan : Planned) (dataset : List ℕ) (s : Scale) → KeepsOthers dataset s (work_of plan)
 plan_keeps plan dataset s = record { raws = λ m bytes i j before behind other. refl; faults = λ m bytes i j before behind other. refl }

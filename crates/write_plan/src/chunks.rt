@@ -1,19 +1,18 @@
 //! Where a writer gets the bytes of its chunks.
 ghost use Rattle.std.specs.Prelude.{◌≡◌, ◌-◌, ◌<◌, ◌≤◌, List, ℕ, Option, length, IfSome, IsOk, IsSome, IsSomeAnd, OnOk, Some};
+ghost use Rattle.vol_base.specs.Outside.{Objects};
 ghost use Rattle.vol_spec.specs.StoredLists.{AreJobs};
 ghost use Rattle.vol_spec.specs.declared.scale.Scale.{Scale};
-ghost use Rattle.write_plan.specs.Jobs.{AreReady, FitsJob, HasPrepareCause, KeepsOthers, Prepares, Work, jobs_fault, window_of};
+ghost use Rattle.write_plan.specs.Jobs.{AreReady, FitsJob, HasPrepareCause, KeepsOthers, Prepares, Work, jobs_fault, jobs_of, window_of};
 
 use crate::jobs::JobList;
 use vol_base::{Fault, Store};
 
-/// Why jobs weren't prepared: the store failed, a chunk that they are made of has a fault, or memory
-/// ran out.
+/// Why jobs weren't prepared: the store failed, or a chunk that they are made of has a fault.
 #[derive(Clone, Copy, Debug, PartialEq, Eq)]
 pub enum PrepareFault {
     StoreFault,
     Damaged { cell: [u64; 3], fault: Fault },
-    OutOfMemory,
 }
 
 /// The chunks that a writer stores: jobs, and the raw bytes of each job's cell. Jobs are prepared
@@ -34,7 +33,7 @@ pub trait Chunks {
 
     /// The jobs.
     fn jobs(&self) -> &JobList
-        ensures { result.now ≡ (work self.now).cells };
+        ensures { result.now ≡ jobs_of (work self.now).scale (work self.now).cells };
 
     /// Prepares the jobs from one number up to, not with, another, at most a window of them.
     ///
@@ -65,6 +64,9 @@ pub trait Chunks {
 
     /// The bytes of a job that is prepared are as many as the values of its cell have.
     ghost fits: { (c : Self) (job : ℕ) → IfSome (ready c job) (FitsJob (work c) job) };
+
+    /// The raw bytes of a job over objects are as many, too.
+    ghost lens: { (c : Self) (m : Objects) (job : ℕ) → job < length (work c).cells → FitsJob (work c) job ((work c).raw m job) };
 
     /// Where the jobs are apart from a data set and a scale, storing one job's object leaves the raw
     /// bytes and the faults of the jobs in other objects.

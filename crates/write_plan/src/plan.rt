@@ -1,5 +1,5 @@
 //! Plans of overlapping writes.
-ghost use Rattle.std.specs.Prelude.{◌≡◌, ◌<◌, ◌^◌, ◌↔◌, ℕ, None, Err, All, IfOk};
+ghost use Rattle.std.specs.Prelude.{◌≡◌, ◌<◌, ◌^◌, ◌↔◌, ℕ, Err, All, IfOk};
 ghost use Rattle.vol_spec.specs.declared.scale.Scale.{Scale};
 ghost use Rattle.write_plan.specs.Plans.{pairs as count_of};
 ghost use Rattle.write_plan.specs.WriteLists.{IsWriteOf};
@@ -11,7 +11,7 @@ use crate::pairs::{Pair, count_pairs, find_cells, find_pairs};
 use crate::writes::Writes;
 use std::alloc::{AllocError, Global};
 use std::marker::Model;
-use vol_base::Store;
+use vol_base::{OutOfMemory, Store};
 use vol_spec::Scale;
 
 // The most pairs of a write and a cell that it meets.
@@ -47,14 +47,13 @@ impl Model for Plan {
 }
 
 impl Plan {
-    /// A plan of writes of an unsharded scale.
+    /// A plan of writes of a scale.
     ///
     /// # Errors
     /// `TooManyCells` exactly where there are more than 2^22 pairs of a write and a cell that it
     /// meets, with their number; and `OutOfMemory`.
     pub fn of(alloc: Global, scale: &Scale, writes: Writes) -> Result<Plan, PlanRefusal>
-        requires unsharded { scale.now.sharding ≡ None }
-        requires fits { All (IsWriteOf scale.now) writes }
+        requires { All (IsWriteOf scale.now) writes }
         ensures plan { IfOk result (λ plan. plan ≡ record { scale = scale.now; writes = writes }) }
         ensures too_many { (cells : ℕ) → (result ≡ Err (PlanRefusal.TooManyCells cells)) ↔ ((2 ^ 22 < count_of scale.now writes) × (cells ≡ count_of scale.now writes)) }
     {
@@ -63,7 +62,7 @@ impl Plan {
             return Err(PlanRefusal::TooManyCells { cells });
         }
         let pairs = find_pairs(alloc, scale, writes.list(), cells)?;
-        let jobs = JobList::of_ordered(find_cells(alloc, scale, &pairs)?);
+        let jobs = JobList::of(alloc, scale, find_cells(alloc, scale, &pairs)?)?;
         let scale = scale.duplicate();
         Ok(Plan {
             scale,
@@ -84,11 +83,21 @@ impl From<AllocError> for PlanRefusal {
     }
 }
 
+impl From<OutOfMemory> for PlanRefusal {
+    ghost use Rattle.write_plan.specs.declared.plan.PlanRefusal.TheVariants as refusals;
+
+    ghost from_gives = { λ _ e. e ≡ refusals.OutOfMemory };
+
+    fn from(_e: OutOfMemory) -> PlanRefusal {
+        PlanRefusal::OutOfMemory
+    }
+}
+
 impl Chunks for Plan {
     ghost use Rattle.std.specs.Prelude.{◌≡◌, ◌-◌, ◌≤◌, ℕ, IsOk, IsSome, OnOk, IfSome, length};
     ghost use Rattle.write_plan.specs.Jobs.{AreReady, HasPrepareCause, Prepares, jobs_fault};
     ghost use Rattle.write_plan.specs.Plans.{planned_cells, ready_of, work_of};
-    ghost use Rattle.write_plan.specs.PlanLaws.{met_jobs, plan_keeps, ready_fits};
+    ghost use Rattle.write_plan.specs.PlanLaws.{met_jobs, plan_fits, plan_keeps, ready_fits};
 
     ghost work = { work_of };
 
@@ -101,6 +110,8 @@ impl Chunks for Plan {
     ghost ordered = { λ plan. met_jobs plan.scale plan.writes };
 
     ghost fits = { ready_fits };
+
+    ghost lens = { λ plan m job low. plan_fits plan job };
 
     ghost kept = { λ plan dataset s apart. plan_keeps plan dataset s };
 

@@ -1,16 +1,16 @@
 //! Streams and their answers, worked out by hand from the format.
 
-ghost use Rattle.std.specs.Prelude.{◌≡◌, ◌<◌, None, length};
+ghost use Rattle.std.specs.Prelude.{◌≡◌, ◌<◌, length};
 ghost use Rattle.write_plan.specs.Plans.{planned_cells};
 
-use crate::{Chunks, Plan, PlanFault, PlanRefusal, Writes, read_writes, window};
-use chunk_grid::{byte_len, cell_box};
+use crate::{Chunks, Job, Plan, PlanFault, PlanRefusal, Writes, read_writes, window};
+use chunk_grid::{byte_len, cell_box, grid};
 use small_scales::{raw_scale, short_name};
 use std::alloc::{AllocError, Global};
 use std::process::Abort;
 use std::test::Fail;
 use vol_base::{Box3, MemoryFeed, MemoryStore};
-use vol_spec::Scale;
+use vol_spec::{HashKind, Scale, ShardPlace, Sharding};
 
 // One write of the bytes 1 to 4 to the box [0:2,0:2,0:1].
 const STREAM: [u8; 60] = [
@@ -194,9 +194,7 @@ fn check_plan(
     scale: &Scale,
     writes: &[(Box3, &[u8])],
     wanted: &[([u64; 3], [u8; 4])],
-) -> Result<(), Fail>
-    requires { scale.now.sharding ≡ None }
-{
+) -> Result<(), Fail> {
     let stream = print_stream(alloc, writes)?;
     let mut feed = MemoryFeed::new(stream, 64, Vec::new(alloc));
     let Ok(found) = read_writes(alloc, &mut feed, scale) else {
@@ -271,6 +269,97 @@ fn plans_overlapping_writes(rt: HostRuntime) -> Result<(), Fail> {
         &scale,
         &[middle, last],
         &[(left, [0, 9, 0, 0]), (right, [10, 0, 0, 13])],
+    )?;
+    Ok(())
+}
+
+// The scale with its chunks in two shards of two minishards, by the hash of their ids.
+fn in_shards(rt: &impl Abort, scale: &Scale) -> Scale {
+    assert!(rt; grid(scale).bits() <= 64);
+    Scale {
+        key: scale.key.duplicate(),
+        width: scale.width,
+        channels: scale.channels,
+        size: scale.size,
+        offset: scale.offset,
+        chunk: scale.chunk,
+        encoding: scale.encoding,
+        sharding: Some(Sharding {
+            preshift: 0,
+            hash: HashKind::Murmur,
+            minishard_bits: 1,
+            shard_bits: 1,
+        }),
+    }
+}
+
+// The plan of a write of a whole scale of a byte a cell has jobs of these cells, ids, shards and minishards.
+fn check_order(
+    rt: &impl Abort,
+    alloc: Global,
+    scale: &Scale,
+    wanted: &[([u64; 3], u64, u64, u64)],
+) -> Result<(), Fail> {
+    let values = zeros(alloc, wanted.len())?;
+    let whole = Box3 {
+        begin: scale.offset,
+        size: scale.size,
+    };
+    let stream = print_stream(alloc, &[(whole, values.as_slice())])?;
+    let mut feed = MemoryFeed::new(stream, 64, Vec::new(alloc));
+    let Ok(writes) = read_writes(alloc, &mut feed, scale) else {
+        return Err("the stream has no fault".into());
+    };
+    let Ok(plan) = Plan::of(alloc, scale, writes) else {
+        return Err("the plan has no refusal".into());
+    };
+    assert_eq!(rt; plan.jobs().len(), wanted.len() as u64);
+    for (number, (cell, id, shard, minishard)) in wanted.iter().enumerate() {
+        assert!(rt; (number as u64) < plan.jobs().len());
+        let place = ShardPlace {
+            shard: *shard,
+            minishard: *minishard,
+        };
+        let job = Job {
+            cell: *cell,
+            id: *id,
+            place,
+        };
+        assert_eq!(rt; plan.jobs().get(number as u64), job);
+    }
+    Ok(())
+}
+
+#[test]
+fn orders_jobs(rt: HostRuntime) -> Result<(), Fail> {
+    let alloc = rt.alloc();
+    let key = short_name(b"s").expect(&rt, "a key");
+    let plain = raw_scale(key, 1, 1, [3, 2, 1], [0; 3], [1; 3]).expect(&rt, "a scale");
+    check_order(
+        &rt,
+        alloc,
+        &plain,
+        &[
+            ([0, 0, 0], 0, 0, 0),
+            ([1, 0, 0], 0, 0, 0),
+            ([2, 0, 0], 0, 0, 0),
+            ([0, 1, 0], 0, 0, 0),
+            ([1, 1, 0], 0, 0, 0),
+            ([2, 1, 0], 0, 0, 0),
+        ],
+    )?;
+    check_order(
+        &rt,
+        alloc,
+        &in_shards(&rt, &plain),
+        &[
+            ([2, 0, 0], 4, 0, 0),
+            ([2, 1, 0], 6, 0, 0),
+            ([0, 0, 0], 0, 0, 1),
+            ([1, 1, 0], 3, 0, 1),
+            ([1, 0, 0], 1, 1, 0),
+            ([0, 1, 0], 2, 1, 0),
+        ],
     )?;
     Ok(())
 }
