@@ -1,13 +1,20 @@
-//! The cutout of a sharded scale as an ordinary Rust program does it, for comparison: eight neighbouring chunks have one
-//! minishard, and MurmurHash3 places them in four minishards of each of two shards. The volumes many and few have one shard.
+//! Cutouts of a sharded scale, and writes into it, as an ordinary Rust program does them, for comparison: eight neighbouring
+//! chunks have one minishard, and MurmurHash3 places them in four minishards of each of two shards. The volumes many and few
+//! have one shard.
 //!
 //!     plain_sharded LAYOUT make DATASET                 writes the dataset, with the scale s
+//!     plain_sharded LAYOUT info DATASET                 writes its info alone
 //!     plain_sharded LAYOUT cutout DATASET KEY BOX       writes the values of the box to standard output
+//!     plain_sharded LAYOUT write DATASET KEY            reads a stream from standard input and writes its shards
 //!
-//! The shard and the index that were read last are kept. Each chunk is one pread, and is copied by rows.
+//! For a cutout the shard and the index that were read last are kept. Each chunk is one pread, and is copied by rows. A
+//! write reads the whole stream first. Each chunk is made in memory and appended to the shard's file, which ends in .part and
+//! is renamed; the entries are written last.
 
 #[allow(dead_code)]
 mod layout;
+#[allow(dead_code)]
+mod writes;
 
 use layout::{Layout, Noise, Spans};
 use std::collections::BTreeMap;
@@ -17,13 +24,18 @@ use std::os::fd::AsFd;
 use std::os::unix::fs::FileExt;
 use std::path::{Path, PathBuf};
 use std::process::ExitCode;
+use writes::{fill_chunk, met_cells, read_stream, BoxWrite};
 
 const PRESHIFT: u32 = 3;
 const MINISHARD_BITS: u32 = 2;
 const BASE: u64 = 16 << MINISHARD_BITS;
 
 fn shard_bits(layout: &Layout) -> u32 {
-    if layout.chunk == 32 { 0 } else { 1 }
+    if layout.chunk == 32 {
+        0
+    } else {
+        1
+    }
 }
 
 /// What the scale's info has beside the members of an unsharded one.
@@ -65,10 +77,8 @@ fn stir(h: [u32; 4]) -> [u32; 4] {
 /// The low eight bytes of MurmurHash3_x86_128 of a number's eight bytes.
 fn hash(value: u64) -> u64 {
     let low = (value as u32).wrapping_mul(0x239b961b).rotate_left(15).wrapping_mul(0xab0e9789);
-    let high = ((value >> 32) as u32)
-        .wrapping_mul(0xab0e9789)
-        .rotate_left(16)
-        .wrapping_mul(0x38b34ae5);
+    let high =
+        ((value >> 32) as u32).wrapping_mul(0xab0e9789).rotate_left(16).wrapping_mul(0x38b34ae5);
     let h = stir(stir([low ^ 8, high ^ 8, 8, 8]).map(finalize));
     h[0] as u64 | (h[1] as u64) << 32
 }
@@ -163,32 +173,115 @@ fn cut(layout: &Layout, folder: &Path, part: &Spans) -> io::Result<Vec<u8>> {
     Ok(out)
 }
 
-/// The bytes of a shard of chunks by minishard and id.
-fn shard_of(chunks: &BTreeMap<(u64, u64), Vec<u8>>) -> Vec<u8> {
-    let mut bytes = vec![0; BASE as usize];
-    for minishard in 0..1 << MINISHARD_BITS {
-        let rows: Vec<_> = chunks.range((minishard, 0)..(minishard + 1, 0)).collect();
-        if rows.is_empty() {
-            continue;
-        }
-        let first = bytes.len() as u64 - BASE;
-        rows.iter().for_each(|(_, chunk)| bytes.extend_from_slice(chunk));
-        let start = bytes.len() as u64 - BASE;
-        let mut last = 0;
-        for ((_, id), _) in &rows {
-            bytes.extend((id - last).to_le_bytes());
-            last = *id;
-        }
-        for row in 0..rows.len() {
-            bytes.extend((if row == 0 { first } else { 0 }).to_le_bytes());
-        }
-        rows.iter().for_each(|(_, chunk)| bytes.extend((chunk.len() as u64).to_le_bytes()));
-        let end = bytes.len() as u64 - BASE;
-        let entry = 16 * minishard as usize;
-        bytes[entry..entry + 8].copy_from_slice(&start.to_le_bytes());
-        bytes[entry + 8..entry + 16].copy_from_slice(&end.to_le_bytes());
+/// The bytes of the index of a minishard whose chunks begin at a place behind the entries, and the lengths of its chunks by
+/// ids.
+fn index_of(begin: u64, rows: &[(u64, u64)]) -> Vec<u8> {
+    let mut bytes = Vec::with_capacity(24 * rows.len());
+    let mut last = 0;
+    for (id, _) in rows {
+        bytes.extend((id - last).to_le_bytes());
+        last = *id;
     }
+    for row in 0..rows.len() {
+        bytes.extend((if row == 0 { begin } else { 0 }).to_le_bytes());
+    }
+    rows.iter().for_each(|(_, len)| bytes.extend(len.to_le_bytes()));
     bytes
+}
+
+/// A shard that is being written, minishard by minishard.
+struct ShardFile {
+    file: File,
+    entries: Vec<u8>,
+    end: u64,
+}
+
+impl ShardFile {
+    fn begin(path: &Path) -> io::Result<ShardFile> {
+        let mut file = File::create(path)?;
+        let entries = vec![0; BASE as usize];
+        file.write_all(&entries)?;
+        Ok(ShardFile { file, entries, end: 0 })
+    }
+
+    fn append(&mut self, bytes: &[u8]) -> io::Result<()> {
+        self.file.write_all(bytes)?;
+        self.end += bytes.len() as u64;
+        Ok(())
+    }
+
+    fn end_minishard(&mut self, minishard: u64, begin: u64, rows: &[(u64, u64)]) -> io::Result<()> {
+        let start = self.end;
+        self.append(&index_of(begin, rows))?;
+        let entry = 16 * minishard as usize;
+        self.entries[entry..entry + 8].copy_from_slice(&start.to_le_bytes());
+        self.entries[entry + 8..entry + 16].copy_from_slice(&self.end.to_le_bytes());
+        Ok(())
+    }
+
+    fn finish(self) -> io::Result<()> {
+        self.file.write_all_at(&self.entries, 0)
+    }
+}
+
+/// Something for each chunk of a shard, by minishard and id.
+type Placed<T> = BTreeMap<(u64, u64), T>;
+
+/// Writes a shard; `next` makes the bytes of a chunk.
+fn write_shard<T>(
+    folder: &Path,
+    shard: u64,
+    chunks: &Placed<T>,
+    mut next: impl FnMut(&T, &mut Vec<u8>),
+) -> io::Result<()> {
+    let path = folder.join(format!("{shard:x}.shard"));
+    let part = path.with_extension("part");
+    let mut file = ShardFile::begin(&part)?;
+    let mut chunk = Vec::new();
+    for minishard in 0..1 << MINISHARD_BITS {
+        let begin = file.end;
+        let mut rows = Vec::new();
+        for ((_, id), made_of) in chunks.range((minishard, 0)..(minishard + 1, 0)) {
+            next(made_of, &mut chunk);
+            file.append(&chunk)?;
+            rows.push((*id, chunk.len() as u64));
+        }
+        if !rows.is_empty() {
+            file.end_minishard(minishard, begin, &rows)?;
+        }
+    }
+    file.finish()?;
+    fs::rename(part, path)
+}
+
+/// Shards with something for each chunk.
+type Shards<T> = BTreeMap<u64, Placed<T>>;
+
+/// For each chunk that some write meets, its cell and the numbers of these writes.
+fn plan(layout: &Layout, writes: &[BoxWrite]) -> Shards<([usize; 3], Vec<usize>)> {
+    let mut plan = Shards::<([usize; 3], Vec<usize>)>::new();
+    for (number, cell) in met_cells(layout, writes) {
+        let id = code(layout.size / layout.chunk, cell);
+        let (shard, minishard) = place(shard_bits(layout), id);
+        let chunks = plan.entry(shard).or_default();
+        chunks.entry((minishard, id)).or_insert_with(|| (cell, Vec::new())).1.push(number);
+    }
+    plan
+}
+
+fn write(layout: &Layout, folder: &Path) -> io::Result<()> {
+    let writes = read_stream(layout, &mut io::stdin())?;
+    fs::create_dir_all(folder)?;
+    let plan = plan(layout, &writes);
+    for (shard, chunks) in &plan {
+        write_shard(folder, *shard, chunks, |(cell, numbers), chunk| {
+            chunk.resize(layout.bytes_of(&layout.cell_box(*cell)), 0);
+            fill_chunk(layout, &writes, numbers, *cell, chunk);
+        })?;
+    }
+    let cells: usize = plan.values().map(BTreeMap::len).sum();
+    println!("objects {} cells {cells}", plan.len());
+    Ok(())
 }
 
 fn make(layout: &Layout, dataset: &Path) -> io::Result<()> {
@@ -196,7 +289,7 @@ fn make(layout: &Layout, dataset: &Path) -> io::Result<()> {
     let folder = dataset.join("s");
     fs::create_dir_all(&folder)?;
     let mut noise = Noise::new();
-    let mut shards = BTreeMap::<u64, BTreeMap<(u64, u64), Vec<u8>>>::new();
+    let mut shards = Shards::<Vec<u8>>::new();
     let count = layout.size / layout.chunk;
     for cell in layout.cells(&[(0, layout.size); 3]) {
         let id = code(count, cell);
@@ -204,8 +297,8 @@ fn make(layout: &Layout, dataset: &Path) -> io::Result<()> {
         let chunk = noise.take(layout.bytes_of(&layout.cell_box(cell)));
         shards.entry(shard).or_default().insert((minishard, id), chunk);
     }
-    for (shard, chunks) in shards {
-        fs::write(folder.join(format!("{shard:x}.shard")), shard_of(&chunks))?;
+    for (shard, chunks) in &shards {
+        write_shard(&folder, *shard, chunks, |bytes, chunk| chunk.clone_from(bytes))?;
     }
     Ok(())
 }
@@ -218,6 +311,8 @@ fn write_out(values: &[u8]) -> io::Result<()> {
 fn main() -> ExitCode {
     layout::run_with(|layout, words| match *words {
         ["make", dataset] => Some(make(layout, Path::new(dataset))),
+        ["info", dataset] => Some(layout.make_info(Path::new(dataset), &members(layout))),
+        ["write", dataset, key] => Some(write(layout, &Path::new(dataset).join(key))),
         ["cutout", dataset, key, part] => {
             let part = parse_box(layout, part)?;
             let folder = Path::new(dataset).join(key);

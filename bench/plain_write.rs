@@ -12,58 +12,21 @@
 //! ends in .part, and renamed.
 
 mod layout;
+mod writes;
 
 use layout::{Layout, Noise, Spans};
 use std::collections::BTreeMap;
 use std::fs;
-use std::io::{self, Read, Write};
+use std::io::{self, Write};
 use std::path::Path;
 use std::process::ExitCode;
-
-/// A box, and the bytes of its values.
-type BoxWrite = (Spans, Vec<u8>);
-
-fn number(bytes: &[u8]) -> usize {
-    u64::from_le_bytes(bytes.try_into().unwrap()) as usize
-}
-
-fn read_write(layout: &Layout, feed: &mut impl Read) -> io::Result<BoxWrite> {
-    let mut head = [0; 48];
-    feed.read_exact(&mut head)?;
-    let part = [0, 1, 2].map(|axis| {
-        let begin = number(&head[8 * axis..8 * axis + 8]);
-        let size = number(&head[24 + 8 * axis..32 + 8 * axis]);
-        (begin, begin.saturating_add(size))
-    });
-    if part.iter().any(|(begin, end)| begin >= end || *end > layout.size) {
-        return Err(io::ErrorKind::InvalidData.into());
-    }
-    let mut values = vec![0; layout.bytes_of(&part)];
-    feed.read_exact(&mut values)?;
-    Ok((part, values))
-}
-
-fn read_stream(layout: &Layout, feed: &mut impl Read) -> io::Result<Vec<BoxWrite>> {
-    let mut head = [0; 8];
-    feed.read_exact(&mut head)?;
-    let count = u32::from_le_bytes([head[4], head[5], head[6], head[7]]);
-    if &head[..4] != b"PVW1" || count > 65536 {
-        return Err(io::ErrorKind::InvalidData.into());
-    }
-    let writes = (0..count).map(|_| read_write(layout, feed)).collect::<io::Result<Vec<_>>>()?;
-    match feed.read(&mut [0])? {
-        0 => Ok(writes),
-        _ => Err(io::ErrorKind::InvalidData.into()),
-    }
-}
+use writes::{fill_chunk, met_cells, read_stream, BoxWrite};
 
 /// For each cell that some write meets, z slowest, the numbers of these writes.
 fn plan(layout: &Layout, writes: &[BoxWrite]) -> BTreeMap<[usize; 3], Vec<usize>> {
     let mut plan: BTreeMap<_, Vec<usize>> = BTreeMap::new();
-    for (number, (part, _)) in writes.iter().enumerate() {
-        for [x, y, z] in layout.cells(part) {
-            plan.entry([z, y, x]).or_default().push(number);
-        }
+    for (number, [x, y, z]) in met_cells(layout, writes) {
+        plan.entry([z, y, x]).or_default().push(number);
     }
     plan
 }
@@ -81,10 +44,7 @@ fn write(layout: &Layout, folder: &Path) -> io::Result<()> {
     let mut chunk = vec![0; layout.bytes_of(&layout.cell_box([0, 0, 0]))];
     for ([z, y, x], numbers) in &plan {
         let cell = [*x, *y, *z];
-        chunk.fill(0);
-        for (part, values) in numbers.iter().map(|number| &writes[*number]) {
-            layout.copy_rows(part, values, &layout.cell_box(cell), &mut chunk);
-        }
+        fill_chunk(layout, &writes, numbers, cell, &mut chunk);
         put(&folder.join(layout.chunk_name(cell)), &chunk)?;
     }
     println!("objects {} cells {}", plan.len(), plan.len());

@@ -2,8 +2,10 @@
 # The cutout of a whole sharded scale by vol_tool and by the plain program beside this script, with the files in the page
 # cache and the output to a file: three tries in turn, the best of each. The scale is 512 x 512 x 512 bytes in chunks of
 # 64 x 64 x 64, eight neighbours in one minishard, and four minishards in each of two shards. Wanted: a ratio of at most
-# 1.5, and a peak of at most the box (128 MiB) and 32 MiB. Then the cutout of one chunk of 32 x 32 x 32 out of a shard of
-# 128 MiB and out of one of 864 KiB, in turn. Wanted: the first takes at most 1.1 times as long.
+# 1.5, and a peak of at most the box (128 MiB) and 32 MiB. Then writes of 40 boxes at random into the empty scale, five
+# tries. Wanted: a ratio of at most 1.5, and a peak of at most the stream, one chunk and 48 MiB; the shards are compared.
+# Then the cutout of one chunk of 32 x 32 x 32 out of a shard of 128 MiB and out of one of 864 KiB, in turn. Wanted: the
+# first takes at most 1.1 times as long.
 #
 #     bench/sharded.sh [PROGRAM]
 #
@@ -18,6 +20,15 @@ for box in '[0:512,0:512,0:512]' '[64:128,64:128,64:128]'; do
     echo "$box"
     python3 "$root/bench/compare.py" 3 "'$program' cutout bytes s $box" "./plain_sharded bytes cutout bytes s $box" || exit
 done
+
+rustc --edition 2021 -O -o plain_write "$root/bench/plain_write.rs" || exit
+./plain_sharded bytes info ours && ./plain_sharded bytes info plain && ./plain_write bytes stream boxes >stream || exit
+echo "write of boxes"
+python3 "$root/bench/compare.py" 5 "'$program' write ours s" './plain_sharded bytes write plain s' \
+    stream 'rm -rf ours/s plain/s' || exit
+"$program" write ours s <stream >/dev/null && ./plain_sharded bytes write plain s <stream >/dev/null || exit
+diff -r ours plain || exit
+rm -rf ours plain stream
 
 for name in many few; do
     ./plain_sharded $name make $name && cat $name/info $name/s/* >/dev/null || exit

@@ -22,7 +22,7 @@ use Rattle.shard_reader.specs.Readers.{Keeps}
 use Rattle.shard_reader.specs.Reading.{chunk_bytes, chunk_cost, Gets}
 use Rattle.shard_reader.specs.declared.bytes.LookupFault.{LookupFault}
 use Rattle.shard_reader.specs.declared.reader.ShardReader.{ShardReader}
-use Rattle.cutout.specs.Keeping.{cell_cost, front_of, KeepsBy, KeepsIndex}
+use Rattle.cutout.specs.Keeping.{cell_cost, front_of, KeepsBy, KeepsShards}
 
 -- what is held of an object, by a sharding or none
 abbrev held_as : Option Sharding → Scale → Cell → Option Bytes → Result (Option Bytes) Fault
@@ -152,12 +152,12 @@ own_cost None dataset s cell room old new e raw small h = tt
 own_cost (Some m) dataset s cell room old new e raw small h = costs_own m dataset s cell room old new e raw small h
 
 -- what is kept of an index, by the sharding
-pub keeps_as : (o : Option Objects) (dataset : Name) (s : Scale) (sharding : Sharding) (shards : ShardReader) → s.sharding ≡ Some sharding → KeepsIndex o dataset s shards
+pub keeps_as : (o : Option Objects) (dataset : Name) (s : Scale) (sharding : Sharding) (shards : ShardReader) → s.sharding ≡ Some sharding → KeepsShards o dataset s shards
     → Keeps o dataset s sharding shards
 keeps_as o dataset s sharding shards e h = subst (λ x. KeepsBy x o dataset s shards) e h
 
 pub keeps_index : (o : Option Objects) (dataset : Name) (s : Scale) (sharding : Sharding) (shards : ShardReader) → s.sharding ≡ Some sharding
-    → Keeps o dataset s sharding shards → KeepsIndex o dataset s shards
+    → Keeps o dataset s sharding shards → KeepsShards o dataset s shards
 keeps_index o dataset s sharding shards e h = subst (λ x. KeepsBy x o dataset s shards) (sym e) h
 
 -- what is kept rightly of every scale is kept rightly of one,
@@ -167,9 +167,9 @@ kept_by o dataset s None shards all = tt
 kept_by o dataset s (Some sharding) shards all = all o dataset s sharding
 
 pub keeps_none : (o : Option Objects) (dataset : Name) (s : Scale) (shards : ShardReader) → ((objects : Option Objects) (name : Name) (t : Scale) (sharding : Sharding) → Keeps objects name t sharding shards)
-    → KeepsIndex o dataset s shards
+    → KeepsShards o dataset s shards
 keeps_none o dataset s shards all = kept_by o dataset s s.sharding shards all
 
 -- and what is kept stays right where the objects do
-pub keeps_still : (o same : Option Objects) (dataset : Name) (s : Scale) (shards : ShardReader) → same ≡ o → KeepsIndex o dataset s shards → KeepsIndex same dataset s shards
-keeps_still o same dataset s shards e h = subst (λ x. KeepsIndex x dataset s shards) (sym e) h
+pub keeps_still : (o same : Option Objects) (dataset : Name) (s : Scale) (shards : ShardReader) → same ≡ o → KeepsShards o dataset s shards → KeepsShards same dataset s shards
+keeps_still o same dataset s shards e h = subst (λ x. KeepsShards x dataset s shards) (sym e) h

@@ -18,8 +18,8 @@ abbrev pub KeepsBy : Option Sharding → Option Objects → Name → Scale → S
 KeepsBy None objects dataset s shards = Unit {0}
 KeepsBy (Some sharding) objects dataset s shards = Keeps objects dataset s sharding shards
 
-abbrev pub KeepsIndex : Option Objects → Name → Scale → ShardReader → Type 0
-KeepsIndex objects dataset s shards = KeepsBy s.sharding objects dataset s shards
+abbrev pub KeepsShards : Option Objects → Name → Scale → ShardReader → Type 0
+KeepsShards objects dataset s shards = KeepsBy s.sharding objects dataset s shards
 
 -- the front of an object, where it is there
 abbrev pub front_of : ℕ → Option Bytes → Result (Option Bytes) Fault

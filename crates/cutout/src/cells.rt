@@ -10,7 +10,7 @@ ghost use Rattle.vol_spec.specs.Grid.{Inside, IsCell};
 ghost use Rattle.vol_spec.specs.Limits.{first_bytes};
 ghost use Rattle.vol_spec.specs.Raw.{raw_len};
 ghost use Rattle.vol_spec.specs.declared.encoding.Encoding.TheVariants.{Raw};
-ghost use Rattle.cutout.specs.Keeping.{cell_cost, KeepsIndex};
+ghost use Rattle.cutout.specs.Keeping.{cell_cost, KeepsShards};
 ghost use Rattle.cutout.specs.Reading.{placed, Reads, ReadsAll, Took};
 
 use crate::CutFault;
@@ -55,10 +55,10 @@ fn read_one<S: Source>(
     requires room { length chunk.old ≡ first_bytes scale.now.width scale.now.channels scale.now.size scale.now.chunk + 1 }
     requires len { length out.old ≡ raw_len part.now scale.now.channels scale.now.width }
     requires limit { length out.old ≤ 2 ^ 30 }
-    requires keeps { KeepsIndex (S.objects store.old) dataset.now scale.now shards.old }
+    requires keeps { KeepsShards (S.objects store.old) dataset.now scale.now shards.old }
     ensures read { IfSome (S.objects store.old) (λ m. Reads result (chunk_in m dataset.now scale.now cell)
         (Took scale.now cell part.now (chunk_in m dataset.now scale.now cell) out.old out.new)) }
-    ensures keeps { KeepsIndex (S.objects store.old) dataset.now scale.now shards.new }
+    ensures keeps { KeepsShards (S.objects store.old) dataset.now scale.now shards.new }
     ensures asked { IfSome (S.objects store.old) (λ m. S.asked store.new ≤ S.asked store.old + cell_cost m dataset.now scale.now cell) }
     ensures kept { OnlyReads (S.objects store.old) (S.objects store.new) (S.draft store.old) (S.draft store.new) }
     ensures later { S.faults store.old ≤ S.faults store.new }

@@ -10,7 +10,7 @@ ghost use Rattle.vol_spec.specs.Raw.{raw_len};
 ghost use Rattle.vol_spec.specs.StoredBytes.{stored_bytes};
 ghost use Rattle.vol_spec.specs.declared.encoding.Encoding.TheVariants.{Raw};
 ghost use Rattle.shard_reader.specs.Reading.{Gets};
-ghost use Rattle.cutout.specs.Keeping.{cell_cost, front_of, KeepsIndex};
+ghost use Rattle.cutout.specs.Keeping.{cell_cost, front_of, KeepsShards};
 ghost use Rattle.cutout.specs.Reading.{judged_found, Shows};
 
 use chunk_grid::{byte_len, cell_box, grid, object_name};
@@ -58,10 +58,10 @@ fn read_stored<S: Source>(
     requires raw { scale.now.encoding ≡ Raw }
     requires limit { limit ≡ cell_limit scale.now cell }
     requires room { length buffer.old ≡ limit + 1 }
-    requires keeps { KeepsIndex (S.objects store.old) dataset.now scale.now shards.old }
+    requires keeps { KeepsShards (S.objects store.old) dataset.now scale.now shards.old }
     ensures read { IfSome (S.objects store.old) (λ m. Gets result buffer.new (stored_bytes m dataset.now scale.now cell)) }
     ensures within { IfOk result (λ found. IfSome found (λ n. n ≤ length buffer.new)) }
-    ensures keeps { KeepsIndex (S.objects store.old) dataset.now scale.now shards.new }
+    ensures keeps { KeepsShards (S.objects store.old) dataset.now scale.now shards.new }
     ensures asked { IfSome (S.objects store.old) (λ m. S.asked store.new ≤ S.asked store.old + cell_cost m dataset.now scale.now cell) }
     ensures kept { OnlyReads (S.objects store.old) (S.objects store.new) (S.draft store.old) (S.draft store.new) }
     ensures later { S.faults store.old ≤ S.faults store.new }
@@ -113,9 +113,9 @@ pub(crate) fn read_chunk<S: Source>(
     requires raw { scale.now.encoding ≡ Raw }
     requires cell { IsCell scale.now cell }
     requires room { length buffer.old ≡ raw_size scale.now cell + 1 }
-    requires keeps { KeepsIndex (S.objects store.old) dataset.now scale.now shards.old }
+    requires keeps { KeepsShards (S.objects store.old) dataset.now scale.now shards.old }
     ensures shown { IfSome (S.objects store.old) (λ m. Shows result (take (raw_size scale.now cell) buffer.new) (chunk_in m dataset.now scale.now cell)) }
-    ensures keeps { KeepsIndex (S.objects store.old) dataset.now scale.now shards.new }
+    ensures keeps { KeepsShards (S.objects store.old) dataset.now scale.now shards.new }
     ensures asked { IfSome (S.objects store.old) (λ m. S.asked store.new ≤ S.asked store.old + cell_cost m dataset.now scale.now cell) }
     ensures kept { OnlyReads (S.objects store.old) (S.objects store.new) (S.draft store.old) (S.draft store.new) }
     ensures later { S.faults store.old ≤ S.faults store.new }

@@ -60,8 +60,7 @@ fn tell_bytes(bytes: &[u8])
 }
 
 impl Reader {
-    /// A reader of a scale of raw chunks. This call alone takes memory, and it is refused only where there
-    /// is none.
+    /// A reader of a scale of raw chunks. This call alone takes memory; where there is none, it is refused.
     pub fn open(alloc: Global, dataset: &Name, scale: &Scale) -> Result<Reader, OutOfMemory>
         requires dataset { length dataset.now ≤ 200 }
         requires raw { scale.now.encoding ≡ Raw }

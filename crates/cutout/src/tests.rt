@@ -60,35 +60,40 @@ fn sharded_scale(key: Name, sharding: Sharding) -> Scale
     }
 }
 
-// Cuts a box out, one of the store's calls failing: the answer, and where it is Ok these values; and how many bytes
-// were asked for.
+// A box, what cutting it out answers, the values where that is Ok, and how many bytes were asked for.
+#[derive(Drop)]
+struct Cut<'a> {
+    part: Box3,
+    answer: Result<(), CutFault>,
+    values: &'a [u8],
+    asked: u64,
+}
+
 fn check_cut(
     rt: &impl Abort,
     alloc: Global,
     scale: &Scale,
     store: &mut MemoryStore,
-    part: &Box3,
-    wanted: Result<(), CutFault>,
-    values: &[u8],
-    asked: u64,
+    cut: &Cut,
 ) -> Result<(), Fail>
     requires { scale.now.encoding ≡ Raw }
 {
     let dataset = short_name(b"d").expect(rt, "a data set");
     let mut reader = Reader::open(alloc, &dataset, scale)?;
-    let len = byte_len(part, scale.channels, scale.width);
+    let len = byte_len(&cut.part, scale.channels, scale.width);
     assert!(rt; len <= 64);
     let mut out = vec![in alloc; 9; len as usize]?;
-    let answer = reader.cutout(store, part, &mut out);
-    assert_eq!(rt; answer, wanted);
+    let before = store.asked();
+    let answer = reader.cutout(store, &cut.part, &mut out);
+    assert_eq!(rt; answer, cut.answer);
     assert_eq!(rt;
         answer.is_err_and(|fault| fault == CutFault::OutsideScale),
-        !inside(scale, part)
+        !inside(scale, &cut.part)
     );
     if answer.is_ok() {
-        assert!(rt; out.as_slice() == values);
+        assert!(rt; out.as_slice() == cut.values);
     }
-    assert_eq!(rt; store.asked(), asked);
+    assert_eq!(rt; store.asked().wrapping_sub(before), cut.asked);
     Ok(())
 }
 
@@ -131,64 +136,57 @@ const OUTSIDE: Box3 = Box3 {
     size: [3, 1, 1],
 };
 
+fn good(part: Box3, values: &[u8], asked: u64) -> Cut {
+    Cut {
+        part,
+        answer: Ok(()),
+        values,
+        asked,
+    }
+}
+
+fn bad(part: Box3, fault: CutFault, asked: u64) -> Cut<'static> {
+    Cut {
+        part,
+        answer: Err(fault),
+        values: &[],
+        asked,
+    }
+}
+
 #[test]
 fn cuts_boxes_out(rt: HostRuntime) -> Result<(), Fail> {
     let alloc = rt.alloc();
     let scale = row_scale(&rt);
-    let damaged = CutFault::Damaged {
-        cell: [1, 0, 0],
-        fault: Fault::Chunk(ChunkFault::ChunkLength {
-            found: 3,
-            wanted: 2,
-        }),
-    };
     let mut store = store_of(&rt, alloc, &[LEFT, MIDDLE, LAST], NONE_FAILS)?;
-    check_cut(
-        &rt,
-        alloc,
-        &scale,
-        &mut store,
-        &ALL,
-        Ok(()),
-        &[1, 2, 3, 4, 5],
-        8,
-    )?;
-    check_cut(
-        &rt,
-        alloc,
-        &scale,
-        &mut store,
-        &THREE,
-        Ok(()),
-        &[2, 3, 4],
-        14,
-    )?;
-    let outside = Err(CutFault::OutsideScale);
-    check_cut(&rt, alloc, &scale, &mut store, &OUTSIDE, outside, &[], 14)?;
+    let all = good(ALL, &[1, 2, 3, 4, 5], 8);
+    check_cut(&rt, alloc, &scale, &mut store, &all)?;
+    let three = good(THREE, &[2, 3, 4], 6);
+    check_cut(&rt, alloc, &scale, &mut store, &three)?;
+    let outside = bad(OUTSIDE, CutFault::OutsideScale, 0);
+    check_cut(&rt, alloc, &scale, &mut store, &outside)?;
     let mut store = store_of(&rt, alloc, &[LEFT, LAST], NONE_FAILS)?;
-    check_cut(
-        &rt,
-        alloc,
-        &scale,
-        &mut store,
-        &THREE,
-        Ok(()),
-        &[2, 0, 0],
-        6,
-    )?;
+    let absent = good(THREE, &[2, 0, 0], 6);
+    check_cut(&rt, alloc, &scale, &mut store, &absent)
+}
+
+#[test]
+fn tells_faults(rt: HostRuntime) -> Result<(), Fail> {
+    let alloc = rt.alloc();
+    let scale = row_scale(&rt);
+    let long = ChunkFault::ChunkLength {
+        found: 3,
+        wanted: 2,
+    };
+    let fault = CutFault::Damaged {
+        cell: [1, 0, 0],
+        fault: Fault::Chunk(long),
+    };
     let mut store = store_of(&rt, alloc, &[LEFT, LONG_MIDDLE], NONE_FAILS)?;
-    check_cut(&rt, alloc, &scale, &mut store, &THREE, Err(damaged), &[], 6)?;
+    check_cut(&rt, alloc, &scale, &mut store, &bad(THREE, fault, 6))?;
     let mut store = store_of(&rt, alloc, &[LEFT, MIDDLE, LAST], 1)?;
-    check_cut(
-        &rt,
-        alloc,
-        &scale,
-        &mut store,
-        &ALL,
-        Err(CutFault::StoreFault),
-        &[],
-        3,
-    )
+    let failed = bad(ALL, CutFault::StoreFault, 3);
+    check_cut(&rt, alloc, &scale, &mut store, &failed)
 }
 
 // Where the chunk of a cell of the reader's scale stands.
@@ -206,7 +204,8 @@ fn locate(
     reader.locate(store, cell)
 }
 
-// Where the chunk of a cell stands: the place and the length of it in its object, and the object's name.
+// Where the chunk of a cell stands: the place and the length of it in its object, and the object's name. Some bytes are
+// asked for.
 fn check_place(
     rt: &impl Abort,
     alloc: Global,
@@ -214,11 +213,13 @@ fn check_place(
     store: &mut MemoryStore,
     cell: [u64; 3],
     wanted: Option<(&[u8], u64, u64)>,
+    asked: u64,
 ) -> Result<(), Fail>
     requires { scale.now.encoding ≡ Raw }
 {
     let dataset = short_name(b"d").expect(rt, "a data set");
     let mut reader = Reader::open(alloc, &dataset, scale)?;
+    let before = store.asked();
     match (locate(rt, &mut reader, scale, store, cell), wanted) {
         (Ok(Found::Absent), None) => {}
         (Ok(Found::At { name, start, len }), Some((object, place, count))) => {
@@ -226,6 +227,30 @@ fn check_place(
             assert_eq!(rt; (start, len), (place, count));
         }
         _ => return Err("another place")?,
+    }
+    assert_eq!(rt; store.asked().wrapping_sub(before), asked);
+    Ok(())
+}
+
+// The chunk of the first cell isn't found, for this reason.
+fn check_lost(
+    rt: &impl Abort,
+    alloc: Global,
+    scale: &Scale,
+    store: &mut MemoryStore,
+    fault: ShardFault,
+) -> Result<(), Fail>
+    requires { scale.now.encoding ≡ Raw }
+{
+    let dataset = short_name(b"d").expect(rt, "a data set");
+    let mut reader = Reader::open(alloc, &dataset, scale)?;
+    let wanted = CutFault::Damaged {
+        cell: [0; 3],
+        fault: Fault::Shard(fault),
+    };
+    match locate(rt, &mut reader, scale, store, [0; 3]) {
+        Err(found) => assert_eq!(rt; found, wanted),
+        Ok(_) => return Err("a place")?,
     }
     Ok(())
 }
@@ -237,33 +262,30 @@ fn reads_shards(rt: HostRuntime) -> Result<(), Fail> {
     let scale = sharded_scale(key, one_minishard());
     let mut store = store_of(&rt, alloc, &[(SHARD, &BYTES)], NONE_FAILS)?;
     // The entry, two rows, and three bytes of chunks; nothing is asked twice.
-    check_cut(
-        &rt,
-        alloc,
-        &scale,
-        &mut store,
-        &ALL,
-        Ok(()),
-        &[1, 2, 0, 0, 5],
-        67,
-    )?;
-    check_place(&rt, alloc, &scale, &mut store, [0; 3], Some((SHARD, 16, 2)))?;
-    check_place(&rt, alloc, &scale, &mut store, [1, 0, 0], None)?;
+    let all = good(ALL, &[1, 2, 0, 0, 5], 67);
+    check_cut(&rt, alloc, &scale, &mut store, &all)?;
+    let last = [2, 0, 0];
     check_place(
         &rt,
         alloc,
         &scale,
         &mut store,
-        [2, 0, 0],
+        [0; 3],
+        Some((SHARD, 16, 2)),
+        64,
+    )?;
+    check_place(&rt, alloc, &scale, &mut store, [1, 0, 0], None, 64)?;
+    check_place(
+        &rt,
+        alloc,
+        &scale,
+        &mut store,
+        last,
         Some((SHARD, 18, 1)),
+        64,
     )?;
     let mut store = store_of(&rt, alloc, &[(SHARD, &BYTES[..66])], NONE_FAILS)?;
-    let fault = Fault::Shard(ShardFault::ShortMinishard);
-    let damaged = CutFault::Damaged {
-        cell: [0; 3],
-        fault,
-    };
-    check_cut(&rt, alloc, &scale, &mut store, &ALL, Err(damaged), &[], 16)
+    check_lost(&rt, alloc, &scale, &mut store, ShardFault::ShortMinishard)
 }
 
 #[test]
@@ -271,6 +293,7 @@ fn finds_objects(rt: HostRuntime) -> Result<(), Fail> {
     let alloc = rt.alloc();
     let scale = row_scale(&rt);
     let mut store = store_of(&rt, alloc, &[LEFT, LONG_MIDDLE], NONE_FAILS)?;
+    let middle = Some((MIDDLE_NAME, 0, 3));
     check_place(
         &rt,
         alloc,
@@ -278,14 +301,42 @@ fn finds_objects(rt: HostRuntime) -> Result<(), Fail> {
         &mut store,
         [0; 3],
         Some((LEFT_NAME, 0, 2)),
+        0,
     )?;
-    check_place(
-        &rt,
-        alloc,
-        &scale,
-        &mut store,
-        [1, 0, 0],
-        Some((MIDDLE_NAME, 0, 3)),
-    )?;
-    check_place(&rt, alloc, &scale, &mut store, [2, 0, 0], None)
+    check_place(&rt, alloc, &scale, &mut store, [1, 0, 0], middle, 0)?;
+    check_place(&rt, alloc, &scale, &mut store, [2, 0, 0], None, 0)
+}
+
+// Cuts all out by one reader, before and after another shard is put in the place of the first.
+fn check_replaced(
+    rt: &impl Abort,
+    alloc: Global,
+    scale: &Scale,
+    store: &mut MemoryStore,
+) -> Result<(), Fail>
+    requires { scale.now.encoding ≡ Raw }
+{
+    let dataset = short_name(b"d").expect(rt, "a data set");
+    let mut reader = Reader::open(alloc, &dataset, scale)?;
+    let len = byte_len(&ALL, scale.channels, scale.width);
+    assert!(rt; len <= 64);
+    let mut out = vec![in alloc; 9; len as usize]?;
+    assert_eq!(rt; reader.cutout(store, &ALL, &mut out), Ok(()));
+    assert!(rt; out.as_slice() == [1, 2, 0, 0, 5].as_slice());
+    let mut other = BYTES;
+    other[19] = 1;
+    let name = short_name(SHARD).expect(rt, "a name");
+    store.put(&name, other.to_vec(alloc)?)?;
+    assert_eq!(rt; reader.cutout(store, &ALL, &mut out), Ok(()));
+    assert!(rt; out.as_slice() == [0, 0, 1, 2, 0].as_slice());
+    Ok(())
+}
+
+#[test]
+fn reads_a_new_shard_anew(rt: HostRuntime) -> Result<(), Fail> {
+    let alloc = rt.alloc();
+    let key = short_name(b"s").expect(&rt, "a key");
+    let scale = sharded_scale(key, one_minishard());
+    let mut store = store_of(&rt, alloc, &[(SHARD, &BYTES)], NONE_FAILS)?;
+    check_replaced(&rt, alloc, &scale, &mut store)
 }

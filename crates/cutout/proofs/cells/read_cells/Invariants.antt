@@ -2,7 +2,7 @@ use Rattle.std.proofs.Common.{◌≡◌, ◌≤◌, ◌+◌, ◌++◌, Some, IfS
 use Rattle.vol_base.specs.Outside.{Objects, OnlyReads}
 use Rattle.vol_spec.specs.Grid.{cells_in}
 use Rattle.cutout.proofs.CostSteps.{costs}
-use Rattle.cutout.specs.Keeping.{KeepsIndex}
+use Rattle.cutout.specs.Keeping.{KeepsShards}
 use Rattle.cutout.specs.Reading.{ReadSoFar}
 use Rattle.cutout.proofs.cells.read_cells.Given as goal
 
@@ -10,7 +10,7 @@ abbrev pub invariant-loop-cell : goal.invariant-loop-cell
 invariant-loop-cell g l = record {
   left : l.yielded ++ l.cell-iterator ≡ cells_in l.scale l.part;
   read : (m : Objects) → g.S.Source.objects l.fn.store ≡ Some m → ReadSoFar m l.dataset l.scale l.part l.yielded l.out;
-  keeps : KeepsIndex (g.S.Source.objects l.fn.store) l.dataset l.scale l.shards;
+  keeps : KeepsShards (g.S.Source.objects l.fn.store) l.dataset l.scale l.shards;
   asked : IfSome (g.S.Source.objects l.fn.store) (λ m. g.S.Source.asked l.store ≤ g.S.Source.asked l.fn.store + costs m l.dataset l.scale l.yielded);
   kept : OnlyReads (g.S.Source.objects l.fn.store) (g.S.Source.objects l.store) (g.S.Source.draft l.fn.store) (g.S.Source.draft l.store);
   later : g.S.Source.faults l.fn.store ≤ g.S.Source.faults l.store;
