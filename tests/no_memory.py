@@ -23,6 +23,7 @@ from program import (
     MEMORY,
     OK,
     REQUEST,
+    SHARDING,
     STORE,
     USAGE,
     info_of,
@@ -34,6 +35,9 @@ from program import (
 MOST_ALLOCATIONS = 10_000
 
 ROW = info_of([3, 1, 1], [1, 1, 1])
+
+# The same row in two shards, of the chunks 0 and 2 and of the chunk 1.
+SHARDED = info_of([3, 1, 1], [1, 1, 1], scale={"sharding": {**SHARDING, "shard_bits": 1}})
 
 # The objects of the row in the order in which they are put.
 ROW_OBJECTS = {"d/s/0-1_0-1_0-1": b"\1", "d/s/1-2_0-1_0-1": b"\2", "d/s/2-3_0-1_0-1": b"\3"}
@@ -55,6 +59,7 @@ RUNS = [
     ("a write", ROW, {}, WRITE, TWICE, OK),
     ("a write with workers", ROW, {}, [*WRITE, "--workers=3"], THREE, OK),
     ("a write of nothing", ROW, {}, WRITE, stream_of(), OK),
+    ("a write into shards", SHARDED, {}, WRITE, TWICE, OK),
     ("a cutout", ROW, ROW_OBJECTS, CUT, b"", OK),
     ("a cutout of nothing", ROW, {}, CUT, b"", OK),
     ("a folder that isn't empty", ROW, {"d/s/a/b": b""}, WRITE, THREE, REQUEST),

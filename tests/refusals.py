@@ -408,7 +408,6 @@ WRITES_REFUSED = [
     ("a write without an info", without(INFO_PATH), write(), b"", INFO, "info of d: absent"),
     ("a write by a broken info, with a bad stream", with_bytes(INFO_PATH, b"{"), write(), b"", INFO, "info of d: not json"),
     ("a write into segments", empty_info({"data_type": "uint64"}, **SEGMENTED), write(), STREAM, INFO, "info of d: not built"),
-    ("a write into shards", empty_info(sharding=SHARDING), write(), STREAM, INFO, "info of d: not built"),
     ("a write over chunks", as_it_is, write(), STREAM, REQUEST, "folder not empty"),
     ("a bad stream over chunks", as_it_is, write(), b"", REQUEST, "folder not empty"),
     ("a write over one chunk", without(FIRST), write(), STREAM, REQUEST, "folder not empty"),

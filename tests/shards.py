@@ -85,6 +85,66 @@ def files_of(sharding, chunks):
     }
 
 
+class Damaged(Exception):
+    """A fault on the way to a chunk, as it is told."""
+
+
+def number_at(shard, place):
+    return ROW.unpack_from(shard, place)[0]
+
+
+def rows_of(minishard_bits, minishard, shard):
+    """Where the rows of a minishard's index begin in its shard, and how many there are."""
+    base = 16 << minishard_bits
+    if len(shard) < 16 * minishard + 16:
+        raise Damaged("shard short index")
+    start, end = number_at(shard, 16 * minishard), number_at(shard, 16 * minishard + 8)
+    if start == end:
+        return base, 0
+    if end < start:
+        raise Damaged("shard bad range")
+    if (end - start) % 24:
+        raise Damaged(f"shard bad length {end - start}")
+    rows = (end - start) // 24
+    if rows > 2**22:
+        raise Damaged(f"shard too many rows {rows}")
+    if len(shard) < base + end:
+        raise Damaged("shard short minishard")
+    return base + start, rows
+
+
+def find_row(shard, begin, rows, wanted):
+    """The start and the size of a chunk by its id, or None: rows up to the first whose id isn't below."""
+    number = end = 0
+    for row in range(rows):
+        delta, gap, size = (number_at(shard, begin + 8 * (column * rows + row)) for column in range(3))
+        number += delta
+        if (row > 0 and delta == 0) or number >= 2**64:
+            raise Damaged(f"index id {row}")
+        start, end = end + gap, end + gap + size
+        if end >= 2**64:
+            raise Damaged(f"index start {row}")
+        if number >= wanted:
+            return (start, size) if number == wanted else None
+    return None
+
+
+def chunk_in(minishard_bits, minishard, wanted, limit, shard):
+    """The bytes of a chunk of so many bytes, or None where it is absent."""
+    found = find_row(shard, *rows_of(minishard_bits, minishard, shard), wanted)
+    if found is None:
+        return None
+    start, size = found
+    base = 16 << minishard_bits
+    if size > limit:
+        raise Damaged(f"chunk too long {size} limit {limit}")
+    if base + start + size > len(shard):
+        raise Damaged("shard short chunk")
+    if size != limit:
+        raise Damaged(f"chunk length {size} wanted {limit}")
+    return shard[base + start : base + start + size]
+
+
 def cells_of(grid):
     """The cells of a grid, x fastest."""
     return [cell[::-1] for cell in itertools.product(*(range(count) for count in reversed(grid)))]

@@ -8,7 +8,7 @@ use Rattle.vol_shell.specs.Lines.{damaged_line, large_line, outside_line}
 use Rattle.vol_tool.proofs.Choices.{err_and, no_front, ok_and, some_and}
 use Rattle.vol_tool.specs.Cutouts.{CutoutLeaves, CutoutShows, Cuts, CutsScale, MeetsFault, RefusesBox, Writes}
 use Rattle.vol_tool.specs.Refusals.{cutout_line, cutout_status}
-use Rattle.vol_tool.specs.Scales.{readable}
+use Rattle.vol_tool.specs.Scales.{stored_scale}
 use Rattle.vol_tool.specs.Seen.{Outlets, Tells}
 use Rattle.vol_tool.specs.Statuses.{fixed_line, Reports}
 use Rattle.vol_tool.specs.declared.refusal.CutoutRefusal.{CutoutRefusal}
@@ -28,17 +28,17 @@ unwritten NoMemory part old new other kept = kept
 
 -- a refusal with its line shows what its status says
 shows_line : (refusal : CutoutRefusal) (m : Objects) (dataset key : List ℕ) (part : Box3) (o : Outlets) → Writes (Err refusal) part o.out_old o.out_new
-    → Cuts (Err refusal) (readable m dataset key) m dataset part o.out_old o.out_new → Tells o (cutout_line dataset refusal)
+    → Cuts (Err refusal) (stored_scale m dataset key) m dataset part o.out_old o.out_new → Tells o (cutout_line dataset refusal)
     → CutoutShows (cutout_status refusal) m dataset key part o
-shows_line (NoScale why) m dataset key part o kept cuts told = err_and (readable m dataset key) why _ cuts told
+shows_line (NoScale why) m dataset key part o kept cuts told = err_and (stored_scale m dataset key) why _ cuts told
 shows_line (Outside asked all) m dataset key part o kept cuts told =
-    ok_and (readable m dataset key) (λ s. CutsScale (Err (Outside asked all)) m dataset s part o.out_old o.out_new) (λ s. RefusesBox s part o)
+    ok_and (stored_scale m dataset key) (λ s. CutsScale (Err (Outside asked all)) m dataset s part o.out_old o.out_new) (λ s. RefusesBox s part o)
     (λ s h. inl (h.2, subst (λ b. Tells o (outside_line b (whole s))) h.0 (subst (λ b. Tells o (outside_line asked b)) h.1 told))) cuts
 shows_line (TooLarge bytes) m dataset key part o kept cuts told =
-    ok_and (readable m dataset key) (λ s. CutsScale (Err (TooLarge bytes)) m dataset s part o.out_old o.out_new) (λ s. RefusesBox s part o)
+    ok_and (stored_scale m dataset key) (λ s. CutsScale (Err (TooLarge bytes)) m dataset s part o.out_old o.out_new) (λ s. RefusesBox s part o)
     (λ s h. inr (h.0, h.1, subst (λ n. Tells o (large_line n)) h.2 told)) cuts
 shows_line (Damaged cell fault) m dataset key part o kept cuts told = (
-  ok_and (readable m dataset key) (λ s. CutsScale (Err (Damaged cell fault)) m dataset s part o.out_old o.out_new) (λ s. MeetsFault m dataset s part o)
+  ok_and (stored_scale m dataset key) (λ s. CutsScale (Err (Damaged cell fault)) m dataset s part o.out_old o.out_new) (λ s. MeetsFault m dataset s part o)
       (λ s h. (h.0, some_and (first_fault m dataset s part) (cell, fault) (λ found. Tells o (damaged_line found.0 found.1)) h.1 told)) cuts,
   no_front o.out_old o.out_new _ kept,
 )
@@ -47,7 +47,7 @@ shows_line OutFault m dataset key part o kept cuts told = cuts
 shows_line NoMemory m dataset key part o kept cuts told = no_front o.out_old o.out_new _ kept
 
 pub cutout_shown : (refusal : CutoutRefusal) (status : Status) (m : Objects) (dataset key : List ℕ) (part : Box3) (o : Outlets) → Writes (Err refusal) part o.out_old o.out_new
-    → Cuts (Err refusal) (readable m dataset key) m dataset part o.out_old o.out_new → Reports (cutout_status refusal) (cutout_line dataset refusal) status (Tells o)
+    → Cuts (Err refusal) (stored_scale m dataset key) m dataset part o.out_old o.out_new → Reports (cutout_status refusal) (cutout_line dataset refusal) status (Tells o)
     → CutoutShows status m dataset key part o
 cutout_shown refusal status m dataset key part o kept cuts (inl told) = subst (λ s. CutoutShows s m dataset key part o) (sym told.0) (shows_line refusal m dataset key part o kept cuts told.1)
 cutout_shown refusal status m dataset key part o kept cuts (inr told) =

@@ -1,4 +1,5 @@
 pub mod AnswerSteps
+pub mod AskSteps
 pub mod Choices
 pub mod CutoutSteps
 pub mod InfoSteps

@@ -1,11 +1,14 @@
 -- Where there is no memory for the words themselves, each command says what it says at that status.
-use Rattle.std.proofs.Common.{◌≤◌, ℕ, Option, Some, None, refl, inl, inr, arith}
+use Rattle.std.proofs.Common.{◌≤◌, ◌+◌, ◌^◌, ℕ, Option, Some, None, refl, inl, inr, arith}
 use Rattle.command_line.specs.declared.commands.Command.{Command}
 use Rattle.command_line.specs.declared.commands.Command.TheVariants.{Cutout, Write}
 use Rattle.vol_shell.specs.Lines.{memory_line}
 use Rattle.vol_spec.proofs.Told.{in_told}
 use Rattle.vol_spec.specs.Types.{Bytes}
+use Rattle.vol_tool.proofs.AskSteps.{asks_none}
 use Rattle.vol_tool.proofs.Choices.{no_front}
+use Rattle.vol_tool.specs.Cutouts.{cells_cost}
+use Rattle.vol_tool.specs.Scales.{stored_scale}
 use Rattle.vol_tool.specs.Runs.{Answers, Causes, Headline, IsCaused, Keeps, Leaves, Succeeds}
 use Rattle.vol_tool.specs.Seen.{Faults, LeavesStore, outlets, Seen, Tells}
 use Rattle.vol_tool.specs.declared.status.Status.TheVariants.{NoMemory}
@@ -39,7 +42,8 @@ reads before err count = record { same_objects = refl; same_draft = refl }
 
 pub memory_keeps : (command : Option Command) (before : Seen) (err : Option Bytes) (count : ℕ) → Keeps command NoMemory before (said_only before err count)
 memory_keeps None before err count = (reads before err count, refl, refl)
-memory_keeps (Some (Cutout dataset key part)) before err count = (reads before err count, refl, refl)
+memory_keeps (Some (Cutout dataset key part)) before err count =
+    (reads before err count, refl, refl, asks_none before.objects (λ m. 2 ^ 20 + 1 + cells_cost (stored_scale m dataset key) m dataset part) before.asked)
 memory_keeps (Some (Write dataset key workers)) before err count = (inr refl, λ no. reads before err count, λ done. absurd (cc done), λ refused. refl, refl)
 
 caused : (before : Faults) (count : ℕ) → before.err ≤ count → IsCaused NoMemory before (record before { err = count })

@@ -21,8 +21,7 @@ use Rattle.write_plan.specs.Plans.{pairs}
 use Rattle.write_plan.specs.Stream.{writes_of}
 use Rattle.vol_tool.proofs.Choices.{ok_is}
 use Rattle.vol_tool.proofs.PlanSteps.{few_cells}
-use Rattle.vol_tool.specs.Scales.{info_name, IsWritable, scale_from, stored_scale, writable}
-use Rattle.vol_tool.specs.declared.info.Purpose.{Purpose}
+use Rattle.vol_tool.specs.Scales.{info_name, IsServed, scale_from, stored_scale}
 use Rattle.vol_tool.specs.Storing.{AllReadBack, Counts, FrontPut, HasStored, KeepsPlan, PutsWrites, WritesAll, WritesScale}
 use Rattle.vol_tool.specs.declared.refusal.NoScale.{NoScale as NoScaleType}
 use Rattle.vol_tool.specs.declared.refusal.WriteRefusal.{WriteRefusal}
@@ -47,17 +46,16 @@ and_false false b e = refl
 info_apart : (dataset : Name) (s : Scale) → is_under (folder_of dataset s) (info_name dataset) ≡ false
 info_apart dataset s = and_false _ _ (ap (λ c. c == 47) (behind dataset (codes "info") s.key) ∙ no_slash (length s.key))
 
-scale_kept : (purpose : Purpose) (m : Objects) (dataset key : Name) (s : Scale) (chunks : Chunks) → LeavesOutside m dataset s chunks
-    → stored_scale purpose (put_in m (stored_list dataset s chunks)) dataset key ≡ stored_scale purpose m dataset key
+scale_kept : (m : Objects) (dataset key : Name) (s : Scale) (chunks : Chunks) → LeavesOutside m dataset s chunks → stored_scale (put_in m (stored_list dataset s chunks)) dataset key ≡ stored_scale m dataset key
 unfolding stored_scale
-scale_kept purpose m dataset key s chunks outside = ap (λ o. scale_from purpose o key) (outside (info_name dataset) (info_apart dataset s))
+scale_kept m dataset key s chunks outside = ap (λ o. scale_from o key) (outside (info_name dataset) (info_apart dataset s))
 
 few_met : (s : Scale) (writes : Writes) → pairs s writes ≤ 2 ^ 22 → length (met_cells s writes) ≤ 2 ^ 22
 few_met s writes h = let few = few_cells s writes in omega arith
 
 -- raw chunks can be written
-can_write : (s : Scale) → IsWritable s → padded_of s.encoding s.channels s.size s.chunk ≤ 2 ^ 22
-can_write s served = subst (λ (e : Encoding). padded_of e s.channels s.size s.chunk ≤ 2 ^ 22) (sym served.raw) (lit≤ tt)
+can_write : (s : Scale) → IsServed s → padded_of s.encoding s.channels s.size s.chunk ≤ 2 ^ 22
+can_write s served = subst (λ (e : Encoding). padded_of e s.channels s.size s.chunk ≤ 2 ^ 22) (sym served) (lit≤ tt)
 
 -- the laws of stored chunks: what is outside a scale's folder stays, and writes read back
 pub record Laws (dataset : Name) (s : Scale) : Type 0 where
@@ -65,7 +63,7 @@ pub record Laws (dataset : Name) (s : Scale) : Type 0 where
   pub back : (m : Objects) (writes : Writes) (b : Box3) → AreWritable m dataset s writes → Inside s b → ReadsBack (written_in m dataset s writes) dataset s writes b
 
 -- writes that were put read back
-all_back : (m : Objects) (now : Option Objects) (dataset : Name) (s : Scale) (writes : Writes) → Laws dataset s → IsWritable s → All (λ w. AreBytes w.1) writes → any_under m (folder_of dataset s) ≡ false
+all_back : (m : Objects) (now : Option Objects) (dataset : Name) (s : Scale) (writes : Writes) → Laws dataset s → IsServed s → All (λ w. AreBytes w.1) writes → any_under m (folder_of dataset s) ≡ false
     → pairs s writes ≤ 2 ^ 22 → now ≡ Some (written_in m dataset s writes) → AllReadBack now dataset s writes
 all_back m now dataset s writes laws served small empty few put =
     let can : AreWritable m dataset s writes = record { few = few_met s writes few; writable = can_write s served; bytes = small; empty = empty } in
@@ -73,11 +71,11 @@ all_back m now dataset s writes laws served small empty few put =
 
 -- writes that were read and written
 stream_written : (result : Result Written WriteRefusal) (m : Objects) (now before after : Option Objects) (draft left_draft : Option Draft) (bytes : Bytes) (left : Option Bytes) (dataset key : Name) (s : Scale) (writes : Writes)
-    → Laws dataset s → IsWritable s → All (λ w. AreBytes w.1) writes → any_under m (folder_of dataset s) ≡ false → left ≡ Some [] → writes_of bytes s ≡ Ok writes
+    → Laws dataset s → IsServed s → All (λ w. AreBytes w.1) writes → any_under m (folder_of dataset s) ≡ false → left ≡ Some [] → writes_of bytes s ≡ Ok writes
     → IfErr result (λ r. KeepsPlan r before after draft left_draft) → PutsWrites result m now dataset s writes → WritesScale result m now bytes left dataset key s
 stream_written (Ok written) m now before after draft left_draft bytes left dataset key s writes laws served small empty end read kept put =
-    ok_is (writes_of bytes s) writes (λ ws. HasStored m now left dataset key s ws × AllReadBack now dataset s ws × Counts written s ws) read (
-      record { empty = empty; few = put.1; end = end; put = put.0; same = λ purpose. scale_kept purpose m dataset key s (chunks_of s zeros writes) (laws.outside m (chunks_of s zeros writes)) },
+    ok_is (writes_of bytes s) writes (λ ws. HasStored m now left dataset key s ws × AllReadBack now dataset s ws × Counts written dataset s ws) read (
+      record { empty = empty; few = put.1; end = end; put = put.0; same = scale_kept m dataset key s (chunks_of s zeros writes) (laws.outside m (chunks_of s zeros writes)) },
       all_back m now dataset s writes laws served small empty put.1 put.0,
       put.2,
     )
@@ -93,7 +91,7 @@ stream_written (Err OutFault) m now before after draft left_draft bytes left dat
 
 -- the same where objects and the feed may be untold
 pub stream_told : (result : Result Written WriteRefusal) (told same now : Option Objects) (draft left_draft : Option Draft) (fed left : Option Bytes) (dataset key : Name) (s : Scale) (writes : Writes) (folder : Name) (found : Bool)
-    → Laws dataset s → IsWritable s → All (λ w. AreBytes w.1) writes → same ≡ told → folder ≡ folder_of dataset s → found ≡ false → IfSome told (λ m. found ≡ any_under m folder) → left ≡ option_map (λ _. []) fed
+    → Laws dataset s → IsServed s → All (λ w. AreBytes w.1) writes → same ≡ told → folder ≡ folder_of dataset s → found ≡ false → IfSome told (λ m. found ≡ any_under m folder) → left ≡ option_map (λ _. []) fed
     → IfSome fed (λ bytes. writes_of bytes s ≡ Ok writes) → IfErr result (λ r. KeepsPlan r same now draft left_draft) → IfSome same (λ m. PutsWrites result m now dataset s writes)
     → IfSome told (λ m. IfSome fed (λ bytes. WritesScale result m now bytes left dataset key s))
 stream_told result None same now draft left_draft fed left dataset key s writes folder found laws served small kept named none empty end read keeps put = tt
@@ -116,9 +114,9 @@ key_writes (Err NoMemory) told m now bytes left dataset key s is (inr put) = inr
 key_writes (Err (NoScale why)) told m now bytes left dataset key s is writes = tt
 key_writes (Err OutFault) told m now bytes left dataset key s is writes = absurd writes
 
-pub key_told : (result : Result Written WriteRefusal) (o same now : Option Objects) (fed left : Option Bytes) (dataset key : Name) (s : Scale) → same ≡ o → IfSome o (λ m. writable m dataset key ≡ Ok s)
-    → IfSome same (λ m. IfSome fed (λ bytes. WritesScale result m now bytes left dataset key s)) → IfSome o (λ m. IfSome fed (λ bytes. WritesAll result (writable m dataset key) m now bytes left dataset key))
+pub key_told : (result : Result Written WriteRefusal) (o same now : Option Objects) (fed left : Option Bytes) (dataset key : Name) (s : Scale) → same ≡ o → IfSome o (λ m. stored_scale m dataset key ≡ Ok s)
+    → IfSome same (λ m. IfSome fed (λ bytes. WritesScale result m now bytes left dataset key s)) → IfSome o (λ m. IfSome fed (λ bytes. WritesAll result (stored_scale m dataset key) m now bytes left dataset key))
 key_told result None same now fed left dataset key s e is writes = tt
 key_told result (Some m) same now None left dataset key s e is writes = tt
 key_told result (Some m) same now (Some bytes) left dataset key s e is writes =
-    key_writes result (writable m dataset key) m now bytes left dataset key s is (subst (λ o. IfSome o (λ m. WritesScale result m now bytes left dataset key s)) e writes)
+    key_writes result (stored_scale m dataset key) m now bytes left dataset key s is (subst (λ o. IfSome o (λ m. WritesScale result m now bytes left dataset key s)) e writes)

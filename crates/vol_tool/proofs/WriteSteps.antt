@@ -5,7 +5,7 @@ use Rattle.std.proofs.lemmas.List.{take_all}
 use Rattle.vol_base.specs.Outside.{any_under, Draft, Objects}
 use Rattle.vol_spec.specs.CellNames.{folder_of}
 use Rattle.vol_spec.specs.LastWrite.{zeros}
-use Rattle.vol_spec.specs.StoredCells.{chunks_of, met_cells, put_in}
+use Rattle.vol_spec.specs.StoredCells.{chunks_of, put_in}
 use Rattle.vol_spec.specs.StoredLists.{stored_list}
 use Rattle.vol_spec.specs.Types.{Bytes, Listed, Name, Writes}
 use Rattle.vol_spec.specs.declared.scale.Scale.{Scale}
@@ -18,7 +18,7 @@ use Rattle.vol_shell.specs.Effects.{Gains, GainsFront}
 use Rattle.vol_shell.specs.Lines.{cells_line, folder_line, stream_line, written_line}
 use Rattle.vol_tool.proofs.Choices.{err_and, never, ok_and}
 use Rattle.vol_tool.specs.Refusals.{write_line, write_status}
-use Rattle.vol_tool.specs.Scales.{writable}
+use Rattle.vol_tool.specs.Scales.{stored_scale}
 use Rattle.vol_tool.specs.Seen.{Outlets, Silent, Tells}
 use Rattle.vol_tool.specs.Statuses.{fixed_line, Reports}
 use Rattle.vol_tool.specs.Storing.{AllReadBack, count_line, Counts, FrontPut, HasStored, Judges, KeepsFeed, KeepsStore, Prints, RefusesStream, WriteJudges, WriteLeaves, WritesAll, WriteShows, WritesScale, WrittenBack}
@@ -32,43 +32,43 @@ abbrev IsEmpty : Objects → Name → Scale → Type 0
 IsEmpty m dataset s = any_under m (folder_of dataset s) ≡ false
 
 -- a refusal with its line, over objects that are told
-judges_line : (refusal : WriteRefusal) (m : Objects) (dataset key : Name) (old new : Option Bytes) (o : Outlets) → Judges (Err refusal) (writable m dataset key) m dataset → KeepsFeed (Err refusal) old new
+judges_line : (refusal : WriteRefusal) (m : Objects) (dataset key : Name) (old new : Option Bytes) (o : Outlets) → Judges (Err refusal) (stored_scale m dataset key) m dataset → KeepsFeed (Err refusal) old new
     → Tells o (write_line dataset refusal) → WriteJudges (write_status refusal) m dataset key old new o
-judges_line (NoScale why) m dataset key old new o judges kept told = err_and (writable m dataset key) why _ judges told
+judges_line (NoScale why) m dataset key old new o judges kept told = err_and (stored_scale m dataset key) why _ judges told
 judges_line NotEmpty m dataset key old new o judges kept told =
-    ok_and (writable m dataset key) _ (λ s. any_under m (folder_of dataset s) ≡ true → (new ≡ old) × Tells o folder_line) (λ s h found. (kept, told)) judges
+    ok_and (stored_scale m dataset key) _ (λ s. any_under m (folder_of dataset s) ≡ true → (new ≡ old) × Tells o folder_line) (λ s h found. (kept, told)) judges
 judges_line (Stream fault) m dataset key old new o judges kept told =
-    ok_and (writable m dataset key) (IsEmpty m dataset) (λ s. any_under m (folder_of dataset s) ≡ true → (new ≡ old) × Tells o folder_line) (λ s h found. cc (h, found)) judges
+    ok_and (stored_scale m dataset key) (IsEmpty m dataset) (λ s. any_under m (folder_of dataset s) ≡ true → (new ≡ old) × Tells o folder_line) (λ s h found. cc (h, found)) judges
 judges_line (TooManyCells cells) m dataset key old new o judges kept told =
-    ok_and (writable m dataset key) (IsEmpty m dataset) (λ s. any_under m (folder_of dataset s) ≡ true → (new ≡ old) × Tells o folder_line) (λ s h found. cc (h, found)) judges
+    ok_and (stored_scale m dataset key) (IsEmpty m dataset) (λ s. any_under m (folder_of dataset s) ≡ true → (new ≡ old) × Tells o folder_line) (λ s h found. cc (h, found)) judges
 judges_line StoreFault m dataset key old new o judges kept told = tt
 judges_line FeedFault m dataset key old new o judges kept told = judges
 judges_line OutFault m dataset key old new o judges kept told = judges
 judges_line NoMemory m dataset key old new o judges kept told = tt
 
-pub write_judged : (refusal : WriteRefusal) (status : Status) (m : Objects) (dataset key : Name) (old new : Option Bytes) (o : Outlets) → Judges (Err refusal) (writable m dataset key) m dataset → KeepsFeed (Err refusal) old new
+pub write_judged : (refusal : WriteRefusal) (status : Status) (m : Objects) (dataset key : Name) (old new : Option Bytes) (o : Outlets) → Judges (Err refusal) (stored_scale m dataset key) m dataset → KeepsFeed (Err refusal) old new
     → Reports (write_status refusal) (write_line dataset refusal) status (Tells o) → WriteJudges status m dataset key old new o
 write_judged refusal status m dataset key old new o judges kept (inl told) = subst (λ st. WriteJudges st m dataset key old new o) (sym told.0) (judges_line refusal m dataset key old new o judges kept told.1)
 write_judged refusal status m dataset key old new o judges kept (inr told) = subst (λ st. WriteJudges st m dataset key old new o) (sym told.0) tt
 
 -- and over a feed that is told too
-shows_line : (refusal : WriteRefusal) (m : Objects) (now : Option Objects) (bytes : Bytes) (left : Option Bytes) (dataset key : Name) (o : Outlets) → Judges (Err refusal) (writable m dataset key) m dataset
-    → WritesAll (Err refusal) (writable m dataset key) m now bytes left dataset key → Tells o (write_line dataset refusal) → WriteShows (write_status refusal) m now bytes left dataset key o
+shows_line : (refusal : WriteRefusal) (m : Objects) (now : Option Objects) (bytes : Bytes) (left : Option Bytes) (dataset key : Name) (o : Outlets) → Judges (Err refusal) (stored_scale m dataset key) m dataset
+    → WritesAll (Err refusal) (stored_scale m dataset key) m now bytes left dataset key → Tells o (write_line dataset refusal) → WriteShows (write_status refusal) m now bytes left dataset key o
 shows_line (NoScale why) m now bytes left dataset key o judges writes told = tt
 shows_line NotEmpty m now bytes left dataset key o judges writes told =
-    ok_and (writable m dataset key) (λ s. any_under m (folder_of dataset s) ≡ true) (λ s. IsEmpty m dataset s → RefusesStream bytes s o) (λ s h empty. cc (h, empty)) judges
+    ok_and (stored_scale m dataset key) (λ s. any_under m (folder_of dataset s) ≡ true) (λ s. IsEmpty m dataset s → RefusesStream bytes s o) (λ s h empty. cc (h, empty)) judges
 shows_line (Stream fault) m now bytes left dataset key o judges writes told =
-    ok_and (writable m dataset key) (λ s. writes_of bytes s ≡ Err fault) (λ s. IsEmpty m dataset s → RefusesStream bytes s o)
+    ok_and (stored_scale m dataset key) (λ s. writes_of bytes s ≡ Err fault) (λ s. IsEmpty m dataset s → RefusesStream bytes s o)
     (λ s h empty. inl (err_and (writes_of bytes s) fault (λ fault. Tells o (stream_line fault)) h told)) writes
 shows_line (TooManyCells cells) m now bytes left dataset key o judges writes told =
-    ok_and (writable m dataset key) (λ s. WritesScale (Err (TooManyCells cells)) m now bytes left dataset key s) (λ s. IsEmpty m dataset s → RefusesStream bytes s o)
+    ok_and (stored_scale m dataset key) (λ s. WritesScale (Err (TooManyCells cells)) m now bytes left dataset key s) (λ s. IsEmpty m dataset s → RefusesStream bytes s o)
     (λ s h empty.
     inr (ok_and (writes_of bytes s) (λ ws. (cells ≡ pairs s ws) × (2 ^ 22 < pairs s ws)) (λ ws. (2 ^ 22 < pairs s ws) × Tells o (cells_line (pairs s ws)))
     (λ ws k. (k.1, subst (λ n. Tells o (cells_line n)) k.0 told)) h)) writes
 shows_line StoreFault m now bytes left dataset key o judges writes told = writes
 shows_line FeedFault m now bytes left dataset key o judges writes told = tt
 shows_line NoMemory m now bytes left dataset key o judges writes told = writes
-shows_line OutFault m now bytes left dataset key o judges writes told = absurd (never (writable m dataset key) writes)
+shows_line OutFault m now bytes left dataset key o judges writes told = absurd (never (stored_scale m dataset key) writes)
 
 -- a refusal whose line isn't fixed puts nothing
 put_none : (refusal : WriteRefusal) (old new : Option Objects) (before after : Option Draft) → fixed_line (write_status refusal) ≡ None → KeepsStore refusal old new before after → new ≡ old
@@ -82,7 +82,7 @@ put_none OutFault old new before after other kept = absurd kept
 put_none NoMemory old new before after other kept = cc other
 
 pub write_shown : (refusal : WriteRefusal) (status : Status) (m : Objects) (old now : Option Objects) (before after : Option Draft) (bytes : Bytes) (left : Option Bytes) (dataset key : Name) (o : Outlets)
-    → old ≡ Some m → Judges (Err refusal) (writable m dataset key) m dataset → WritesAll (Err refusal) (writable m dataset key) m now bytes left dataset key → KeepsStore refusal old now before after
+    → old ≡ Some m → Judges (Err refusal) (stored_scale m dataset key) m dataset → WritesAll (Err refusal) (stored_scale m dataset key) m now bytes left dataset key → KeepsStore refusal old now before after
     → Reports (write_status refusal) (write_line dataset refusal) status (Tells o) → WriteShows status m now bytes left dataset key o
 write_shown refusal status m old now before after bytes left dataset key o told_is judges writes kept (inl told) =
     subst (λ st. WriteShows st m now bytes left dataset key o) (sym told.0) (shows_line refusal m now bytes left dataset key o judges writes told.1)
@@ -128,25 +128,26 @@ print_left StoreFault status dataset o objects cells prints told = absurd prints
 print_left FeedFault status dataset o objects cells prints told = absurd prints
 
 -- a write that is done, and printed
-line_is : (written : Written) (s : Scale) (ws : Writes) → Counts written s ws → written_line written.objects written.cells ≡ count_line s ws
-line_is written s ws counts = ap (λ n. written_line n written.cells) counts.objects ∙ ap (λ n. written_line (length (met_cells s ws)) n) counts.cells
+line_is : (written : Written) (dataset : Name) (s : Scale) (ws : Writes) → Counts written dataset s ws → written_line written.objects written.cells ≡ count_line dataset s ws
+line_is written dataset s ws counts =
+    ap (λ n. written_line n written.cells) counts.objects ∙ ap (λ n. written_line (length (stored_list dataset s (chunks_of s zeros ws))) n) counts.cells
 
 -- what is said of the scale and the writes, from what writing answers
-of_writes : (Q : Scale → Writes → Type 0) (m : Objects) (now : Option Objects) (bytes : Bytes) (left : Option Bytes) (dataset key : Name) (written : Written) → WritesAll (Ok written) (writable m dataset key) m now bytes left dataset key
-    → ((s : Scale) (ws : Writes) → HasStored m now left dataset key s ws → AllReadBack now dataset s ws → Counts written s ws → Q s ws)
-    → IsOkAnd (writable m dataset key) (λ s. IsOkAnd (writes_of bytes s) (Q s))
+of_writes : (Q : Scale → Writes → Type 0) (m : Objects) (now : Option Objects) (bytes : Bytes) (left : Option Bytes) (dataset key : Name) (written : Written) → WritesAll (Ok written) (stored_scale m dataset key) m now bytes left dataset key
+    → ((s : Scale) (ws : Writes) → HasStored m now left dataset key s ws → AllReadBack now dataset s ws → Counts written dataset s ws → Q s ws)
+    → IsOkAnd (stored_scale m dataset key) (λ s. IsOkAnd (writes_of bytes s) (Q s))
 of_writes Q m now bytes left dataset key written writes f =
-    ok_and (writable m dataset key) (λ s. WritesScale (Ok written) m now bytes left dataset key s) (λ s. IsOkAnd (writes_of bytes s) (Q s))
-    (λ s h. ok_and (writes_of bytes s) (λ ws. HasStored m now left dataset key s ws × AllReadBack now dataset s ws × Counts written s ws) (Q s) (λ ws k. f s ws k.0 k.1 k.2) h) writes
+    ok_and (stored_scale m dataset key) (λ s. WritesScale (Ok written) m now bytes left dataset key s) (λ s. IsOkAnd (writes_of bytes s) (Q s))
+    (λ s h. ok_and (writes_of bytes s) (λ ws. HasStored m now left dataset key s ws × AllReadBack now dataset s ws × Counts written dataset s ws) (Q s) (λ ws k. f s ws k.0 k.1 k.2) h) writes
 
 printed : (written : Written) (m : Objects) (now : Option Objects) (bytes : Bytes) (left : Option Bytes) (dataset key : Name) (o : Outlets)
-    → WritesAll (Ok written) (writable m dataset key) m now bytes left dataset key → Gains o.out_old o.out_new (written_line written.objects written.cells) → WriteShows Done m now bytes left dataset key o
+    → WritesAll (Ok written) (stored_scale m dataset key) m now bytes left dataset key → Gains o.out_old o.out_new (written_line written.objects written.cells) → WriteShows Done m now bytes left dataset key o
 printed written m now bytes left dataset key o writes gains =
-    of_writes (λ s ws. HasStored m now left dataset key s ws × Gains o.out_old o.out_new (count_line s ws)) m now bytes left dataset key written writes
-    (λ s ws stored back counts. (stored, subst (Gains o.out_old o.out_new) (line_is written s ws counts) gains))
+    of_writes (λ s ws. HasStored m now left dataset key s ws × Gains o.out_old o.out_new (count_line dataset s ws)) m now bytes left dataset key written writes
+    (λ s ws stored back counts. (stored, subst (Gains o.out_old o.out_new) (line_is written dataset s ws counts) gains))
 
 written_back : (written : Written) (m : Objects) (now : Option Objects) (bytes : Bytes) (left : Option Bytes) (dataset key : Name)
-    → WritesAll (Ok written) (writable m dataset key) m now bytes left dataset key → WrittenBack m now bytes dataset key
+    → WritesAll (Ok written) (stored_scale m dataset key) m now bytes left dataset key → WrittenBack m now bytes dataset key
 written_back written m now bytes left dataset key writes =
     of_writes (λ s ws. AllReadBack now dataset s ws) m now bytes left dataset key written writes (λ s ws stored back counts. back)
 
@@ -155,7 +156,7 @@ front_all : (m : Objects) (now : Option Objects) (list : Listed) → now ≡ Som
 front_all m now list put = record { count = length list; within = omega arith; put = put ∙ ap (λ xs. Some (put_in m xs)) (sym (take_all (length list) list (omega arith))) }
 
 scale_put : (m : Objects) (now : Option Objects) (bytes : Bytes) (left : Option Bytes) (dataset key : Name) (s : Scale) (written : Written) (r : Result Writes PlanFault) → r ≡ writes_of bytes s
-    → IsOkAnd r (λ ws. HasStored m now left dataset key s ws × AllReadBack now dataset s ws × Counts written s ws) → FrontPut m now bytes dataset s
+    → IsOkAnd r (λ ws. HasStored m now left dataset key s ws × AllReadBack now dataset s ws × Counts written dataset s ws) → FrontPut m now bytes dataset s
 scale_put m now bytes left dataset key s written (Ok ws) is h = (
   h.0.empty,
   subst (λ q. IsOkAnd q (λ writes. (pairs s writes ≤ 2 ^ 22) × PutsFront (stored_list dataset s (chunks_of s zeros writes)) m now)) is
@@ -164,18 +165,18 @@ scale_put m now bytes left dataset key s written (Ok ws) is h = (
 scale_put m now bytes left dataset key s written (Err fault) is h = absurd h
 
 all_put : (m : Objects) (now : Option Objects) (bytes : Bytes) (left : Option Bytes) (dataset key : Name) (written : Written)
-    → WritesAll (Ok written) (writable m dataset key) m now bytes left dataset key → IsOkAnd (writable m dataset key) (FrontPut m now bytes dataset)
+    → WritesAll (Ok written) (stored_scale m dataset key) m now bytes left dataset key → IsOkAnd (stored_scale m dataset key) (FrontPut m now bytes dataset)
 all_put m now bytes left dataset key written writes =
-    ok_and (writable m dataset key) (λ s. WritesScale (Ok written) m now bytes left dataset key s) (FrontPut m now bytes dataset)
+    ok_and (stored_scale m dataset key) (λ s. WritesScale (Ok written) m now bytes left dataset key s) (FrontPut m now bytes dataset)
     (λ s h. scale_put m now bytes left dataset key s written (writes_of bytes s) refl h) writes
 
 unprinted : (refusal : WriteRefusal) (status : Status) (written : Written) (m : Objects) (now : Option Objects) (bytes : Bytes) (left : Option Bytes) (dataset key : Name) (o : Outlets)
-    → WritesAll (Ok written) (writable m dataset key) m now bytes left dataset key → Prints (Err refusal) o.out_old o.out_new (written_line written.objects written.cells)
+    → WritesAll (Ok written) (stored_scale m dataset key) m now bytes left dataset key → Prints (Err refusal) o.out_old o.out_new (written_line written.objects written.cells)
     → Reports (write_status refusal) (write_line dataset refusal) status (Tells o) → WriteShows status m now bytes left dataset key o
 unprinted OutFault status written m now bytes left dataset key o writes prints (inl told) =
     subst (λ st. WriteShows st m now bytes left dataset key o) (sym told.0)
-    (of_writes (λ s ws. HasStored m now left dataset key s ws × GainsFront o.out_old o.out_new (count_line s ws)) m now bytes left dataset key written writes
-    (λ s ws stored back counts. (stored, subst (GainsFront o.out_old o.out_new) (line_is written s ws counts) prints)))
+    (of_writes (λ s ws. HasStored m now left dataset key s ws × GainsFront o.out_old o.out_new (count_line dataset s ws)) m now bytes left dataset key written writes
+    (λ s ws stored back counts. (stored, subst (GainsFront o.out_old o.out_new) (line_is written dataset s ws counts) prints)))
 unprinted OutFault status written m now bytes left dataset key o writes prints (inr told) = cc told.1
 unprinted NoMemory status written m now bytes left dataset key o writes prints (inl told) =
     subst (λ st. WriteShows st m now bytes left dataset key o) (sym told.0) (inr (all_put m now bytes left dataset key written writes))
@@ -187,7 +188,7 @@ unprinted (TooManyCells cells) status written m now bytes left dataset key o wri
 unprinted StoreFault status written m now bytes left dataset key o writes prints told = absurd prints
 unprinted FeedFault status written m now bytes left dataset key o writes prints told = absurd prints
 
-unprinted_judged : (refusal : WriteRefusal) (status : Status) (written : Written) (m : Objects) (dataset key : Name) (old new : Option Bytes) (o : Outlets) (line : Bytes) → Judges (Ok written) (writable m dataset key) m dataset
+unprinted_judged : (refusal : WriteRefusal) (status : Status) (written : Written) (m : Objects) (dataset key : Name) (old new : Option Bytes) (o : Outlets) (line : Bytes) → Judges (Ok written) (stored_scale m dataset key) m dataset
     → Prints (Err refusal) o.out_old o.out_new line → Reports (write_status refusal) (write_line dataset refusal) status (Tells o) → WriteJudges status m dataset key old new o
 unprinted_judged OutFault status written m dataset key old new o line judges prints (inl told) = subst (λ st. WriteJudges st m dataset key old new o) (sym told.0) judges
 unprinted_judged OutFault status written m dataset key old new o line judges prints (inr told) = cc told.1
@@ -202,27 +203,27 @@ unprinted_judged FeedFault status written m dataset key old new o line judges pr
 
 -- the same where objects and the feed may be untold
 pub unprinted_judged_told : (refusal : WriteRefusal) (status : Status) (written : Written) (told : Option Objects) (dataset key : Name) (old new : Option Bytes) (o : Outlets) (line : Bytes)
-    → IfSome told (λ m. Judges (Ok written) (writable m dataset key) m dataset) → Prints (Err refusal) o.out_old o.out_new line → Reports (write_status refusal) (write_line dataset refusal) status (Tells o)
+    → IfSome told (λ m. Judges (Ok written) (stored_scale m dataset key) m dataset) → Prints (Err refusal) o.out_old o.out_new line → Reports (write_status refusal) (write_line dataset refusal) status (Tells o)
     → IfSome told (λ m. WriteJudges status m dataset key old new o)
 unprinted_judged_told refusal status written None dataset key old new o line judges prints said = tt
 unprinted_judged_told refusal status written (Some m) dataset key old new o line judges prints said = unprinted_judged refusal status written m dataset key old new o line judges prints said
 
 pub unprinted_told : (refusal : WriteRefusal) (status : Status) (written : Written) (told now : Option Objects) (fed left : Option Bytes) (dataset key : Name) (o : Outlets)
-    → IfSome told (λ m. IfSome fed (λ bytes. WritesAll (Ok written) (writable m dataset key) m now bytes left dataset key)) → Prints (Err refusal) o.out_old o.out_new (written_line written.objects written.cells)
+    → IfSome told (λ m. IfSome fed (λ bytes. WritesAll (Ok written) (stored_scale m dataset key) m now bytes left dataset key)) → Prints (Err refusal) o.out_old o.out_new (written_line written.objects written.cells)
     → Reports (write_status refusal) (write_line dataset refusal) status (Tells o) → IfSome told (λ m. IfSome fed (λ bytes. WriteShows status m now bytes left dataset key o))
 unprinted_told refusal status written None now fed left dataset key o writes prints said = tt
 unprinted_told refusal status written (Some m) now None left dataset key o writes prints said = tt
 unprinted_told refusal status written (Some m) now (Some bytes) left dataset key o writes prints said = unprinted refusal status written m now bytes left dataset key o writes prints said
 
 pub printed_told : (written : Written) (told now : Option Objects) (fed left : Option Bytes) (dataset key : Name) (o : Outlets)
-    → IfSome told (λ m. IfSome fed (λ bytes. WritesAll (Ok written) (writable m dataset key) m now bytes left dataset key)) → Gains o.out_old o.out_new (written_line written.objects written.cells)
+    → IfSome told (λ m. IfSome fed (λ bytes. WritesAll (Ok written) (stored_scale m dataset key) m now bytes left dataset key)) → Gains o.out_old o.out_new (written_line written.objects written.cells)
     → IfSome told (λ m. IfSome fed (λ bytes. WriteShows Done m now bytes left dataset key o))
 printed_told written None now fed left dataset key o writes gains = tt
 printed_told written (Some m) now None left dataset key o writes gains = tt
 printed_told written (Some m) now (Some bytes) left dataset key o writes gains = printed written m now bytes left dataset key o writes gains
 
 pub back_told : (written : Written) (told now : Option Objects) (fed left : Option Bytes) (dataset key : Name)
-    → IfSome told (λ m. IfSome fed (λ bytes. WritesAll (Ok written) (writable m dataset key) m now bytes left dataset key)) → IfSome told (λ m. IfSome fed (λ bytes. WrittenBack m now bytes dataset key))
+    → IfSome told (λ m. IfSome fed (λ bytes. WritesAll (Ok written) (stored_scale m dataset key) m now bytes left dataset key)) → IfSome told (λ m. IfSome fed (λ bytes. WrittenBack m now bytes dataset key))
 back_told written None now fed left dataset key writes = tt
 back_told written (Some m) now None left dataset key writes = tt
 back_told written (Some m) now (Some bytes) left dataset key writes = written_back written m now bytes left dataset key writes

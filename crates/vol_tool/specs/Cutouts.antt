@@ -1,8 +1,9 @@
 -- What `cutout` answers.
-use Rattle.std.specs.Prelude.{◌≡◌, ◌⊎◌, ℕ, ◌-◌, ◌^◌, ◌<◌, ◌≤◌, min, [], Option, Some, None, Result, Ok as Done, Err, ⊤, IsOkAnd, IsErrAnd, IsSomeAnd}
+use Rattle.std.specs.Prelude.{◌≡◌, ◌⊎◌, ℕ, ◌+◌, ◌-◌, ◌^◌, ◌<◌, ◌≤◌, min, [], Option, Some, None, Result, Ok as Done, Err, ⊤, IsOkAnd, IsErrAnd, IsSomeAnd}
 use Rattle.vol_base.specs.declared.boxes.Box3.{Box3}
 use Rattle.vol_base.specs.declared.faults.Fault.{Fault}
 use Rattle.vol_base.specs.Outside.{Objects}
+use Rattle.vol_spec.specs.Costs.{cost}
 use Rattle.vol_spec.specs.Cut.{cut, first_fault}
 use Rattle.vol_spec.specs.Grid.{Inside, whole}
 use Rattle.vol_spec.specs.Raw.{raw_len}
@@ -11,7 +12,7 @@ use Rattle.vol_spec.specs.declared.scale.Scale.{Scale}
 use Rattle.vol_shell.specs.Effects.{Gains, GainsFront}
 use Rattle.vol_shell.specs.Lines.{damaged_line, info_line, large_line, memory_line, outside_line, output_line, store_line}
 use Rattle.vol_tool.specs.Refusals.{info_text}
-use Rattle.vol_tool.specs.Scales.{readable}
+use Rattle.vol_tool.specs.Scales.{stored_scale}
 use Rattle.vol_tool.specs.Seen.{Outlets, Silent, Tells}
 use Rattle.vol_tool.specs.declared.refusal.NoScale.{NoScale}
 use Rattle.vol_tool.specs.declared.refusal.CutoutRefusal.{CutoutRefusal}
@@ -29,7 +30,7 @@ IsSound m dataset s part = IsRequest s part × (first_fault m dataset s part ≡
 
 -- the scale is there, and the box can be cut out of it
 abbrev pub CanCut : Objects → Name → Name → Box3 → Type 0
-CanCut m dataset key part = IsOkAnd (readable m dataset key) (λ s. IsSound m dataset s part)
+CanCut m dataset key part = IsOkAnd (stored_scale m dataset key) (λ s. IsSound m dataset s part)
 
 -- why a box is no request, and the number of bytes that is told (at most 2^128 - 1)
 abbrev pub IsTooLarge : Scale → Box3 → ℕ → Type 0
@@ -72,6 +73,15 @@ IsUnread refused.StoreFault = Unit {0}
 IsUnread (refused.Damaged cell fault) = Unit {0}
 IsUnread other = ⊥
 
+-- how many bytes of the store its cells cost at most, none where there is no scale
+abbrev pub cells_cost : Result Scale NoScale → Objects → Name → Box3 → ℕ
+cells_cost (Done s) m dataset part = cost m dataset s part
+cells_cost (Err why) m dataset part = 0
+
+-- it asks for no more: one byte more than an info document has at most, and what the cells cost
+abbrev pub AsksFor : Objects → Name → Name → Box3 → ℕ → ℕ → Type 0
+AsksFor m dataset key part old new = new ≤ old + (2 ^ 20 + 1 + cells_cost (stored_scale m dataset key) m dataset part)
+
 -- what a cutout answers where nothing is told: a box that it refuses is the one that was asked for, and nothing is written but by a
 -- cutout that succeeds, or where the outlet fails
 abbrev pub Writes : Result ⊤ CutoutRefusal → Box3 → Option Bytes → Option Bytes → Type 0
@@ -97,20 +107,20 @@ cut_of (Err why) m dataset part = []
 
 -- the output gained a front of the cutout
 abbrev pub CutsFront : Objects → Name → Name → Box3 → Outlets → Type 0
-CutsFront m dataset key part o = GainsFront o.out_old o.out_new (cut_of (readable m dataset key) m dataset part)
+CutsFront m dataset key part o = GainsFront o.out_old o.out_new (cut_of (stored_scale m dataset key) m dataset part)
 
 -- what each status of `cutout` says over objects that are told
 abbrev pub CutoutShows : Status → Objects → Name → Name → Box3 → Outlets → Type 0
 CutoutShows Ok m dataset key part o =
-    IsOkAnd (readable m dataset key) (λ s. IsSound m dataset s part × Gains o.out_old o.out_new (cut m dataset s part))
+    IsOkAnd (stored_scale m dataset key) (λ s. IsSound m dataset s part × Gains o.out_old o.out_new (cut m dataset s part))
 CutoutShows InfoRefused m dataset key part o =
-    IsErrAnd (readable m dataset key) (λ why. Tells o (info_line dataset (info_text why)))
-CutoutShows RequestRefused m dataset key part o = IsOkAnd (readable m dataset key) (λ s. RefusesBox s part o)
+    IsErrAnd (stored_scale m dataset key) (λ why. Tells o (info_line dataset (info_text why)))
+CutoutShows RequestRefused m dataset key part o = IsOkAnd (stored_scale m dataset key) (λ s. RefusesBox s part o)
 CutoutShows Damaged m dataset key part o =
-    IsOkAnd (readable m dataset key) (λ s. MeetsFault m dataset s part o) × CutsFront m dataset key part o
+    IsOkAnd (stored_scale m dataset key) (λ s. MeetsFault m dataset s part o) × CutsFront m dataset key part o
 CutoutShows StoreFault m dataset key part o = CutsFront m dataset key part o
 CutoutShows OutFault m dataset key part o =
-    IsOkAnd (readable m dataset key) (λ s. IsSound m dataset s part × GainsFront o.out_old o.out_new (cut m dataset s part))
+    IsOkAnd (stored_scale m dataset key) (λ s. IsSound m dataset s part × GainsFront o.out_old o.out_new (cut m dataset s part))
 CutoutShows NoMemory m dataset key part o = CutsFront m dataset key part o
 CutoutShows Usage m dataset key part o = ⊥
 CutoutShows FeedFault m dataset key part o = ⊥

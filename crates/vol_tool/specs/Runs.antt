@@ -6,7 +6,7 @@ use Rattle.command_line.specs.declared.commands.Command.{Command}
 use Rattle.command_line.specs.declared.commands.Command.TheVariants.{Cutout, Write}
 use Rattle.shard_writer.specs.Writing.{Drops}
 use Rattle.vol_shell.specs.Lines.{memory_line, usage_line}
-use Rattle.vol_tool.specs.Cutouts.{CanCut, CutoutLeaves, CutoutShows}
+use Rattle.vol_tool.specs.Cutouts.{AsksFor, CanCut, CutoutLeaves, CutoutShows}
 use Rattle.vol_tool.specs.Seen.{Faults, IsLater, LeavesStore, Outlets, outlets, Seen, Silent, Tells}
 use Rattle.vol_tool.specs.Storing.{CanWrite, puts, WriteJudges, WriteLeaves, WriteShows, WrittenBack}
 use Rattle.vol_tool.specs.declared.status.Status.{Status}
@@ -59,8 +59,10 @@ Leaves (Some (Write dataset key workers)) status before after = WriteLeaves stat
 -- What stays of the store, the feed and the door.
 abbrev pub Keeps : Option Command → Status → Seen → Seen → Type 0
 Keeps None status before after = LeavesStore before after × (after.left ≡ before.left) × (after.door ≡ before.door)
+-- and no more bytes are asked for than the cells of the box cost, where they are told
 Keeps (Some (Cutout dataset key part)) status before after =
     LeavesStore before after × (after.left ≡ before.left) × (after.door ≡ before.door)
+    × IfSome before.objects (λ m. AsksFor m dataset key part before.asked after.asked)
 -- no object stays half written that was begun in the call; a write that succeeds reads its feed to the end, and one without a scale
 -- doesn't read it
 Keeps (Some (Write dataset key workers)) status before after =

@@ -20,9 +20,8 @@ use Rattle.vol_shell.specs.Effects.{Gains, GainsFront}
 use Rattle.vol_shell.specs.Lines.{cells_line, feed_line, folder_line, info_line, memory_line, output_line, store_line, stream_line, written_line}
 use Rattle.vol_tool.specs.Cutouts.{TellsNoScale}
 use Rattle.vol_tool.specs.Refusals.{info_text}
-use Rattle.vol_tool.specs.Scales.{stored_scale, writable}
+use Rattle.vol_tool.specs.Scales.{stored_scale}
 use Rattle.vol_tool.specs.Seen.{Outlets, Silent, Tells}
-use Rattle.vol_tool.specs.declared.info.Purpose.{Purpose}
 use Rattle.vol_tool.specs.declared.refusal.NoScale.{NoScale}
 use Rattle.vol_tool.specs.declared.refusal.WriteRefusal.{WriteRefusal}
 use Rattle.vol_tool.specs.declared.refusal.WriteRefusal.TheVariants as refused
@@ -36,7 +35,7 @@ pub record HasStored (m : Objects) (now : Option Objects) (left : Option Bytes) 
   pub few : pairs s writes ≤ 2 ^ 22
   pub end : left ≡ Some []
   pub put : now ≡ Some (put_in m (stored_list dataset s (chunks_of s zeros writes)))
-  pub same : (purpose : Purpose) → stored_scale purpose (put_in m (stored_list dataset s (chunks_of s zeros writes))) dataset key ≡ stored_scale purpose m dataset key
+  pub same : stored_scale (put_in m (stored_list dataset s (chunks_of s zeros writes))) dataset key ≡ stored_scale m dataset key
 
 -- each box inside the scale reads back as the writes: no cell of it has a fault, its cutout is the bytes of the last write at each voxel and
 -- channel, else 0, none missing, and nothing is wrong with its cells
@@ -44,21 +43,21 @@ abbrev pub AllReadBack : Option Objects → Name → Scale → Writes → Type 0
 AllReadBack objects dataset s writes = IsSomeAnd objects (λ now. (b : Box3) → Inside s b → ReadsBack now dataset s writes b)
 
 abbrev pub WrittenBack : Objects → Option Objects → Bytes → Name → Name → Type 0
-WrittenBack m now bytes dataset key = IsOkAnd (writable m dataset key) (λ s. IsOkAnd (writes_of bytes s) (AllReadBack now dataset s))
+WrittenBack m now bytes dataset key = IsOkAnd (stored_scale m dataset key) (λ s. IsOkAnd (writes_of bytes s) (AllReadBack now dataset s))
 
 -- a front of the objects of writes that can be stored: the folder was empty, and there are not too many cells
 abbrev pub FrontPut : Objects → Option Objects → Bytes → Name → Scale → Type 0
 FrontPut m now bytes dataset s =
     (any_under m (folder_of dataset s) ≡ false) × IsOkAnd (writes_of bytes s) (λ writes. (pairs s writes ≤ 2 ^ 22) × PutsFront (stored_list dataset s (chunks_of s zeros writes)) m now)
 
--- a number of objects and of cells that is that of the cells that the writes meet
-pub record Counts (written : Written) (s : Scale) (writes : Writes) : Type 0 where
-  pub objects : written.objects ≡ length (met_cells s writes)
+-- a number of objects that is that of the objects of the writes, and one of cells that is that of the cells that they meet
+pub record Counts (written : Written) (dataset : Name) (s : Scale) (writes : Writes) : Type 0 where
+  pub objects : written.objects ≡ length (stored_list dataset s (chunks_of s zeros writes))
   pub cells : written.cells ≡ length (met_cells s writes)
 
 -- what writing the objects of writes answers, and what stands after it
 abbrev pub PutsWrites : Result Written WriteRefusal → Objects → Option Objects → Name → Scale → Writes → Type 0
-PutsWrites (Ok written) m now dataset s writes = (now ≡ Some (put_in m (stored_list dataset s (chunks_of s zeros writes)))) × (pairs s writes ≤ 2 ^ 22) × Counts written s writes
+PutsWrites (Ok written) m now dataset s writes = (now ≡ Some (put_in m (stored_list dataset s (chunks_of s zeros writes)))) × (pairs s writes ≤ 2 ^ 22) × Counts written dataset s writes
 PutsWrites (Err (refused.TooManyCells cells)) m now dataset s writes = (cells ≡ pairs s writes) × (2 ^ 22 < pairs s writes)
 PutsWrites (Err refused.StoreFault) m now dataset s writes = (pairs s writes ≤ 2 ^ 22) × PutsFront (stored_list dataset s (chunks_of s zeros writes)) m now
 PutsWrites (Err refused.NoMemory) m now dataset s writes = (now ≡ Some m) ⊎ ((pairs s writes ≤ 2 ^ 22) × PutsFront (stored_list dataset s (chunks_of s zeros writes)) m now)
@@ -74,7 +73,7 @@ Prints (Err other) old new line = ⊥
 -- what writing a scale answers over objects and a feed that are told, and what stands after it
 abbrev pub WritesScale : Result Written WriteRefusal → Objects → Option Objects → Bytes → Option Bytes → Name → Name → Scale → Type 0
 WritesScale (Ok written) m now bytes left dataset key s =
-    IsOkAnd (writes_of bytes s) (λ writes. HasStored m now left dataset key s writes × AllReadBack now dataset s writes × Counts written s writes)
+    IsOkAnd (writes_of bytes s) (λ writes. HasStored m now left dataset key s writes × AllReadBack now dataset s writes × Counts written dataset s writes)
 WritesScale (Err (refused.NoScale why)) m now bytes left dataset key s = ⊥
 WritesScale (Err refused.NotEmpty) m now bytes left dataset key s = Unit {0}
 WritesScale (Err (refused.Stream fault)) m now bytes left dataset key s = writes_of bytes s ≡ Err fault
@@ -129,21 +128,21 @@ puts NoMemory = true
 puts other = false
 
 -- the line of a write
-abbrev pub count_line : Scale → Writes → Bytes
-count_line s writes = written_line (length (met_cells s writes)) (length (met_cells s writes))
+abbrev pub count_line : Name → Scale → Writes → Bytes
+count_line dataset s writes = written_line (length (stored_list dataset s (chunks_of s zeros writes))) (length (met_cells s writes))
 
 -- what each status of `write` says over objects that are told: the scale and its folder are judged before the feed is read, of which this
 -- is left before and after the call
 abbrev pub WriteJudges : Status → Objects → Name → Name → Option Bytes → Option Bytes → Outlets → Type 0
-WriteJudges InfoRefused m dataset key old new o = IsErrAnd (writable m dataset key) (λ why. Tells o (info_line dataset (info_text why)))
+WriteJudges InfoRefused m dataset key old new o = IsErrAnd (stored_scale m dataset key) (λ why. Tells o (info_line dataset (info_text why)))
 WriteJudges RequestRefused m dataset key old new o =
-    IsOkAnd (writable m dataset key) (λ s. any_under m (folder_of dataset s) ≡ true → (new ≡ old) × Tells o folder_line)
+    IsOkAnd (stored_scale m dataset key) (λ s. any_under m (folder_of dataset s) ≡ true → (new ≡ old) × Tells o folder_line)
 WriteJudges StoreFault m dataset key old new o = Unit {0}
 WriteJudges NoMemory m dataset key old new o = Unit {0}
 WriteJudges Usage m dataset key old new o = ⊥
 WriteJudges Damaged m dataset key old new o = ⊥
 WriteJudges DoorFault m dataset key old new o = ⊥
-WriteJudges other m dataset key old new o = IsOkAnd (writable m dataset key) (λ s. any_under m (folder_of dataset s) ≡ false)
+WriteJudges other m dataset key old new o = IsOkAnd (stored_scale m dataset key) (λ s. any_under m (folder_of dataset s) ≡ false)
 
 -- why a stream can't be written, with the line: it has a fault, or its writes meet too many cells
 abbrev pub RefusesStream : Bytes → Scale → Outlets → Type 0
@@ -154,21 +153,21 @@ RefusesStream bytes s o =
 -- and over a feed that is told too
 abbrev pub WriteShows : Status → Objects → Option Objects → Bytes → Option Bytes → Name → Name → Outlets → Type 0
 WriteShows Done m now bytes left dataset key o =
-    IsOkAnd (writable m dataset key) (λ s. IsOkAnd (writes_of bytes s) (λ writes.
-    HasStored m now left dataset key s writes × Gains o.out_old o.out_new (count_line s writes)))
+    IsOkAnd (stored_scale m dataset key) (λ s. IsOkAnd (writes_of bytes s) (λ writes.
+    HasStored m now left dataset key s writes × Gains o.out_old o.out_new (count_line dataset s writes)))
 WriteShows OutFault m now bytes left dataset key o =
-    IsOkAnd (writable m dataset key) (λ s. IsOkAnd (writes_of bytes s) (λ writes.
-    HasStored m now left dataset key s writes × GainsFront o.out_old o.out_new (count_line s writes)))
+    IsOkAnd (stored_scale m dataset key) (λ s. IsOkAnd (writes_of bytes s) (λ writes.
+    HasStored m now left dataset key s writes × GainsFront o.out_old o.out_new (count_line dataset s writes)))
 WriteShows RequestRefused m now bytes left dataset key o =
-    IsOkAnd (writable m dataset key) (λ s. any_under m (folder_of dataset s) ≡ false → RefusesStream bytes s o)
-WriteShows StoreFault m now bytes left dataset key o = (now ≡ Some m) ⊎ IsOkAnd (writable m dataset key) (FrontPut m now bytes dataset)
-WriteShows NoMemory m now bytes left dataset key o = (now ≡ Some m) ⊎ IsOkAnd (writable m dataset key) (FrontPut m now bytes dataset)
+    IsOkAnd (stored_scale m dataset key) (λ s. any_under m (folder_of dataset s) ≡ false → RefusesStream bytes s o)
+WriteShows StoreFault m now bytes left dataset key o = (now ≡ Some m) ⊎ IsOkAnd (stored_scale m dataset key) (FrontPut m now bytes dataset)
+WriteShows NoMemory m now bytes left dataset key o = (now ≡ Some m) ⊎ IsOkAnd (stored_scale m dataset key) (FrontPut m now bytes dataset)
 WriteShows other m now bytes left dataset key o = Unit {0}
 
 -- the scale is there, its folder is empty, and the stream can be written
 abbrev pub CanWrite : Objects → Bytes → Name → Name → Type 0
 CanWrite m bytes dataset key =
-    IsOkAnd (writable m dataset key) (λ s. (any_under m (folder_of dataset s) ≡ false) × IsOkAnd (writes_of bytes s) (λ writes. pairs s writes ≤ 2 ^ 22))
+    IsOkAnd (stored_scale m dataset key) (λ s. (any_under m (folder_of dataset s) ≡ false) × IsOkAnd (writes_of bytes s) (λ writes. pairs s writes ≤ 2 ^ 22))
 
 -- the line of a folder that isn't empty, of some fault of a stream, or of too many cells
 abbrev pub TellsRequest : Outlets → Type 0

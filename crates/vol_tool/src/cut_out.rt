@@ -1,14 +1,15 @@
 //! The command `cutout`.
-ghost use Rattle.std.specs.Prelude.{◌≡◌, ◌≤◌, length, IfErr, IfSome};
+ghost use Rattle.std.specs.Prelude.{◌≡◌, ◌≤◌, ◌+◌, length, IfErr, IfSome};
 ghost use Rattle.vol_base.specs.Causes.{Rose};
 ghost use Rattle.vol_base.specs.Outside.{OnlyReads};
+ghost use Rattle.vol_spec.specs.Costs.{cost};
 ghost use Rattle.vol_spec.specs.Raw.{raw_len};
 ghost use Rattle.vol_spec.specs.declared.encoding.Encoding.TheVariants.{Raw};
-ghost use Rattle.vol_tool.specs.Cutouts.{Cuts, CutsScale, HasRead, IsRequest, IsUnread, JudgesPart, Writes};
-ghost use Rattle.vol_tool.specs.Scales.{readable};
+ghost use Rattle.vol_tool.specs.Cutouts.{AsksFor, Cuts, CutsScale, HasRead, IsRequest, IsUnread, JudgesPart, Writes};
+ghost use Rattle.vol_tool.specs.Scales.{stored_scale};
 
 use crate::buffers::make_buffer;
-use crate::info::{Purpose, read_scale};
+use crate::info::read_scale;
 use crate::refusal::CutoutRefusal;
 use chunk_grid::{byte_len, inside, whole};
 use cutout::{CutFault, Reader};
@@ -48,6 +49,7 @@ fn read_values<S: Source>(
     requires len { length out.old ≡ raw_len part.now reader.old.scale.channels reader.old.scale.width }
     ensures read { IfSome (S.objects store.old) (λ m. HasRead result m reader.old.dataset reader.old.scale part.now out.new) }
     ensures unread { IfErr result IsUnread }
+    ensures asked { IfSome (S.objects store.old) (λ m. S.asked store.new ≤ S.asked store.old + cost m reader.old.dataset reader.old.scale part.now) }
     ensures kept { OnlyReads (S.objects store.old) (S.objects store.new) (S.draft store.old) (S.draft store.new) }
     ensures later { S.faults store.old ≤ S.faults store.new }
     ensures fault { result ≡ Err CutoutRefusal.StoreFault → Rose (S.faults store.old) (S.faults store.new) }
@@ -71,6 +73,7 @@ fn cut_into<S: Source, O: Outlet>(
     requires part { IsRequest reader.old.scale part.now }
     requires len { length values.old ≡ raw_len part.now reader.old.scale.channels reader.old.scale.width }
     ensures cuts { IfSome (S.objects store.old) (λ m. CutsScale result m reader.old.dataset reader.old.scale part.now (O.written out.old) (O.written out.new)) }
+    ensures asked { IfSome (S.objects store.old) (λ m. S.asked store.new ≤ S.asked store.old + cost m reader.old.dataset reader.old.scale part.now) }
     ensures kept { OnlyReads (S.objects store.old) (S.objects store.new) (S.draft store.old) (S.draft store.new) }
     ensures store_later { S.faults store.old ≤ S.faults store.new }
     ensures out_later { O.faults out.old ≤ O.faults out.new }
@@ -100,6 +103,7 @@ fn cut_scale<S: Source, O: Outlet>(
     requires dataset { length dataset.now ≤ 200 }
     requires raw { scale.now.encoding ≡ Raw }
     ensures cuts { IfSome (S.objects store.old) (λ m. CutsScale result m dataset.now scale.now part.now (O.written out.old) (O.written out.new)) }
+    ensures asked { IfSome (S.objects store.old) (λ m. S.asked store.new ≤ S.asked store.old + cost m dataset.now scale.now part.now) }
     ensures kept { OnlyReads (S.objects store.old) (S.objects store.new) (S.draft store.old) (S.draft store.new) }
     ensures store_later { S.faults store.old ≤ S.faults store.new }
     ensures out_later { O.faults out.old ≤ O.faults out.new }
@@ -125,7 +129,8 @@ pub(crate) fn cut_out<S: Source, O: Outlet>(
 ) -> Result<(), CutoutRefusal>
     requires dataset { length dataset.now ≤ 200 }
     requires key { length key.now ≤ 200 }
-    ensures cuts { IfSome (S.objects store.old) (λ m. Cuts result (readable m dataset.now key.now) m dataset.now part.now (O.written out.old) (O.written out.new)) }
+    ensures cuts { IfSome (S.objects store.old) (λ m. Cuts result (stored_scale m dataset.now key.now) m dataset.now part.now (O.written out.old) (O.written out.new)) }
+    ensures asked { IfSome (S.objects store.old) (λ m. AsksFor m dataset.now key.now part.now (S.asked store.old) (S.asked store.new)) }
     ensures kept { OnlyReads (S.objects store.old) (S.objects store.new) (S.draft store.old) (S.draft store.new) }
     ensures store_later { S.faults store.old ≤ S.faults store.new }
     ensures out_later { O.faults out.old ≤ O.faults out.new }
@@ -133,6 +138,6 @@ pub(crate) fn cut_out<S: Source, O: Outlet>(
     ensures out_fault { result ≡ Err CutoutRefusal.OutFault → Rose (O.faults out.old) (O.faults out.new) }
     ensures unwritten { Writes result part.now (O.written out.old) (O.written out.new) }
 {
-    let scale = read_scale(alloc, store, Purpose::Reading, dataset, key)?;
+    let scale = read_scale(alloc, store, dataset, key)?;
     cut_scale(alloc, store, out, dataset, &scale, part)
 }

@@ -23,59 +23,40 @@ fn find_info(dataset: &Name) -> Name
     dataset.join(&info).unwrap()
 }
 
-/// What a scale is wanted for.
-#[derive(Clone, Copy, Debug, PartialEq, Eq)]
-pub(crate) enum Purpose {
-    /// Boxes are cut out of it.
-    Reading,
-    /// Boxes are written into it.
-    Writing,
-}
-
-// Whether the scale is served: boxes are cut out of raw chunks, and written into those that are unsharded.
-fn is_served_scale(purpose: Purpose, scale: &Scale) -> bool
-    ensures { result ≡ is_served purpose scale.now }
+// Whether the scale is read and written: where its chunks are raw.
+fn is_served_scale(scale: &Scale) -> bool
+    ensures { result ≡ is_served scale.now }
 {
-    let is_raw = matches!(&scale.encoding, Encoding::Raw);
-    match purpose {
-        Purpose::Reading => is_raw,
-        Purpose::Writing => is_raw && scale.sharding.is_none(),
-    }
+    matches!(&scale.encoding, Encoding::Raw)
 }
 
-// A scale of the info document, where it is served.
-fn serve_scale(purpose: Purpose, scale: Scale) -> Result<Scale, ScaleRefusal>
-    ensures served { ReadsScale result (served_only purpose scale) }
-    ensures form { IfOk result (IsServed purpose) }
+// A scale of the info document, where its chunks are read.
+fn serve_scale(scale: Scale) -> Result<Scale, ScaleRefusal>
+    ensures served { ReadsScale result (served_only scale) }
+    ensures form { IfOk result IsServed }
     ensures unasked { result ≢ Err ScaleRefusal.StoreFault }
 {
-    if is_served_scale(purpose, &scale) {
+    if is_served_scale(&scale) {
         Ok(scale)
     } else {
         Err(ScaleRefusal::NoScale(NoScale::NotBuilt))
     }
 }
 
-fn judge_info(
-    alloc: Global,
-    purpose: Purpose,
-    info: &[u8],
-    key: &Name,
-) -> Result<Scale, ScaleRefusal>
+fn judge_info(alloc: Global, info: &[u8], key: &Name) -> Result<Scale, ScaleRefusal>
     requires { length key.now ≤ 200 }
-    ensures judged { ReadsScale result (judged_info purpose (scale_in info.now key.now)) }
-    ensures form { IfOk result (IsServed purpose) }
+    ensures judged { ReadsScale result (judged_info (scale_in info.now key.now)) }
+    ensures form { IfOk result IsServed }
     ensures unasked { result ≢ Err ScaleRefusal.StoreFault }
 {
     let scale = scale_of(alloc, info, key)?;
-    serve_scale(purpose, scale)
+    serve_scale(scale)
 }
 
 // The scale, read by way of a buffer.
 fn read_scale_into<S: Source>(
     alloc: Global,
     store: &mut S,
-    purpose: Purpose,
     dataset: &Name,
     key: &Name,
     buffer: &mut [u8],
@@ -83,16 +64,17 @@ fn read_scale_into<S: Source>(
     requires dataset { length dataset.now ≤ 200 }
     requires key { length key.now ≤ 200 }
     requires room { length buffer.old ≡ 2 ^ 20 + 1 }
-    ensures read { IfSome (S.objects store.old) (λ m. ReadsScale result (stored_scale purpose m dataset.now key.now)) }
-    ensures form { IfOk result (IsServed purpose) }
+    ensures read { IfSome (S.objects store.old) (λ m. ReadsScale result (stored_scale m dataset.now key.now)) }
+    ensures form { IfOk result IsServed }
     ensures kept { OnlyReads (S.objects store.old) (S.objects store.new) (S.draft store.old) (S.draft store.new) }
+    ensures asked { S.asked store.new ≤ S.asked store.old + (2 ^ 20 + 1) }
     ensures later { S.faults store.old ≤ S.faults store.new }
     ensures fault { result ≡ Err ScaleRefusal.StoreFault → Rose (S.faults store.old) (S.faults store.new) }
 {
     match store.read_at(&find_info(dataset), 0, buffer) {
         Err(_) => Err(ScaleRefusal::StoreFault),
         Ok(Got::Absent) => Err(ScaleRefusal::NoScale(NoScale::Absent)),
-        Ok(Got::Bytes(len)) => judge_info(alloc, purpose, &buffer[..len as usize], key),
+        Ok(Got::Bytes(len)) => judge_info(alloc, &buffer[..len as usize], key),
     }
 }
 
@@ -101,18 +83,18 @@ fn read_scale_into<S: Source>(
 pub(crate) fn read_scale<S: Source>(
     alloc: Global,
     store: &mut S,
-    purpose: Purpose,
     dataset: &Name,
     key: &Name,
 ) -> Result<Scale, ScaleRefusal>
     requires dataset { length dataset.now ≤ 200 }
     requires key { length key.now ≤ 200 }
-    ensures read { IfSome (S.objects store.old) (λ m. ReadsScale result (stored_scale purpose m dataset.now key.now)) }
-    ensures form { IfOk result (IsServed purpose) }
+    ensures read { IfSome (S.objects store.old) (λ m. ReadsScale result (stored_scale m dataset.now key.now)) }
+    ensures form { IfOk result IsServed }
     ensures kept { OnlyReads (S.objects store.old) (S.objects store.new) (S.draft store.old) (S.draft store.new) }
+    ensures asked { S.asked store.new ≤ S.asked store.old + (2 ^ 20 + 1) }
     ensures later { S.faults store.old ≤ S.faults store.new }
     ensures fault { result ≡ Err ScaleRefusal.StoreFault → Rose (S.faults store.old) (S.faults store.new) }
 {
     let mut buffer = make_buffer(alloc, INFO_ROOM)?;
-    read_scale_into(alloc, store, purpose, dataset, key, &mut buffer)
+    read_scale_into(alloc, store, dataset, key, &mut buffer)
 }

@@ -12,7 +12,7 @@ pub(crate) enum NoScale {
     Absent,
     /// The info document gives no scale.
     Refused(InfoFault),
-    /// The scale is segmented, or sharded and to be written, which isn't served yet.
+    /// The scale is segmented, which isn't served yet.
     NotBuilt,
 }
 

@@ -5,7 +5,7 @@ ghost use Rattle.vol_base.specs.Causes.{Rose};
 ghost use Rattle.vol_base.specs.Outside.{Objects, OnlyReads};
 ghost use Rattle.command_line.specs.Words.{line};
 ghost use Rattle.shard_writer.specs.Writing.{Drops};
-ghost use Rattle.vol_tool.specs.Cutouts.{CanCut, CutoutLeaves, CutoutShows};
+ghost use Rattle.vol_tool.specs.Cutouts.{AsksFor, CanCut, CutoutLeaves, CutoutShows};
 ghost use Rattle.vol_tool.specs.Runs.{Answers, Causes, Headline, Keeps, Leaves, Succeeds};
 ghost use Rattle.vol_tool.specs.Seen.{outlets_of, Seen, view};
 ghost use Rattle.vol_tool.specs.Storing.{CanWrite, puts, WriteJudges, WriteLeaves, WriteShows, WrittenBack};
@@ -40,6 +40,7 @@ fn run_cutout<S: Store, O: Outlet, E: Outlet>(
     ensures feed { result ≡ Status.FeedFault → ⊥ }
     ensures complete { (m : Objects) → S.objects store.old ≡ Some m → CanCut m dataset.now key.now part.now
         → (Rose (S.faults store.old) (S.faults store.new) → ⊥) → (Rose (O.faults out.old) (O.faults out.new) → ⊥) → (result ≡ Status.Ok) ⊎ (result ≡ Status.NoMemory) }
+    ensures asked { IfSome (S.objects store.old) (λ m. AsksFor m dataset.now key.now part.now (S.asked store.old) (S.asked store.new)) }
     ensures kept { OnlyReads (S.objects store.old) (S.objects store.new) (S.draft store.old) (S.draft store.new) }
     ensures store_later { S.faults store.old ≤ S.faults store.new }
     ensures out_later { O.faults out.old ≤ O.faults out.new }
@@ -55,7 +56,8 @@ fn run_cutout<S: Store, O: Outlet, E: Outlet>(
 }
 
 // The command `write`.
-fn run_write<S: Store, F: Feed, O: Outlet, E: Outlet>(
+fn run_write<R, S: Store, F: Feed, O: Outlet, E: Outlet, G: Gate + Sync>(
+    rt: &R,
     alloc: Global,
     store: &mut S,
     feed: &mut F,
@@ -63,7 +65,11 @@ fn run_write<S: Store, F: Feed, O: Outlet, E: Outlet>(
     err: &mut E,
     dataset: &Name,
     key: &Name,
+    workers: u32,
+    gate: &G,
 ) -> Status
+where
+    R: Threads + Wait + Sync,
     requires dataset { length dataset.now ≤ 200 }
     requires key { length key.now ≤ 200 }
     ensures judges { IfSome (S.objects store.old) (λ m. WriteJudges result m dataset.now key.now (F.left feed.old) (F.left feed.new)
@@ -91,7 +97,7 @@ fn run_write<S: Store, F: Feed, O: Outlet, E: Outlet>(
     ensures feed_fault { result ≡ Status.FeedFault → Rose (F.faults feed.old) (F.faults feed.new) }
     ensures out_fault { result ≡ Status.OutFault → Rose (O.faults out.old) (O.faults out.new) }
 {
-    let written = match write_objects(alloc, store, feed, dataset, key) {
+    let written = match write_objects(rt, alloc, store, feed, dataset, key, workers, gate) {
         Ok(written) => written,
         Err(refusal) => return report(alloc, err, dataset, &refusal),
     };
@@ -116,7 +122,7 @@ impl<S: Store, F: Feed, O: Outlet, E: Outlet, D: Door> Viewed<S, F, O, E, D> for
 /// Runs the command that the words spell (those after the program's name) over a store, a feed, an output, an
 /// error output and a door. `rt` is for workers and `gate` is told what they do; no command has workers yet.
 pub fn run<R, S: Store, F: Feed, O: Outlet, E: Outlet, D: Door, G: Gate + Sync>(
-    _rt: &R,
+    rt: &R,
     alloc: Global,
     words: &[String],
     store: &mut S,
@@ -124,7 +130,7 @@ pub fn run<R, S: Store, F: Feed, O: Outlet, E: Outlet, D: Door, G: Gate + Sync>(
     out: &mut O,
     err: &mut E,
     _door: &mut D,
-    _gate: &G,
+    gate: &G,
 ) -> Status
 where
     R: Threads + Wait + Sync,
@@ -172,8 +178,18 @@ where
         Ok(Some(Command::Cutout { dataset, key, part })) => {
             run_cutout(alloc, store, out, err, &dataset, &key, &part)
         }
-        Ok(Some(Command::Write { dataset, key, .. })) => {
-            run_write(alloc, store, feed, out, err, &dataset, &key)
+        Ok(
+            Some(
+                Command::Write {
+                    dataset,
+                    key,
+                    workers,
+                },
+            ),
+        ) => {
+            run_write(
+                rt, alloc, store, feed, out, err, &dataset, &key, workers, gate,
+            )
         }
     }
 }

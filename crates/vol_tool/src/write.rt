@@ -2,20 +2,23 @@
 ghost use Rattle.std.specs.Prelude.{◌≡◌, ◌≤◌, ◌^◌, ℕ, List, All, length, IfErr, IfSome};
 ghost use Rattle.vol_base.specs.Causes.{Rose};
 ghost use Rattle.vol_spec.specs.CellNames.{folder_of};
+ghost use Rattle.vol_spec.specs.declared.encoding.Encoding.TheVariants.{Raw};
 ghost use Rattle.write_plan.specs.Plans.{pairs};
 ghost use Rattle.write_plan.specs.WriteLists.{IsWriteOf};
 ghost use Rattle.shard_writer.specs.Writing.{Drops};
 ghost use Rattle.vol_shell.specs.Lines.{written_line};
-ghost use Rattle.vol_tool.specs.Scales.{IsWritable, writable};
+ghost use Rattle.vol_tool.specs.Scales.{IsServed, stored_scale};
 ghost use Rattle.vol_tool.specs.Storing.{Judges, KeepsFeed, KeepsPlan, KeepsStore, Prints, PutsWrites, WritesAll, WritesScale};
 
-use crate::info::{Purpose, read_scale};
+use crate::info::read_scale;
 use crate::refusal::WriteRefusal;
 use chunk_laws::tell_chunks;
 use info_doc::Scale;
 use shard_writer::{WriteFault, Written, write_scale};
 use std::alloc::Global;
-use vol_base::{Feed, Name, Outlet, Store};
+use std::sync::Wait;
+use std::thread::Threads;
+use vol_base::{Feed, Gate, Name, Outlet, Store};
 use vol_shell::{write_all, write_written_line};
 use write_plan::{Plan, Writes, read_writes};
 
@@ -28,15 +31,20 @@ fn find_folder(dataset: &Name, scale: &Scale) -> Name
 }
 
 // Puts the objects of a plan.
-fn put_plan<S: Store>(
+fn put_plan<R, S: Store, G: Gate + Sync>(
+    rt: &R,
     alloc: Global,
     store: &mut S,
     dataset: &Name,
     scale: &Scale,
     plan: &mut Plan,
+    workers: u32,
+    gate: &G,
 ) -> Result<Written, WriteRefusal>
+where
+    R: Threads + Wait + Sync,
     requires dataset { length dataset.now ≤ 200 }
-    requires served { IsWritable scale.now }
+    requires raw { scale.now.encoding ≡ Raw }
     requires scale { plan.old.scale ≡ scale.now }
     requires few { pairs scale.now plan.old.writes ≤ 2 ^ 22 }
     ensures put { IfSome (S.objects store.old) (λ m. PutsWrites result m (S.objects store.new) dataset.now scale.now plan.old.writes) }
@@ -45,7 +53,7 @@ fn put_plan<S: Store>(
     ensures later { S.faults store.old ≤ S.faults store.new }
     ensures fault { result ≡ Err WriteRefusal.StoreFault → Rose (S.faults store.old) (S.faults store.new) }
 {
-    match write_scale(alloc, store, dataset, scale, plan) {
+    match write_scale(rt, alloc, store, dataset, scale, plan, workers, gate) {
         Ok(written) => Ok(written),
         Err(WriteFault::StoreFault) => Err(WriteRefusal::StoreFault),
         Err(WriteFault::Damaged { .. }) => unreachable!(),
@@ -54,15 +62,20 @@ fn put_plan<S: Store>(
 }
 
 // Writes the objects of writes.
-fn write_planned<S: Store>(
+fn write_planned<R, S: Store, G: Gate + Sync>(
+    rt: &R,
     alloc: Global,
     store: &mut S,
     dataset: &Name,
     scale: &Scale,
     writes: Writes,
+    workers: u32,
+    gate: &G,
 ) -> Result<Written, WriteRefusal>
+where
+    R: Threads + Wait + Sync,
     requires dataset { length dataset.now ≤ 200 }
-    requires served { IsWritable scale.now }
+    requires raw { scale.now.encoding ≡ Raw }
     requires fits { All (IsWriteOf scale.now) writes }
     ensures put { IfSome (S.objects store.old) (λ m. PutsWrites result m (S.objects store.new) dataset.now scale.now writes) }
     ensures draft { Drops (S.draft store.old) (S.draft store.new) }
@@ -71,19 +84,24 @@ fn write_planned<S: Store>(
     ensures fault { result ≡ Err WriteRefusal.StoreFault → Rose (S.faults store.old) (S.faults store.new) }
 {
     let mut plan = Plan::of(alloc, scale, writes)?;
-    put_plan(alloc, store, dataset, scale, &mut plan)
+    put_plan(rt, alloc, store, dataset, scale, &mut plan, workers, gate)
 }
 
 // Writes a stream into a scale whose folder is empty.
-fn write_stream<S: Store, F: Feed>(
+fn write_stream<R, S: Store, F: Feed, G: Gate + Sync>(
+    rt: &R,
     alloc: Global,
     store: &mut S,
     feed: &mut F,
     dataset: &Name,
     scale: &Scale,
+    workers: u32,
+    gate: &G,
 ) -> Result<Written, WriteRefusal>
+where
+    R: Threads + Wait + Sync,
     requires dataset { length dataset.now ≤ 200 }
-    requires served { IsWritable scale.now }
+    requires served { IsServed scale.now }
     ensures judges { IfSome (S.objects store.old) (λ m. Judges result (Ok scale.now) m dataset.now) }
     ensures writes { (key : List ℕ) → IfSome (S.objects store.old) (λ m. IfSome (F.left feed.old) (λ bytes. WritesScale result m (S.objects store.new) bytes (F.left feed.new) dataset.now key scale.now)) }
     ensures feed { KeepsFeed result (F.left feed.old) (F.left feed.new) }
@@ -102,21 +120,26 @@ fn write_stream<S: Store, F: Feed>(
     }
     let writes = read_writes(alloc, feed, scale)?;
     tell_chunks(dataset, scale);
-    write_planned(alloc, store, dataset, scale, writes)
+    write_planned(rt, alloc, store, dataset, scale, writes, workers, gate)
 }
 
 /// Writes a stream into the scale of a key, whose folder is empty.
-pub(crate) fn write_objects<S: Store, F: Feed>(
+pub(crate) fn write_objects<R, S: Store, F: Feed, G: Gate + Sync>(
+    rt: &R,
     alloc: Global,
     store: &mut S,
     feed: &mut F,
     dataset: &Name,
     key: &Name,
+    workers: u32,
+    gate: &G,
 ) -> Result<Written, WriteRefusal>
+where
+    R: Threads + Wait + Sync,
     requires dataset { length dataset.now ≤ 200 }
     requires key { length key.now ≤ 200 }
-    ensures judges { IfSome (S.objects store.old) (λ m. Judges result (writable m dataset.now key.now) m dataset.now) }
-    ensures writes { IfSome (S.objects store.old) (λ m. IfSome (F.left feed.old) (λ bytes. WritesAll result (writable m dataset.now key.now) m (S.objects store.new) bytes (F.left feed.new) dataset.now key.now)) }
+    ensures judges { IfSome (S.objects store.old) (λ m. Judges result (stored_scale m dataset.now key.now) m dataset.now) }
+    ensures writes { IfSome (S.objects store.old) (λ m. IfSome (F.left feed.old) (λ bytes. WritesAll result (stored_scale m dataset.now key.now) m (S.objects store.new) bytes (F.left feed.new) dataset.now key.now)) }
     ensures feed { KeepsFeed result (F.left feed.old) (F.left feed.new) }
     ensures draft { Drops (S.draft store.old) (S.draft store.new) }
     ensures kept { IfErr result (λ refusal. KeepsStore refusal (S.objects store.old) (S.objects store.new) (S.draft store.old) (S.draft store.new)) }
@@ -125,8 +148,8 @@ pub(crate) fn write_objects<S: Store, F: Feed>(
     ensures store_fault { result ≡ Err WriteRefusal.StoreFault → Rose (S.faults store.old) (S.faults store.new) }
     ensures feed_fault { result ≡ Err WriteRefusal.FeedFault → Rose (F.faults feed.old) (F.faults feed.new) }
 {
-    let scale = read_scale(alloc, store, Purpose::Writing, dataset, key)?;
-    write_stream(alloc, store, feed, dataset, &scale)
+    let scale = read_scale(alloc, store, dataset, key)?;
+    write_stream(rt, alloc, store, feed, dataset, &scale, workers, gate)
 }
 
 /// Prints what was written.

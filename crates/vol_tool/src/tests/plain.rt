@@ -9,7 +9,7 @@ use std::process::Abort;
 use std::sync::Wait;
 use std::test::Fail;
 use std::thread::Threads;
-use vol_base::{Box3, MemoryStore, Name};
+use vol_base::{Box3, Fault, MemoryStore, Name};
 use vol_plain::{covers, plain_value};
 
 // The members of a scale as an info document has them; its chunks by name, first byte and length; and boxes, each
@@ -193,14 +193,14 @@ pub(super) fn compare(
     }
 }
 
-/// Whether the plain program finds a fault at some value of a part.
-pub(super) fn has_fault(
+/// The x of the first position of a part, x fastest, whose value is a fault by the plain program, and the fault.
+pub(super) fn find_fault(
     rt: &impl Abort,
     store: &MemoryStore,
     dataset: &Name,
     scale: &Scale,
     part: &Box3,
-) -> bool
+) -> Option<(i64, Fault)>
     requires { length dataset.now ≤ 200 }
 {
     let len = byte_len(part, 1, 1).min(1 << 16) as u64;
@@ -208,11 +208,11 @@ pub(super) fn has_fault(
         let (p, _) = place_of(part, n);
         assert!(rt; covers(&whole(scale), p));
         assert!(rt; scale.channels > 0);
-        if plain_value(store, dataset, scale, p, 0).is_err() {
-            return true;
+        if let Err(fault) = plain_value(store, dataset, scale, p, 0) {
+            return Some((p[0], fault));
         }
     }
-    false
+    None
 }
 
 fn check_part<R: Threads + Wait + Abort + Sync>(

@@ -1,7 +1,8 @@
-//! Cutouts of sharded scales over stand-ins in memory. What each answers was worked out by a plain reader in another
-//! language, and the plain program says the same.
+//! Cutouts of sharded scales over stand-ins in memory. What each answers was worked out by the plain reader in
+//! `tests/shards.py`, and the plain program says the same.
 
-use super::plain::{compare, has_fault};
+use super::plain::{compare, find_fault};
+use super::writes::{Write, has_all, has_none, stream_of};
 use super::{call, no_feed, outlet_of, put};
 use info_doc::scale_of;
 use std::alloc::{AllocError, Global};
@@ -9,7 +10,7 @@ use std::process::Abort;
 use std::sync::Wait;
 use std::test::Fail;
 use std::thread::Threads;
-use vol_base::{Box3, MemoryStore, Name};
+use vol_base::{Box3, MemoryFeed, MemoryStore, Name};
 
 // Eleven voxels in cells of two, by their ids in two minishards of one shard.
 const SIX_CELLS: &str =
@@ -67,7 +68,27 @@ const IN_SHARD_3: [u8; 153] = [
     0, 11, 1, 0, 0, 0, 0, 0, 0, 0, 0, 0, 0, 0, 0, 0, 0, 0, 1, 0, 0, 0, 0, 0, 0, 0,
 ];
 
-// Numbers of eight bytes, each put at a place of the shard of six chunks; how many bytes of it are left; a box; and
+// Four voxels, each a cell in a minishard of its own.
+const FOUR_MINISHARDS: &str =
+    "{\"type\":\"image\",\"data_type\":\"uint8\",\"num_channels\":1,\"scales\":[{\"key\":\"s\",\"size\":[4,1,1],\"chunk_sizes\":[[1,1,1]],\"resolution\":[8,8,40],\"encoding\":\"raw\",\"sharding\":{\"@type\":\"neuroglancer_uint64_sharded_v1\",\"preshift_bits\":0,\"hash\":\"identity\",\"minishard_bits\":2,\"shard_bits\":0}}]}";
+
+const FOUR_INDEXES: [u8; 164] = [
+    1, 0, 0, 0, 0, 0, 0, 0, 25, 0, 0, 0, 0, 0, 0, 0, 26, 0, 0, 0, 0, 0, 0, 0, 50, 0, 0, 0, 0, 0, 0,
+    0, 51, 0, 0, 0, 0, 0, 0, 0, 75, 0, 0, 0, 0, 0, 0, 0, 76, 0, 0, 0, 0, 0, 0, 0, 100, 0, 0, 0, 0,
+    0, 0, 0, 1, 0, 0, 0, 0, 0, 0, 0, 0, 0, 0, 0, 0, 0, 0, 0, 0, 1, 0, 0, 0, 0, 0, 0, 0, 2, 1, 0, 0,
+    0, 0, 0, 0, 0, 25, 0, 0, 0, 0, 0, 0, 0, 1, 0, 0, 0, 0, 0, 0, 0, 3, 2, 0, 0, 0, 0, 0, 0, 0, 50,
+    0, 0, 0, 0, 0, 0, 0, 1, 0, 0, 0, 0, 0, 0, 0, 4, 3, 0, 0, 0, 0, 0, 0, 0, 75, 0, 0, 0, 0, 0, 0,
+    0, 1, 0, 0, 0, 0, 0, 0, 0,
+];
+
+// Cells of one voxel in one minishard: 4 x 8 x 8 of them, and a row of 5,000.
+const BLOCK_OF_CELLS: &str =
+    "{\"type\":\"image\",\"data_type\":\"uint8\",\"num_channels\":1,\"scales\":[{\"key\":\"s\",\"size\":[4,8,8],\"chunk_sizes\":[[1,1,1]],\"resolution\":[8,8,40],\"encoding\":\"raw\",\"sharding\":{\"@type\":\"neuroglancer_uint64_sharded_v1\",\"preshift_bits\":0,\"hash\":\"identity\",\"minishard_bits\":0,\"shard_bits\":0}}]}";
+
+const ROW_OF_CELLS: &str =
+    "{\"type\":\"image\",\"data_type\":\"uint8\",\"num_channels\":1,\"scales\":[{\"key\":\"s\",\"size\":[5000,1,1],\"chunk_sizes\":[[1,1,1]],\"resolution\":[8,8,40],\"encoding\":\"raw\",\"sharding\":{\"@type\":\"neuroglancer_uint64_sharded_v1\",\"preshift_bits\":0,\"hash\":\"identity\",\"minishard_bits\":0,\"shard_bits\":0}}]}";
+
+// Numbers of eight bytes, each put at a place of a shard; how many bytes of it are left; a box; and
 // the bytes of the cutout, or the line of its refusal.
 #[derive(Clone, Copy)]
 struct Damage<'a> {
@@ -518,7 +539,7 @@ const TWO_DAMAGES: [Damage; 6] = [
     },
 ];
 
-const ONE_DAMAGES: [Damage; 6] = [
+const ONE_DAMAGES: [Damage; 7] = [
     Damage {
         numbers: &[],
         len: 66,
@@ -561,6 +582,58 @@ const ONE_DAMAGES: [Damage; 6] = [
         out: &[0],
         err: "",
     },
+    Damage {
+        numbers: &[(18, 1), (26, 0)],
+        len: 66,
+        part: "[1:2,0:1,0:1]",
+        out: &[10],
+        err: "",
+    },
+];
+
+const FOUR_DAMAGES: [Damage; 6] = [
+    Damage {
+        numbers: &[],
+        len: 164,
+        part: "[0:4,0:1,0:1]",
+        out: &[1, 2, 3, 4],
+        err: "",
+    },
+    Damage {
+        numbers: &[(16, 50)],
+        len: 164,
+        part: "[0:4,0:1,0:1]",
+        out: &[1, 0, 3, 4],
+        err: "",
+    },
+    Damage {
+        numbers: &[(32, 76)],
+        len: 164,
+        part: "[1:4,0:1,0:1]",
+        out: &[],
+        err: "damaged 2,0,0: shard bad range\n",
+    },
+    Damage {
+        numbers: &[(16, 27)],
+        len: 164,
+        part: "[0:4,0:1,0:1]",
+        out: &[],
+        err: "damaged 1,0,0: shard bad length 23\n",
+    },
+    Damage {
+        numbers: &[(32, 0), (40, 100663320)],
+        len: 164,
+        part: "[0:4,0:1,0:1]",
+        out: &[],
+        err: "damaged 2,0,0: shard too many rows 4194305\n",
+    },
+    Damage {
+        numbers: &[(24, 122)],
+        len: 164,
+        part: "[0:4,0:1,0:1]",
+        out: &[],
+        err: "damaged 1,0,0: shard short minishard\n",
+    },
 ];
 
 // Objects, and what a cutout of both voxels gives.
@@ -583,8 +656,11 @@ const OBJECTS: [(&str, &[(&str, &[u8])], [u8; 2]); 8] = [
     ),
 ];
 
+// The room for a document.
+const INFO_ROOM: u64 = (1 << 20) + 1;
+
 // A call that isn't made.
-const NONE_FAILS: u64 = 99;
+const NONE_FAILS: u64 = u64::MAX;
 
 fn put_number(bytes: &mut [u8], at: u8, number: u64) {
     for (i, byte) in number.to_le_bytes().iter().enumerate() {
@@ -632,7 +708,7 @@ fn check_cutout<R: Threads + Wait + Abort + Sync>(
     Ok(())
 }
 
-// The same by the plain program, which finds a fault where nothing is printed.
+// The same by the plain program: the values, or the first fault along x.
 fn check_plain(
     rt: &impl Abort,
     alloc: Global,
@@ -640,16 +716,20 @@ fn check_plain(
     store: &MemoryStore,
     part: &str,
     out: &[u8],
+    err: &str,
 ) -> Result<(), Fail> {
     let dataset = Name::new(b"d").ok_or("data set")?;
     let key = Name::new(b"s").ok_or("key")?;
     assert!(rt; dataset.as_bytes().len() == 1 && key.as_bytes().len() == 1);
     let scale = scale_of(alloc, info.as_bytes(), &key)?;
     let part = Box3::parse(part)?;
-    if out.is_empty() {
-        assert!(rt; has_fault(rt, store, &dataset, &scale, &part));
-    } else {
-        compare(rt, store, &dataset, &scale, &part, out);
+    match find_fault(rt, store, &dataset, &scale, &part) {
+        None => compare(rt, store, &dataset, &scale, &part, out),
+        Some((x, fault)) => {
+            let cell = x.unsigned_abs() / scale.chunk[0].max(1);
+            let line = format!(in alloc; "damaged {cell},0,0: {fault}\n")?;
+            assert!(rt; line.as_bytes() == err.as_bytes());
+        }
     }
     Ok(())
 }
@@ -673,22 +753,33 @@ fn check_damage<R: Threads + Wait + Abort + Sync>(
         damage.out,
         damage.err,
     )?;
-    check_plain(rt, alloc, info, &store, damage.part, damage.out)
+    check_plain(rt, alloc, info, &store, damage.part, damage.out, damage.err)
+}
+
+fn check_damages<R: Threads + Wait + Abort + Sync>(
+    rt: &R,
+    alloc: Global,
+    info: &str,
+    shard: &[u8],
+    damages: &[Damage],
+) -> Result<(), Fail> {
+    for damage in damages {
+        check_damage(rt, alloc, info, shard, damage)?;
+    }
+    Ok(())
 }
 
 #[test]
 fn tells_damaged_shards(rt: HostRuntime) -> Result<(), Fail> {
+    check_damages(&rt, rt.alloc(), SIX_CELLS, &SIX_CHUNKS, &DAMAGES)
+}
+
+#[test]
+fn tells_damaged_entries(rt: HostRuntime) -> Result<(), Fail> {
     let alloc = rt.alloc();
-    for damage in &DAMAGES {
-        check_damage(&rt, alloc, SIX_CELLS, &SIX_CHUNKS, damage)?;
-    }
-    for damage in &TWO_DAMAGES {
-        check_damage(&rt, alloc, TWO_MINISHARDS, &TWO_INDEXES, damage)?;
-    }
-    for damage in &ONE_DAMAGES {
-        check_damage(&rt, alloc, ONE_MINISHARD, &ONE_INDEX, damage)?;
-    }
-    Ok(())
+    check_damages(&rt, alloc, TWO_MINISHARDS, &TWO_INDEXES, &TWO_DAMAGES)?;
+    check_damages(&rt, alloc, ONE_MINISHARD, &ONE_INDEX, &ONE_DAMAGES)?;
+    check_damages(&rt, alloc, FOUR_MINISHARDS, &FOUR_INDEXES, &FOUR_DAMAGES)
 }
 
 // A cutout of all six cells, a call of the store failing.
@@ -718,7 +809,7 @@ fn check_objects<R: Threads + Wait + Abort + Sync>(
         put(alloc, &mut store, name, bytes)?;
     }
     check_cutout(rt, alloc, &mut store, "[0:2,0:1,0:1]", 0, out, "")?;
-    check_plain(rt, alloc, info, &store, "[0:2,0:1,0:1]", out)
+    check_plain(rt, alloc, info, &store, "[0:2,0:1,0:1]", out, "")
 }
 
 #[test]
@@ -734,4 +825,213 @@ fn finds_shards_by_their_names(rt: HostRuntime) -> Result<(), Fail> {
     }
     let values = [1, 2, 3, 4, 5, 6, 7, 8, 9, 10, 11];
     check_failing(&rt, alloc, 37, 0, &values, "")
+}
+
+// Appends a column of an index: its first number, and another for each later row.
+fn push_column(bytes: &mut Vec<u8>, first: u64, other: u64, rows: u32) -> Result<(), AllocError> {
+    for row in 0..rows {
+        let number = if row == 0 { first } else { other };
+        bytes.extend_from_slice(&number.to_le_bytes())?;
+    }
+    Ok(())
+}
+
+// One minishard of the ids from 0 on, each with a chunk of a byte.
+fn long_shard(alloc: Global, rows: u32) -> Result<Vec<u8>, AllocError> {
+    let mut bytes = Vec::new(alloc);
+    let start = u64::from(rows);
+    bytes.extend_from_slice(&start.to_le_bytes())?;
+    bytes.extend_from_slice(&(25 * start).to_le_bytes())?;
+    for id in 0..rows {
+        bytes.push((id % 251) as u8)?;
+    }
+    push_column(&mut bytes, 0, 1, rows)?;
+    push_column(&mut bytes, 0, 0, rows)?;
+    push_column(&mut bytes, 1, 1, rows)?;
+    Ok(bytes)
+}
+
+// How many bytes a cutout asks for, beside those of the document.
+fn check_asked<R: Threads + Wait + Abort + Sync>(
+    rt: &R,
+    alloc: Global,
+    info: &str,
+    shard: &[u8],
+    part: &str,
+    asked: u64,
+) -> Result<(), Fail> {
+    let mut store = store_of(alloc, info, shard, NONE_FAILS)?;
+    let words = format!(in alloc; "cutout d s {part}")?;
+    let mut printed = outlet_of(alloc, 256, &[])?;
+    let mut told = outlet_of(alloc, 256, &[])?;
+    let mut feed = no_feed(alloc);
+    let status = call(
+        rt,
+        alloc,
+        &words,
+        &mut store,
+        &mut feed,
+        &mut printed,
+        &mut told,
+    )?;
+    assert_eq!(rt; status, 0);
+    assert_eq!(rt; store.asked(), INFO_ROOM.wrapping_add(asked), "at {part}");
+    Ok(())
+}
+
+#[test]
+fn asks_for_nothing_twice(rt: HostRuntime) -> Result<(), Fail> {
+    let alloc = rt.alloc();
+    // Each cell is in the other minishard than the last: its entry, three rows and its chunk.
+    check_asked(&rt, alloc, SIX_CELLS, &SIX_CHUNKS, "[0:11,0:1,0:1]", 539)?;
+    // One entry, one index, and the chunks.
+    let block = long_shard(alloc, 256)?;
+    check_asked(&rt, alloc, BLOCK_OF_CELLS, &block, "[0:4,0:8,0:8]", 6416)?;
+    let row = long_shard(alloc, 5000)?;
+    check_asked(
+        &rt,
+        alloc,
+        ROW_OF_CELLS,
+        &row,
+        "[4990:5000,0:1,0:1]",
+        120026,
+    )?;
+    // The rows of the first window alone.
+    check_asked(&rt, alloc, ROW_OF_CELLS, &row, "[0:1,0:1,0:1]", 24593)
+}
+
+// How many calls of the store a write of the six chunks makes.
+const FAILING_CALLS: u64 = 19;
+
+// The values 0 and 11, the first of which no write covers.
+const SECOND_ALONE: [u8; 57] = [
+    0, 0, 0, 0, 0, 0, 0, 0, 0, 0, 0, 0, 0, 0, 0, 0, 1, 0, 0, 0, 0, 0, 0, 0, 25, 0, 0, 0, 0, 0, 0,
+    0, 11, 1, 0, 0, 0, 0, 0, 0, 0, 0, 0, 0, 0, 0, 0, 0, 0, 1, 0, 0, 0, 0, 0, 0, 0,
+];
+
+const SIX_VALUES: [u8; 11] = [1, 2, 3, 4, 5, 6, 7, 8, 9, 10, 11];
+
+// A document, the first voxel and the values of a write, the line that is printed, and the objects afterwards.
+const WRITES: [(&str, i64, &[u8], &str, &[(&str, &[u8])]); 6] = [
+    (
+        TWO_MINISHARDS,
+        0,
+        &[10, 11],
+        "objects 1 cells 2\n",
+        &[("d/s/0.shard", &TWO_INDEXES)],
+    ),
+    (
+        TWO_MINISHARDS,
+        1,
+        &[11],
+        "objects 1 cells 1\n",
+        &[("d/s/0.shard", &SECOND_ALONE)],
+    ),
+    (
+        ONE_MINISHARD,
+        0,
+        &[10, 11],
+        "objects 1 cells 2\n",
+        &[("d/s/0.shard", &ONE_INDEX)],
+    ),
+    (
+        NO_ID_BITS,
+        0,
+        &[10, 11],
+        "objects 1 cells 2\n",
+        &[("d/s/0.shard", &ONE_INDEX)],
+    ),
+    (
+        HASHED,
+        0,
+        &[10, 11],
+        "objects 2 cells 2\n",
+        &[("d/s/8.shard", &IN_SHARD_8), ("d/s/3.shard", &IN_SHARD_3)],
+    ),
+    (
+        SIX_CELLS,
+        0,
+        &SIX_VALUES,
+        "objects 1 cells 6\n",
+        &[("d/s/0.shard", &SIX_CHUNKS)],
+    ),
+];
+
+// A write into an empty scale along x, one of the store's calls failing: its status and what it prints or tells.
+fn check_write<R: Threads + Wait + Abort + Sync>(
+    rt: &R,
+    alloc: Global,
+    store: &mut MemoryStore,
+    begin: i64,
+    values: &[u8],
+    status: u8,
+    line: &str,
+) -> Result<(), Fail> {
+    let write = Write {
+        begin: [begin, 0, 0],
+        size: [values.len() as u64, 1, 1],
+        values,
+    };
+    let mut feed = MemoryFeed::new(stream_of(alloc, &[write])?, 7, Vec::new(alloc));
+    let mut printed = outlet_of(alloc, 7, &[])?;
+    let mut told = outlet_of(alloc, 7, &[])?;
+    let found = call(
+        rt,
+        alloc,
+        "write d s",
+        store,
+        &mut feed,
+        &mut printed,
+        &mut told,
+    )?;
+    assert_eq!(rt; found, status);
+    let said = if status == 0 {
+        printed.written()
+    } else {
+        told.written()
+    };
+    assert!(rt; said == line.as_bytes());
+    Ok(())
+}
+
+fn empty_store(alloc: Global, info: &str, failing: u64) -> Result<MemoryStore, Fail> {
+    let mut store = MemoryStore::new(alloc, Vec::from_slice(alloc, &[failing])?);
+    put(alloc, &mut store, "d/info", info.as_bytes())?;
+    Ok(store)
+}
+
+// Six chunks are written into one shard while a call fails: the shard is whole or absent.
+fn check_failing_write<R: Threads + Wait + Abort + Sync>(
+    rt: &R,
+    alloc: Global,
+    failing: u64,
+) -> Result<(), Fail> {
+    let mut store = empty_store(alloc, SIX_CELLS, failing)?;
+    check_write(rt, alloc, &mut store, 0, &SIX_VALUES, 5, "store fault\n")?;
+    assert!(rt; has_none(&store, &[("d/s/0.shard", &[])]), "at {failing}");
+    Ok(())
+}
+
+#[test]
+fn writes_shards(rt: HostRuntime) -> Result<(), Fail> {
+    let alloc = rt.alloc();
+    for (info, begin, values, line, objects) in &WRITES {
+        let mut store = empty_store(alloc, info, NONE_FAILS)?;
+        check_write(&rt, alloc, &mut store, *begin, values, 0, line)?;
+        assert!(rt; has_all(&store, objects), "objects of {line}");
+    }
+    // The document, the folder, the begin, the entries, six chunks, two indexes and two entries, and the end.
+    for failing in 0..FAILING_CALLS {
+        check_failing_write(&rt, alloc, failing)?;
+    }
+    let mut store = empty_store(alloc, SIX_CELLS, FAILING_CALLS)?;
+    check_write(
+        &rt,
+        alloc,
+        &mut store,
+        0,
+        &SIX_VALUES,
+        0,
+        "objects 1 cells 6\n",
+    )
 }

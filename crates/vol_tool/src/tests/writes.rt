@@ -11,10 +11,10 @@ use vol_base::{MemoryFeed, MemoryStore, Name};
 
 // A box and the bytes of its values.
 #[derive(Clone, Copy)]
-struct Write<'a> {
-    begin: [i64; 3],
-    size: [u64; 3],
-    values: &'a [u8],
+pub(super) struct Write<'a> {
+    pub(super) begin: [i64; 3],
+    pub(super) size: [u64; 3],
+    pub(super) values: &'a [u8],
 }
 
 // The size and the chunk size of a scale, writes into it, the line that is printed, and the objects that stand
@@ -215,7 +215,7 @@ fn put_write(bytes: &mut Vec<u8>, write: &Write) -> Result<(), AllocError> {
     Ok(())
 }
 
-fn stream_of(alloc: Global, writes: &[Write]) -> Result<Vec<u8>, AllocError> {
+pub(super) fn stream_of(alloc: Global, writes: &[Write]) -> Result<Vec<u8>, AllocError> {
     let mut bytes = Vec::from_slice(alloc, b"PVW1")?;
     let count = u32::try_from(writes.len()).unwrap_or(0);
     bytes.extend_from_slice(&count.to_le_bytes())?;
@@ -225,8 +225,8 @@ fn stream_of(alloc: Global, writes: &[Write]) -> Result<Vec<u8>, AllocError> {
     Ok(bytes)
 }
 
-// Whether the store has these objects.
-fn has_all(store: &MemoryStore, objects: &[(&str, &[u8])]) -> bool {
+/// Whether the store has these objects.
+pub(super) fn has_all(store: &MemoryStore, objects: &[(&str, &[u8])]) -> bool {
     for (name, bytes) in objects {
         let Some(name) = Name::new(name.as_bytes()) else {
             return false;
@@ -238,8 +238,8 @@ fn has_all(store: &MemoryStore, objects: &[(&str, &[u8])]) -> bool {
     true
 }
 
-// Whether the store has none of these objects.
-fn has_none(store: &MemoryStore, objects: &[(&str, &[u8])]) -> bool {
+/// Whether the store has none of these objects.
+pub(super) fn has_none(store: &MemoryStore, objects: &[(&str, &[u8])]) -> bool {
     for (name, _) in objects {
         let Some(name) = Name::new(name.as_bytes()) else {
             return false;

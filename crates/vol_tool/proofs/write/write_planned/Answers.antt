@@ -13,5 +13,5 @@ returns-in_err-plan-clause-put g c =
     (unplanned_told c.in_err-plan.field-0.0 (g.S.Source.objects c.args.store.now) c.args.dataset.now c.args.scale.now c.args.writes c.in_err-plan.ensures.too_many)
 
 pub put_plan-requires-clause-few : goal.put_plan-requires-clause-few
-put_plan-requires-clause-few g c =
+put_plan-requires-clause-few g c κs within =
     subst (λ ws. pairs c.args.scale.now ws ≤ 2 ^ 22) (ap (λ p. p.writes) (sym c.in_ok-plan.ensures.plan)) (few_pairs c.in_ok-plan.plan (pairs c.args.scale.now c.args.writes) (2 ^ 22) c.in_ok-plan.ensures.too_many)
