@@ -3,10 +3,11 @@
 
     tests/broken_off.py [PROGRAM]
 
-PROGRAM is crates/vol_tool/out/vol_tool if it is left out. It takes about a minute, so it is run by hand and isn't a part
-of the gate. A write is killed at a random moment, 50 times; cutouts run while another process writes; and a write meets
-a full disk, a small tmpfs, which is passed over with a word where none can be mounted. The last line is 'N passed, N
-failed', and the status is 1 where a case failed.
+PROGRAM is crates/vol_tool/out/vol_tool if it is left out. It takes about a minute, so it is run by hand and isn't a
+part of the gate. A write is killed at a random moment, 50 times; cutouts run while another process writes; and a write
+meets a full disk, a small tmpfs, which is passed over with a word where none can be mounted. All of it is done with a scale
+that isn't sharded, and with one in eight shards. The last line is 'N passed, N failed', and the status is 1 where a case
+failed.
 """
 import contextlib
 import itertools
@@ -16,8 +17,10 @@ import subprocess
 import sys
 import tempfile
 import time
+import typing
 
 from program import LIMIT, OK, STORE, compare, info_of, run, stream_of, tell_all
+from shards import Sharding, code_of, files_of
 
 # The voxels of the scale and of a chunk on each axis. A voxel is a byte.
 SIZE = 256
@@ -52,18 +55,44 @@ def cells():
     return ((x, y, z) for z, y, x in itertools.product(range(SIZE // CHUNK), repeat=3))
 
 
-def name_of(cell):
+def id_of(cell):
+    return code_of([SIZE // CHUNK] * 3, cell)
+
+
+class Layout(typing.NamedTuple):
+    """How a scale is stored: its info document, and the name in its folder of the object that has a cell."""
+
+    title: str
+    info: bytes
+    name_of: typing.Callable
+
+
+def name_in_grid(cell):
     return "_".join(f"{number * CHUNK}-{(number + 1) * CHUNK}" for number in cell)
 
 
-def objects_of(values):
-    """The bytes of each object, by its name in the scale's folder."""
-    return {name_of(cell): b"".join(rows_of(values, cell)) for cell in cells()}
+SHARDS = Sharding(3, False, 2, 3)
 
 
-def lay_out(folder):
+def name_in_shards(cell):
+    return SHARDS.file(SHARDS.place(id_of(cell))[0])
+
+
+PLAIN = Layout("", info_of([SIZE] * 3, [CHUNK] * 3), name_in_grid)
+SHARDED = Layout("shards, ", info_of([SIZE] * 3, [CHUNK] * 3, scale={"sharding": SHARDS.member()}), name_in_shards)
+
+
+def objects_of(layout, values):
+    """The bytes of each object, by its name in the scale's folder, in the order in which they are put."""
+    chunks = {cell: b"".join(rows_of(values, cell)) for cell in cells()}
+    if layout is SHARDED:
+        return files_of(SHARDS, [(id_of(cell), chunk) for cell, chunk in chunks.items()])
+    return {layout.name_of(cell): chunk for cell, chunk in chunks.items()}
+
+
+def lay_out(folder, layout):
     (folder / "d").mkdir()
-    (folder / "d" / "info").write_bytes(info_of([SIZE] * 3, [CHUNK] * 3))
+    (folder / "d" / "info").write_bytes(layout.info)
 
 
 def judge_objects(folder, objects, parts_allowed):
@@ -88,27 +117,27 @@ def judge_objects(folder, objects, parts_allowed):
     return None, standing
 
 
-def judge_cut(found, objects, standing):
+def judge_cut(found, layout, values, standing):
     """A cutout of the scale has the values of the objects that stand, and zeros."""
     status, output, errors = found
     if (status, errors, len(output)) != (OK, b"", SIZE**3):
         return f"cutout: status {status}, {len(output)} bytes, {errors!r}"
     for cell in cells():
-        name = name_of(cell)
-        wanted = objects[name] if name in standing else bytes(CHUNK**3)
+        name = layout.name_of(cell)
+        wanted = b"".join(rows_of(values, cell)) if name in standing else bytes(CHUNK**3)
         if b"".join(rows_of(output, cell)) != wanted:
-            return f"cutout: {name} isn't as it stands"
+            return f"cutout: {cell} of {name} isn't as it stands"
     return None
 
 
-def judge_torn(found, objects):
+def judge_torn(found, values):
     """Each chunk of a cutout is whole: all of an object's values, or zeros."""
     status, output, errors = found
     if (status, errors, len(output)) != (OK, b"", SIZE**3):
         return f"cutout: status {status}, {len(output)} bytes, {errors!r}"
     for cell in cells():
-        if b"".join(rows_of(output, cell)) not in (objects[name_of(cell)], bytes(CHUNK**3)):
-            return f"cutout: {name_of(cell)} is torn"
+        if b"".join(rows_of(output, cell)) not in (b"".join(rows_of(values, cell)), bytes(CHUNK**3)):
+            return f"cutout: {cell} is torn"
     return None
 
 
@@ -120,53 +149,67 @@ def start(program, folder, stream):
         )
 
 
-def judge_killed(program, stream, objects, delay):
+class Work(typing.NamedTuple):
+    """A write of all values of a scale: the program, the scale's layout, the values, their stream and the objects."""
+
+    program: pathlib.Path
+    layout: Layout
+    values: bytes
+    stream: pathlib.Path
+    objects: dict
+
+    def start(self, folder):
+        lay_out(folder, self.layout)
+        return start(self.program, folder, self.stream)
+
+    def judge_standing(self, folder, standing):
+        """A cutout gives what stands."""
+        return judge_cut(run(self.program, folder, WORDS_CUT), self.layout, self.values, standing)
+
+
+def judge_killed(work, delay):
     """A write that is killed after so many seconds. Gives the fault, and how many objects stand."""
     with tempfile.TemporaryDirectory() as name:
         folder = pathlib.Path(name)
-        lay_out(folder)
-        process = start(program, folder, stream)
+        process = work.start(folder)
         time.sleep(delay)
         process.kill()
         process.wait()
-        wrong, standing = judge_objects(folder, objects, parts_allowed=1)
-        return wrong or judge_cut(run(program, folder, WORDS_CUT), objects, standing), len(standing)
+        wrong, standing = judge_objects(folder, work.objects, parts_allowed=1)
+        return wrong or work.judge_standing(folder, standing), len(standing)
 
 
-def judge_watched(program, stream, objects):
+def judge_watched(work):
     """Cutouts while a write runs. Gives the fault, and how many cutouts were taken meanwhile."""
     with tempfile.TemporaryDirectory() as name:
         folder = pathlib.Path(name)
-        lay_out(folder)
-        process = start(program, folder, stream)
+        process = work.start(folder)
         count = 0
         wrong = None
         try:
             while process.poll() is None and wrong is None:
-                wrong = judge_torn(run(program, folder, WORDS_CUT), objects)
+                wrong = judge_torn(run(work.program, folder, WORDS_CUT), work.values)
                 count += 1
         finally:
             process.kill()
         if wrong is None and process.wait() != OK:
             wrong = f"the write's status is {process.returncode}"
-        return wrong or judge_whole(program, folder, objects), count
+        return wrong or judge_whole(work, folder), count
 
 
-def judge_whole(program, folder, objects):
+def judge_whole(work, folder):
     """All objects stand, and nothing else."""
-    wrong, standing = judge_objects(folder, objects, parts_allowed=0)
-    if wrong is None and len(standing) != len(objects):
+    wrong, standing = judge_objects(folder, work.objects, parts_allowed=0)
+    if wrong is None and len(standing) != len(work.objects):
         wrong = f"{len(standing)} objects stand"
-    return wrong or judge_cut(run(program, folder, WORDS_CUT), objects, standing)
+    return wrong or work.judge_standing(folder, standing)
 
 
-def measure(program, stream):
+def measure(work):
     """How many seconds a write takes."""
     with tempfile.TemporaryDirectory() as name:
-        folder = pathlib.Path(name)
-        lay_out(folder)
         begin = time.monotonic()
-        start(program, folder, stream).wait(LIMIT)
+        work.start(pathlib.Path(name)).wait(LIMIT)
         return time.monotonic() - begin
 
 
@@ -186,49 +229,56 @@ def small_disk():
                 subprocess.run(["umount", name], check=True, timeout=LIMIT)
 
 
-def judge_full_disk(program, stream, objects, folder):
+def judge_full_disk(work, folder):
     """The disk is full in the middle of a write: whole objects stand, and nothing else."""
-    lay_out(folder)
-    with stream.open("rb") as feed:
-        found = run(program, folder, WORDS_WRITE, feed)
-    wrong, standing = judge_objects(folder, objects, parts_allowed=0)
+    lay_out(folder, work.layout)
+    with work.stream.open("rb") as feed:
+        found = run(work.program, folder, WORDS_WRITE, feed)
+    wrong, standing = judge_objects(folder, work.objects, parts_allowed=0)
     wrong = compare(found, (STORE, b"", b"store fault\n")) or wrong
-    if wrong is None and not 0 < len(standing) < len(objects):
+    if wrong is None and not 0 < len(standing) < len(work.objects):
         wrong = f"{len(standing)} objects stand"
-    return wrong or judge_cut(run(program, folder, WORDS_CUT), objects, standing)
+    return wrong or work.judge_standing(folder, standing)
 
 
-def judge_kills(program, stream, objects):
+def judge_kills(work):
     """Each kill's title, and the first thing that is wrong or None; and whether some came in the middle of a write."""
     chance = random.Random(2)
-    longest = 1.2 * measure(program, stream)
+    longest = 1.2 * measure(work)
     counts = []
     for number in range(KILLS):
-        wrong, standing = judge_killed(program, stream, objects, chance.uniform(0, longest))
+        wrong, standing = judge_killed(work, chance.uniform(0, longest))
         counts.append(standing)
         yield f"kill {number}", wrong
-    halfway = sum(0 < count < len(objects) for count in counts)
+    halfway = sum(0 < count < len(work.objects) for count in counts)
     print(f"{halfway} of {KILLS} kills came between the first object and the last")
     yield "kills between the first object and the last", None if halfway else "there were none"
 
 
-def judge_all(program):
+def judge_work(work):
     """Each case's title, and the first thing that is wrong with it or None."""
+    yield from judge_kills(work)
+    watched = [judge_watched(work) for _ in range(WRITES_WATCHED)]
+    for number, (wrong, _) in enumerate(watched):
+        yield f"watched write {number}", wrong
+    yield "cutouts while a write runs", None if any(count for _, count in watched) else "there were none"
+    with small_disk() as folder:
+        if folder is None:
+            print("no tmpfs can be mounted here: the full disk is passed over")
+        else:
+            yield "a full disk", judge_full_disk(work, folder)
+
+
+def judge_all(program):
+    """The cases of both layouts."""
     values = make_values()
-    objects = objects_of(values)
     with tempfile.TemporaryDirectory() as name:
         stream = pathlib.Path(name) / "stream"
         stream.write_bytes(stream_of(((0, 0, 0), (SIZE,) * 3, values)))
-        yield from judge_kills(program, stream, objects)
-        watched = [judge_watched(program, stream, objects) for _ in range(WRITES_WATCHED)]
-        for number, (wrong, _) in enumerate(watched):
-            yield f"watched write {number}", wrong
-        yield "cutouts while a write runs", None if any(count for _, count in watched) else "there were none"
-        with small_disk() as folder:
-            if folder is None:
-                print("no tmpfs can be mounted here: the full disk is passed over")
-            else:
-                yield "a full disk", judge_full_disk(program, stream, objects, folder)
+        for layout in (PLAIN, SHARDED):
+            work = Work(program, layout, values, stream, objects_of(layout, values))
+            for title, wrong in judge_work(work):
+                yield f"{layout.title}{title}", wrong
 
 
 if __name__ == "__main__":

@@ -19,7 +19,8 @@ import sys
 import tempfile
 import typing
 
-from program import FEED, INFO_PATH, LIMIT, OK, OUTPUT, REQUEST, STORE, info_of, stream_of, tell_all
+from program import FEED, INFO_PATH, LIMIT, OK, OUTPUT, REQUEST, SHARDING, STORE, info_of, stream_of, tell_all
+from shards import Sharding, files_of
 
 # The calls to files, folders and streams.
 TO_FILES = {
@@ -49,6 +50,11 @@ ROW = info_of([3, 1, 1], [1, 1, 1])
 # The objects of the row in the order in which they are put.
 ROW_OBJECTS = {"d/s/0-1_0-1_0-1": b"\1", "d/s/1-2_0-1_0-1": b"\2", "d/s/2-3_0-1_0-1": b"\3"}
 
+# The same row in two shards, of two minishards each.
+TWO_SHARDS = Sharding(0, False, 1, 1)
+IN_SHARDS = info_of([3, 1, 1], [1, 1, 1], scale={"sharding": {**SHARDING, "minishard_bits": 1, "shard_bits": 1}})
+SHARDS = {f"d/s/{name}": shard for name, shard in files_of(TWO_SHARDS, [(0, b"\1"), (1, b"\2"), (2, b"\3")]).items()}
+
 THREE = stream_of(((0, 0, 0), (3, 1, 1), b"\1\2\3"))
 
 UNFINISHED = {"d/s/a/b.part": b"", "d/s/c/d/e.part": b""}
@@ -59,7 +65,7 @@ CUT = ["cutout", "d", "s", "[0:3,0:1,0:1]"]
 
 
 class Case(typing.NamedTuple):
-    """A run: the objects that stand, its words and its stream, what it ends with, and the objects that it puts."""
+    """A run: the objects that stand, its words and its stream, what it ends with, the objects that it puts, and the info."""
 
     title: str
     objects: dict
@@ -69,9 +75,10 @@ class Case(typing.NamedTuple):
     output: bytes
     errors: bytes
     put: dict
+    info: bytes = ROW
 
     def before(self):
-        return {**self.objects, INFO_PATH: ROW}
+        return {**self.objects, INFO_PATH: self.info}
 
     def after(self):
         return {**self.before(), **self.put}
@@ -81,8 +88,10 @@ RUNS = [
     Case("a write", {}, WRITE, THREE, OK, b"objects 3 cells 3\n", b"", ROW_OBJECTS),
     Case("a write beside unfinished files", UNFINISHED, WRITE, THREE, OK, b"objects 3 cells 3\n", b"", ROW_OBJECTS),
     Case("a write of nothing", {}, WRITE, stream_of(), OK, b"objects 0 cells 0\n", b"", {}),
+    Case("a write into shards", {}, WRITE, THREE, OK, b"objects 2 cells 3\n", b"", SHARDS, IN_SHARDS),
     Case("a folder that isn't empty", ROW_OBJECTS, WRITE, THREE, REQUEST, b"", b"folder not empty\n", {}),
     Case("a cutout", ROW_OBJECTS, CUT, b"", OK, b"\1\2\3", b"", {}),
+    Case("a cutout of shards", SHARDS, CUT, b"", OK, b"\1\2\3", b"", {}, IN_SHARDS),
     Case("a cutout of nothing", {}, CUT, b"", OK, b"\0\0\0", b"", {}),
 ]
 
