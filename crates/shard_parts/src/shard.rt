@@ -133,7 +133,7 @@ fn end_minishard<S: Store>(
 /// Ends a minishard where its last chunk was appended: behind its chunks stands the index of its rows,
 /// and its entry says where. `at` is where the next byte stands, counted from the end of the entries; the
 /// answer is where it stands then. The index is appended in pieces of a buffer of any 8 bytes or more,
-/// whose bytes are lost; the rows keep their memory.
+/// whose bytes are lost; where it succeeds the rows keep their memory.
 ///
 /// # Errors
 /// Those of the store. Then nothing is being written.

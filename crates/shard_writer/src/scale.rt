@@ -15,11 +15,11 @@ use write_plan::Chunks;
 
 /// Writes the objects of all jobs, in their order: one for each chunk, or, in a sharded scale, one for each
 /// shard that has a chunk. Each object is put whole. Beside a window of chunks it takes memory for one
-/// chunk, for 64 KiB, and for the rows of the largest minishard.
+/// chunk and, of a sharded scale, for 64 KiB and for the rows of the largest minishard.
 ///
 /// # Errors
-/// `StoreFault` where the store failed; `Damaged` exactly where a job has a fault, with the first one; and
-/// `OutOfMemory`. Then a front of the objects was put. Where preparing jobs can fail, it may do so while a
+/// `StoreFault` only where the store failed, and `OutOfMemory`; else `Damaged` exactly where a job has a
+/// fault, with the first one. Then a front of the objects was put. Where preparing jobs can fail, it may do so while a
 /// shard is being written: that one is then not among the objects, and the store drops it at its next
 /// `begin`.
 ///

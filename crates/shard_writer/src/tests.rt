@@ -282,6 +282,36 @@ fn writes_each_shard(rt: HostRuntime) -> Result<(), Fail> {
     Ok(())
 }
 
+// Two rows of five voxels in cells of two by two; the last cell has one voxel of each row.
+const CLIPPED: [u8; 114] = [
+    6, 0, 0, 0, 0, 0, 0, 0, 54, 0, 0, 0, 0, 0, 0, 0, // entries
+    58, 0, 0, 0, 0, 0, 0, 0, 82, 0, 0, 0, 0, 0, 0, 0, //
+    1, 2, 6, 7, 5, 10, // chunks 0 and 2
+    0, 0, 0, 0, 0, 0, 0, 0, 2, 0, 0, 0, 0, 0, 0, 0, // ids
+    0, 0, 0, 0, 0, 0, 0, 0, 0, 0, 0, 0, 0, 0, 0, 0, // starts
+    4, 0, 0, 0, 0, 0, 0, 0, 2, 0, 0, 0, 0, 0, 0, 0, // sizes
+    3, 4, 8, 9, // chunk 1
+    1, 0, 0, 0, 0, 0, 0, 0, 54, 0, 0, 0, 0, 0, 0, 0, 4, 0, 0, 0, 0, 0, 0, 0, // its row
+];
+
+#[test]
+fn writes_chunks_of_unequal_lengths(rt: HostRuntime) -> Result<(), Fail> {
+    let alloc = rt.alloc();
+    let key = short_name(b"s").expect(&rt, "a key");
+    let size = [5, 2, 1];
+    let plain = raw_scale(key, 1, 1, size, [0; 3], [2, 2, 1]).expect(&rt, "a scale");
+    let single = in_shards(&rt, &plain, 1, 0);
+    let values = [1, 2, 3, 4, 5, 6, 7, 8, 9, 10];
+    let all = (part([0; 3], size), values.as_slice());
+    let one = [(ZERO, CLIPPED.as_slice())];
+    let wanted = Ok(Written {
+        objects: 1,
+        cells: 3,
+        bytes: 114,
+    });
+    check_scale(&rt, alloc, &single, &[all], 14, wanted, &one, 1)
+}
+
 #[test]
 fn leaves_whole_shards_at_each_failing_call(rt: HostRuntime) -> Result<(), Fail> {
     let alloc = rt.alloc();

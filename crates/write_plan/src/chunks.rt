@@ -38,8 +38,8 @@ pub trait Chunks {
     /// Prepares the jobs from one number up to, not with, another, at most a window of them.
     ///
     /// # Errors
-    /// `Damaged` exactly where one of these jobs has a fault, with the first one; `StoreFault` only where
-    /// the store failed.
+    /// `StoreFault` only where the store failed; else `Damaged` exactly where one of these jobs has a
+    /// fault, with the first one.
     fn prepare<S: Store>(&mut self, store: &mut S, from: u64, to: u64) -> Result<(), PrepareFault>
         requires order { from ≤ to }
         requires within { to ≤ length (work self.old).cells }

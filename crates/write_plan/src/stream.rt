@@ -212,8 +212,8 @@ fn read_end<F: Feed>(feed: &mut F) -> Result<(), PlanFault>
     }
 }
 
-/// The writes of a stream, or its first fault from the front; the feed is read to its end. It takes
-/// at most 2^30 + 48 * 65,536 + 9 bytes.
+/// The writes of a stream, or its first fault from the front. After a list of writes the feed is at its
+/// end. It takes at most 2^30 + 48 * 65,536 + 9 bytes.
 ///
 /// # Errors
 /// `FeedFault` only where the feed failed, `OutOfMemory`, and the faults of the stream.

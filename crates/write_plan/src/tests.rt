@@ -224,6 +224,11 @@ fn plans_overlapping_writes(rt: HostRuntime) -> Result<(), Fail> {
     let key = short_name(b"s").expect(&rt, "a key");
     let scale = raw_scale(key, 1, 1, [4, 2, 1], [-1, 0, 0], [2, 2, 1]).expect(&rt, "a scale");
     assert_eq!(rt; window(&scale), 256);
+    for (side, jobs) in [(128, 128), (512, 2)] {
+        let key = short_name(b"s").expect(&rt, "a key");
+        let large = raw_scale(key, 1, 1, [side; 3], [0; 3], [side; 3]).expect(&rt, "a scale");
+        assert_eq!(rt; window(&large), jobs);
+    }
     let all = (
         part([-1, 0, 0], [4, 2, 1]),
         [1, 2, 3, 4, 5, 6, 7, 8].as_slice(),
