@@ -1,27 +1,33 @@
 //! The volumes that are measured: cubes of voxels in chunks that are cubes.
 
-use std::io;
+use std::fs::File;
+use std::io::{self, Write};
+use std::os::fd::AsFd;
 use std::path::Path;
 use std::process::ExitCode;
 
-/// Sizes in voxels, and the bytes of a value.
+/// Sizes in voxels, and the bytes of a value. Chunks with blocks are segmentations.
 pub struct Layout {
     pub size: usize,
     pub chunk: usize,
     pub channels: usize,
     pub width: usize,
+    pub block: Option<usize>,
 }
 
 /// One channel of bytes: 128 MiB in 512 chunks of 256 KiB.
-const BYTES: Layout = Layout { size: 512, chunk: 64, channels: 1, width: 1 };
+const BYTES: Layout = Layout { size: 512, chunk: 64, channels: 1, width: 1, block: None };
 
 /// Four channels of 64-bit numbers: 64 MiB in 64 chunks of 1 MiB.
-const WIDE: Layout = Layout { size: 128, chunk: 32, channels: 4, width: 8 };
+const WIDE: Layout = Layout { size: 128, chunk: 32, channels: 4, width: 8, block: None };
 
 /// One channel of bytes in small chunks, many and few of them: 128 MiB in 4,096 chunks of 32 KiB, and 864 KiB in 27.
-const MANY: Layout = Layout { size: 512, chunk: 32, channels: 1, width: 1 };
+const MANY: Layout = Layout { size: 512, chunk: 32, channels: 1, width: 1, block: None };
 
-const FEW: Layout = Layout { size: 96, chunk: 32, channels: 1, width: 1 };
+const FEW: Layout = Layout { size: 96, chunk: 32, channels: 1, width: 1, block: None };
+
+/// A segmentation of 64-bit labels: 128 MiB of them in 64 chunks, each of 512 blocks.
+const LABELS: Layout = Layout { size: 256, chunk: 64, channels: 1, width: 8, block: Some(8) };
 
 /// The begin and the end of a box on each axis, x first.
 pub type Spans = [(usize, usize); 3];
@@ -37,8 +43,22 @@ impl Layout {
             "wide" => Some(WIDE),
             "many" => Some(MANY),
             "few" => Some(FEW),
+            "labels" => Some(LABELS),
             _ => None,
         }
+    }
+
+    /// A box inside the volume.
+    pub fn parse_box(&self, text: &str) -> Option<Spans> {
+        let inside = text.strip_prefix('[')?.strip_suffix(']')?;
+        let mut spans = [(0, 0); 3];
+        let mut axes = inside.split(',');
+        for span in &mut spans {
+            let (begin, end) = axes.next()?.split_once(':')?;
+            *span = (begin.parse().ok()?, end.parse().ok()?);
+        }
+        let sound = spans.iter().all(|(begin, end)| begin < end && *end <= self.size);
+        (axes.next().is_none() && sound).then_some(spans)
     }
 
     pub fn cell_box(&self, cell: [usize; 3]) -> Spans {
@@ -89,18 +109,36 @@ impl Layout {
         }
     }
 
+    /// The scale's encoding, with the block size of segmentations.
+    fn encoding(&self) -> String {
+        match self.block {
+            None => "\"encoding\":\"raw\"".into(),
+            Some(block) => format!(
+                "\"encoding\":\"compressed_segmentation\",\
+                 \"compressed_segmentation_block_size\":[{block},{block},{block}]"
+            ),
+        }
+    }
+
     /// Writes the info of a dataset with the scale s, which has these members too, each with a comma behind it.
     pub fn make_info(&self, dataset: &Path, members: &str) -> io::Result<()> {
         let (bits, channels, size, chunk) = (8 * self.width, self.channels, self.size, self.chunk);
+        let encoding = self.encoding();
         std::fs::create_dir_all(dataset)?;
         let info = format!(
             "{{\"@type\":\"neuroglancer_multiscale_volume\",\"type\":\"image\",\"data_type\":\"uint{bits}\",\
              \"num_channels\":{channels},\"scales\":[{{\"key\":\"s\",{members}\
              \"size\":[{size},{size},{size}],\"chunk_sizes\":[[{chunk},{chunk},{chunk}]],\
-             \"resolution\":[8,8,40],\"encoding\":\"raw\"}}]}}\n"
+             \"resolution\":[8,8,40],{encoding}}}]}}\n"
         );
         std::fs::write(dataset.join("info"), info)
     }
+}
+
+/// Writes values to the standard output.
+pub fn write_out(values: &[u8]) -> io::Result<()> {
+    let out = io::stdout().as_fd().try_clone_to_owned()?;
+    File::from(out).write_all(values)
 }
 
 /// Bytes that look random.

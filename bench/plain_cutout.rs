@@ -9,23 +9,10 @@ mod layout;
 
 use layout::{Layout, Noise, Spans};
 use std::fs::{self, File};
-use std::io::{self, Write};
-use std::os::fd::AsFd;
+use std::io;
 use std::os::unix::fs::FileExt;
 use std::path::Path;
 use std::process::ExitCode;
-
-fn parse_box(layout: &Layout, text: &str) -> Option<Spans> {
-    let inside = text.strip_prefix('[')?.strip_suffix(']')?;
-    let mut spans = [(0, 0); 3];
-    let mut axes = inside.split(',');
-    for span in &mut spans {
-        let (begin, end) = axes.next()?.split_once(':')?;
-        *span = (begin.parse().ok()?, end.parse().ok()?);
-    }
-    let sound = spans.iter().all(|(begin, end)| begin < end && *end <= layout.size);
-    (axes.next().is_none() && sound).then_some(spans)
-}
 
 /// Reads a chunk, or answers false where there is none.
 fn read_chunk(path: &Path, chunk: &mut [u8]) -> io::Result<bool> {
@@ -64,18 +51,13 @@ fn make(layout: &Layout, dataset: &Path) -> io::Result<()> {
     Ok(())
 }
 
-fn write_out(values: &[u8]) -> io::Result<()> {
-    let out = io::stdout().as_fd().try_clone_to_owned()?;
-    File::from(out).write_all(values)
-}
-
 fn main() -> ExitCode {
     layout::run_with(|layout, words| match *words {
         ["make", dataset] => Some(make(layout, Path::new(dataset))),
         ["cutout", dataset, key, part] => {
-            let part = parse_box(layout, part)?;
+            let part = layout.parse_box(part)?;
             let folder = Path::new(dataset).join(key);
-            Some(cut(layout, &folder, &part).and_then(|values| write_out(&values)))
+            Some(cut(layout, &folder, &part).and_then(|values| layout::write_out(&values)))
         }
         _ => None,
     })

@@ -1,6 +1,6 @@
 //! Cutouts of a sharded scale, and writes into it, as an ordinary Rust program does them, for comparison: eight neighbouring
 //! chunks have one minishard, and MurmurHash3 places them in four minishards of each of two shards. The volumes many and few
-//! have one shard.
+//! have one shard. Chunks of a volume with blocks are segmentations.
 //!
 //!     plain_sharded LAYOUT make DATASET                 writes the dataset, with the scale s
 //!     plain_sharded LAYOUT info DATASET                 writes its info alone
@@ -13,14 +13,16 @@
 
 #[allow(dead_code)]
 mod layout;
+mod segment_codec;
+mod segments;
 #[allow(dead_code)]
 mod writes;
 
 use layout::{Layout, Noise, Spans};
+use segments::Segments;
 use std::collections::BTreeMap;
 use std::fs::{self, File};
 use std::io::{self, Write};
-use std::os::fd::AsFd;
 use std::os::unix::fs::FileExt;
 use std::path::{Path, PathBuf};
 use std::process::ExitCode;
@@ -124,7 +126,7 @@ struct Reader {
 }
 
 impl Reader {
-    fn read(&mut self, id: u64, chunk: &mut [u8]) -> io::Result<bool> {
+    fn read(&mut self, id: u64, chunk: &mut Vec<u8>) -> io::Result<bool> {
         let (shard, minishard) = place(self.shard_bits, id);
         if self.shard.as_ref().is_none_or(|(kept, _)| *kept != shard) {
             let file = File::open(self.folder.join(format!("{shard:x}.shard")))?;
@@ -139,36 +141,33 @@ impl Reader {
             return Ok(false);
         };
         let (_, start, len) = index[found];
-        if len != chunk.len() as u64 {
-            return Err(io::ErrorKind::InvalidData.into());
-        }
+        chunk.resize(len as usize, 0);
         file.read_exact_at(chunk, start)?;
         Ok(true)
     }
 }
 
-fn parse_box(layout: &Layout, text: &str) -> Option<Spans> {
-    let inside = text.strip_prefix('[')?.strip_suffix(']')?;
-    let mut spans = [(0, 0); 3];
-    let mut axes = inside.split(',');
-    for span in &mut spans {
-        let (begin, end) = axes.next()?.split_once(':')?;
-        *span = (begin.parse().ok()?, end.parse().ok()?);
-    }
-    let sound = spans.iter().all(|(begin, end)| begin < end && *end <= layout.size);
-    (axes.next().is_none() && sound).then_some(spans)
-}
-
 fn cut(layout: &Layout, folder: &Path, part: &Spans) -> io::Result<Vec<u8>> {
+    let segments = Segments::of(layout);
     let mut out = vec![0; layout.bytes_of(part)];
-    let mut chunk = vec![0; layout.bytes_of(&layout.cell_box([0, 0, 0]))];
+    let len = layout.bytes_of(&layout.cell_box([0, 0, 0]));
+    let (mut chunk, mut values) = (Vec::new(), vec![0; if segments.is_some() { len } else { 0 }]);
     let shard_bits = shard_bits(layout);
     let mut reader = Reader { folder: folder.to_path_buf(), shard_bits, shard: None, index: None };
     let count = layout.size / layout.chunk;
     for cell in layout.cells(part) {
-        if reader.read(code(count, cell), &mut chunk)? {
-            layout.copy_rows(&layout.cell_box(cell), &chunk, part, &mut out);
+        if !reader.read(code(count, cell), &mut chunk)? {
+            continue;
         }
+        let from = match &segments {
+            Some(segments) => {
+                segments.decode(&chunk, &mut values)?;
+                &values
+            }
+            None if chunk.len() == len => &chunk,
+            None => return Err(io::ErrorKind::InvalidData.into()),
+        };
+        layout.copy_rows(&layout.cell_box(cell), from, part, &mut out);
     }
     Ok(out)
 }
@@ -227,24 +226,23 @@ impl ShardFile {
 /// Something for each chunk of a shard, by minishard and id.
 type Placed<T> = BTreeMap<(u64, u64), T>;
 
-/// Writes a shard; `next` makes the bytes of a chunk.
+/// Writes a shard; `append` appends the bytes of a chunk.
 fn write_shard<T>(
     folder: &Path,
     shard: u64,
     chunks: &Placed<T>,
-    mut next: impl FnMut(&T, &mut Vec<u8>),
+    mut append: impl FnMut(&mut ShardFile, &T) -> io::Result<()>,
 ) -> io::Result<()> {
     let path = folder.join(format!("{shard:x}.shard"));
     let part = path.with_extension("part");
     let mut file = ShardFile::begin(&part)?;
-    let mut chunk = Vec::new();
     for minishard in 0..1 << MINISHARD_BITS {
         let begin = file.end;
         let mut rows = Vec::new();
         for ((_, id), made_of) in chunks.range((minishard, 0)..(minishard + 1, 0)) {
-            next(made_of, &mut chunk);
-            file.append(&chunk)?;
-            rows.push((*id, chunk.len() as u64));
+            let start = file.end;
+            append(&mut file, made_of)?;
+            rows.push((*id, file.end - start));
         }
         if !rows.is_empty() {
             file.end_minishard(minishard, begin, &rows)?;
@@ -273,10 +271,15 @@ fn write(layout: &Layout, folder: &Path) -> io::Result<()> {
     let writes = read_stream(layout, &mut io::stdin())?;
     fs::create_dir_all(folder)?;
     let plan = plan(layout, &writes);
+    let mut segments = Segments::of(layout);
+    let mut values = vec![0; layout.bytes_of(&layout.cell_box([0, 0, 0]))];
     for (shard, chunks) in &plan {
-        write_shard(folder, *shard, chunks, |(cell, numbers), chunk| {
-            chunk.resize(layout.bytes_of(&layout.cell_box(*cell)), 0);
-            fill_chunk(layout, &writes, numbers, *cell, chunk);
+        write_shard(folder, *shard, chunks, |file, (cell, numbers)| {
+            fill_chunk(layout, &writes, numbers, *cell, &mut values);
+            file.append(match &mut segments {
+                Some(segments) => segments.encode(&values),
+                None => &values,
+            })
         })?;
     }
     let cells: usize = plan.values().map(BTreeMap::len).sum();
@@ -298,14 +301,9 @@ fn make(layout: &Layout, dataset: &Path) -> io::Result<()> {
         shards.entry(shard).or_default().insert((minishard, id), chunk);
     }
     for (shard, chunks) in &shards {
-        write_shard(&folder, *shard, chunks, |bytes, chunk| chunk.clone_from(bytes))?;
+        write_shard(&folder, *shard, chunks, |file, chunk| file.append(chunk))?;
     }
     Ok(())
-}
-
-fn write_out(values: &[u8]) -> io::Result<()> {
-    let out = io::stdout().as_fd().try_clone_to_owned()?;
-    File::from(out).write_all(values)
 }
 
 fn main() -> ExitCode {
@@ -314,9 +312,9 @@ fn main() -> ExitCode {
         ["info", dataset] => Some(layout.make_info(Path::new(dataset), &members(layout))),
         ["write", dataset, key] => Some(write(layout, &Path::new(dataset).join(key))),
         ["cutout", dataset, key, part] => {
-            let part = parse_box(layout, part)?;
+            let part = layout.parse_box(part)?;
             let folder = Path::new(dataset).join(key);
-            Some(cut(layout, &folder, &part).and_then(|values| write_out(&values)))
+            Some(cut(layout, &folder, &part).and_then(|values| layout::write_out(&values)))
         }
         _ => None,
     })

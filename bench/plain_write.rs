@@ -11,6 +11,7 @@
 //! The whole stream is read first. Each chunk is made in memory from the writes that meet it, written to a file that
 //! ends in .part, and renamed.
 
+#[allow(dead_code)]
 mod layout;
 mod writes;
 

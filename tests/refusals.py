@@ -10,6 +10,7 @@ folder afterwards with what it held before. The last line is 'N passed, N failed
 import os
 import pathlib
 import shutil
+import struct
 import subprocess
 import sys
 import tempfile
@@ -37,6 +38,7 @@ from program import (
     stream_of,
     tell_all,
 )
+from shards import shard_of
 
 # The dataset d of each case has the scale s of 4 x 2 x 1 voxels in two chunks.
 FIRST = "d/s/0-2_0-2_0-1"
@@ -233,10 +235,10 @@ def deep_info(length):
     return info_of([length, 1, 1], [length, 1, 1], {"num_channels": 1024})
 
 
-def padded_info(length):
-    """Two segmented channels in one chunk, in blocks of one voxel."""
+def padded_info(length, channels):
+    """A segmentation of one chunk, in blocks of one voxel."""
     segmented = {**SEGMENTED, "compressed_segmentation_block_size": [1, 1, 1]}
-    return info_of([length, 1, 1], [length, 1, 1], {"data_type": "uint32", "num_channels": 2}, segmented)
+    return info_of([length, 1, 1], [length, 1, 1], {"data_type": "uint32", "num_channels": channels}, segmented)
 
 
 def wide_info():
@@ -245,6 +247,16 @@ def wide_info():
     volume = {"type": "segmentation", "data_type": "uint32"}
     return info_of([2**40, 2**40, 2**40], [2**24 + 1, 1, 1], volume, segmented)
 
+
+def padded(length, channels=1):
+    return with_bytes(INFO_PATH, padded_info(length, channels))
+
+
+TOO_MANY = "padded voxels 4194305 over 4194304"
+
+# Chunks of segmentations of 64 bits, each with one block of 8 x 8 x 8: 7 and 9 in turn along x, and indices of 3 bits.
+SEVEN_NINE = struct.pack("<3I16I4I", 1, 0x01000012, 2, *[0xAAAAAAAA] * 16, 7, 0, 9, 0)
+BAD_BITS = struct.pack("<3I", 1, 0x03000002, 2)
 
 FAR = "[0:2199023255552,0:2,0:1]"
 LOW = "[-2199023255552:4,0:2,0:1]"
@@ -282,7 +294,30 @@ REFUSED = [
     ("a resolution of two", with_info(resolution=[8, 8]), cut(), INFO, "info of d: resolution wrong kind"),
     ("an encoding of pictures", with_info(encoding="jpeg"), cut(), INFO, "info of d: unsupported encoding"),
     ("segmented bytes", with_info(encoding="compressed_segmentation"), cut(), INFO, "info of d: encoding bad value"),
-    ("segmented chunks", with_info({"data_type": "uint64"}, **SEGMENTED), cut(), INFO, "info of d: not built"),
+    (
+        "a raw chunk as a segmentation's",
+        with_info({"data_type": "uint64"}, **SEGMENTED),
+        cut(),
+        DAMAGED,
+        "damaged 0,0,0: seg channel 0",
+    ),
+    (
+        "a segmentation's chunk of half words",
+        both(with_info({"data_type": "uint64"}, **SEGMENTED), with_bytes(FIRST, b"123456")),
+        cut(),
+        DAMAGED,
+        "damaged 0,0,0: seg length 6",
+    ),
+    (
+        "a bad chunk of a segmentation in a shard",
+        both(
+            with_info({"data_type": "uint64"}, sharding=SHARDING, **SEGMENTED),
+            with_bytes("d/s/0.shard", shard_of(0, [(0, 0, BAD_BITS)])),
+        ),
+        cut(),
+        DAMAGED,
+        "damaged 0,0,0: seg bits 0 0 3",
+    ),
     (
         "a short shard",
         both(with_info(sharding=SHARDING), with_bytes("d/s/0.shard", b"short")),
@@ -313,8 +348,7 @@ REFUSED = [
         "info of d: not json",
     ),
     ("1,024 channels of 131,073 bytes", with_bytes(INFO_PATH, deep_info(131073)), cut(), INFO, "info of d: limit chunk_bytes"),
-    ("2^24 padded voxels", with_bytes(INFO_PATH, padded_info(8388608)), cut(), INFO, "info of d: not built"),
-    ("2^24 + 2 padded voxels", with_bytes(INFO_PATH, padded_info(8388609)), cut(), INFO, "info of d: limit padded"),
+    ("2^24 + 2 padded voxels", padded(2**23 + 1, 2), cut(), INFO, "info of d: limit padded"),
     (
         "a sharded segmentation of 96 bits, with 2^24 + 1 padded voxels",
         with_bytes(INFO_PATH, wide_info()),
@@ -407,7 +441,26 @@ LONG = [2097153, 1, 1]
 WRITES_REFUSED = [
     ("a write without an info", without(INFO_PATH), write(), b"", INFO, "info of d: absent"),
     ("a write by a broken info, with a bad stream", with_bytes(INFO_PATH, b"{"), write(), b"", INFO, "info of d: not json"),
-    ("a write into segments", empty_info({"data_type": "uint64"}, **SEGMENTED), write(), STREAM, INFO, "info of d: not built"),
+    ("a write of 2^24 + 1 padded voxels", empty_with(padded(2**24 + 1)), write(), STREAM, INFO, "info of d: limit padded"),
+    ("a write of 2^22 + 1 padded voxels", empty_with(padded(2**22 + 1)), write(), head_of(0), REQUEST, TOO_MANY),
+    ("such a write over chunks", padded(2**22 + 1), write(), head_of(0), REQUEST, TOO_MANY),
+    ("such a write with a bad stream", empty_with(padded(2**22 + 1)), write(), b"", REQUEST, TOO_MANY),
+    (
+        "such a write with a pipe in its folder",
+        empty_with(both(padded(2**22 + 1), with_new_pipe("d/s/x"))),
+        write(),
+        STREAM,
+        REQUEST,
+        TOO_MANY,
+    ),
+    (
+        "a write of 2^22 + 2 padded voxels of two channels",
+        empty_with(padded(2**21 + 1, 2)),
+        write(),
+        head_of(0),
+        REQUEST,
+        "padded voxels 4194306 over 4194304",
+    ),
     ("a write over chunks", as_it_is, write(), STREAM, REQUEST, "folder not empty"),
     ("a bad stream over chunks", as_it_is, write(), b"", REQUEST, "folder not empty"),
     ("a write over one chunk", without(FIRST), write(), STREAM, REQUEST, "folder not empty"),
@@ -521,6 +574,26 @@ SERVED = [
         cut("[0:1,0:1,1:3]"),
         bytes(range(8, 16)) + bytes(range(8)),
     ),
+    (
+        "a segmentation's chunk, and one that is missing",
+        both(
+            with_info({"type": "segmentation", "data_type": "uint64"}, **SEGMENTED),
+            both(with_bytes(FIRST, SEVEN_NINE), without(SECOND)),
+        ),
+        cut(),
+        2 * struct.pack("<4Q", 7, 9, 0, 0),
+    ),
+    (
+        "a segmentation's chunk in a shard",
+        both(
+            with_info({"data_type": "UINT64"}, sharding=SHARDING, **SEGMENTED),
+            with_bytes("d/s/0.shard", shard_of(0, [(0, 0, BAD_BITS), (0, 1, SEVEN_NINE)])),
+        ),
+        cut("[2:4,1:2,0:1]"),
+        struct.pack("<2Q", 7, 9),
+    ),
+    ("2^22 + 1 padded voxels", padded(2**22 + 1), cut("[0:1,0:1,0:1]"), bytes(4)),
+    ("2^24 padded voxels", padded(2**23, 2), cut("[8388607:8388608,0:1,0:1]"), bytes(8)),
     ("a chunk that is missing", without(FIRST), cut(), bytes([0, 0, 5, 6, 0, 0, 7, 8])),
     ("a folder in a chunk's place", with_folder(FIRST), cut(), bytes([0, 0, 5, 6, 0, 0, 7, 8])),
     ("a file in the place of the chunks' folder", with_file("d/s"), cut(), bytes(8)),
@@ -551,11 +624,11 @@ def judge_output(program, open_output):
         os.close(output)
 
 
-def judge_folder_feed(program):
+def judge_folder_feed(program, arrange, status, line):
     """A write whose standard input is a folder."""
     feed = os.open("/", os.O_RDONLY)
     try:
-        return judge(program, without_chunks, write(), (FEED, b"", b"feed fault\n"), feed=feed)
+        return judge(program, arrange, write(), (status, b"", line), feed=feed)
     finally:
         os.close(feed)
 
@@ -572,7 +645,9 @@ def judge_all(program):
         yield title, judge(program, arrange, words, (OK, output, b""))
     yield "output to a full device", judge_output(program, open_full)
     yield "output into a closed pipe", judge_output(program, open_closed_pipe)
-    yield "a folder as the stream", judge_folder_feed(program)
+    yield "a folder as the stream", judge_folder_feed(program, without_chunks, FEED, b"feed fault\n")
+    large, line = empty_with(padded(2**22 + 1)), f"{TOO_MANY}\n".encode()
+    yield "a folder as the stream of too many voxels", judge_folder_feed(program, large, REQUEST, line)
 
 
 if __name__ == "__main__":

@@ -17,7 +17,7 @@ use Rattle.vol_spec.specs.declared.encoding.Encoding.{Encoding}
 use Rattle.vol_spec.specs.declared.encoding.Encoding.TheVariants.{Raw, Seg}
 use Rattle.vol_spec.specs.declared.scale.Scale.{Scale}
 use Rattle.chunk_grid.proofs.GridSteps.{cell_box-short}
-use Rattle.chunk_laws.proofs.SegSteps.{padded_in_cell, seg_short, seg_sound, seg_value}
+use Rattle.segment_cells.proofs.SegSteps.{padded_in_cell, seg_short, seg_sound, seg_value}
 
 none_where : (b : Bool) (fault : ChunkFault) → b ≡ true → (if b then None else Some fault) ≡ None
 none_where true fault e = refl

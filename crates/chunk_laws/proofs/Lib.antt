@@ -9,7 +9,6 @@ pub mod Law
 pub mod Next
 pub mod PutShards
 pub mod Said
-pub mod SegSteps
 pub mod ShardLaw
 pub mod ShardSteps
 pub mod Spots

@@ -9,13 +9,10 @@ use Rattle.vol_base.specs.declared.outside.Got.TheVariants.{Absent, Bytes as Fou
 use Rattle.vol_spec.specs.CellNames.{cell_name}
 use Rattle.vol_spec.specs.Costs.{cost_by}
 use Rattle.vol_spec.specs.Encodings.{cell_limit}
-use Rattle.vol_spec.specs.Limits.{first_bytes, limit_of}
 use Rattle.vol_spec.specs.Places.{id_of, shard_of}
 use Rattle.vol_spec.specs.ShardNames.{shard_name}
 use Rattle.vol_spec.specs.StoredBytes.{held_by, object_by, stored_bytes}
 use Rattle.vol_spec.specs.Types.{Bytes, Cell, Name}
-use Rattle.vol_spec.specs.declared.encoding.Encoding.{Encoding}
-use Rattle.vol_spec.specs.declared.encoding.Encoding.TheVariants.{Raw}
 use Rattle.vol_spec.specs.declared.scale.Scale.{Scale}
 use Rattle.vol_spec.specs.declared.sharding.Sharding.{Sharding}
 use Rattle.shard_reader.specs.Readers.{Keeps}
@@ -23,6 +20,7 @@ use Rattle.shard_reader.specs.Reading.{chunk_bytes, chunk_cost, Gets}
 use Rattle.shard_reader.specs.declared.bytes.LookupFault.{LookupFault}
 use Rattle.shard_reader.specs.declared.reader.ShardReader.{ShardReader}
 use Rattle.cutout.specs.Keeping.{cell_cost, front_of, KeepsBy, KeepsShards}
+use Rattle.cutout.specs.Opened.{chunk_room}
 
 -- what is held of an object, by a sharding or none
 abbrev held_as : Option Sharding → Scale → Cell → Option Bytes → Result (Option Bytes) Fault
@@ -132,13 +130,11 @@ costs_sharded m dataset s cell sharding limit id old new e is_limit is_id h =
     ∙ sym (cost-sharded m dataset s cell sharding e) in
     subst (λ c. new ≤ old + c) same h
 
-cost-own : (m : Objects) (dataset : Name) (s : Scale) (cell : Cell) → s.sharding ≡ None → s.encoding ≡ Raw → cell_cost m dataset s cell ≡ first_bytes s.width s.channels s.size s.chunk + 1
-cost-own m dataset s cell e raw =
-    ap (λ o. cost_by o s cell (fin.get m (object_by o dataset s cell))) e ∙ ap (λ (x : Encoding). limit_of x s.width s.channels s.size s.chunk + 1) raw
+cost-own : (m : Objects) (dataset : Name) (s : Scale) (cell : Cell) → s.sharding ≡ None → cell_cost m dataset s cell ≡ chunk_room s
+cost-own m dataset s cell e = ap (λ o. cost_by o s cell (fin.get m (object_by o dataset s cell))) e
 
-costs_own : (m : Objects) (dataset : Name) (s : Scale) (cell : Cell) (room old new : ℕ) → s.sharding ≡ None → s.encoding ≡ Raw → room ≤ first_bytes s.width s.channels s.size s.chunk + 1
-    → new ≤ old + room → new ≤ old + cell_cost m dataset s cell
-costs_own m dataset s cell room old new e raw small h = let is = cost-own m dataset s cell e raw in omega (arith, is, small, h)
+costs_own : (m : Objects) (dataset : Name) (s : Scale) (cell : Cell) (room old new : ℕ) → s.sharding ≡ None → room ≤ chunk_room s → new ≤ old + room → new ≤ old + cell_cost m dataset s cell
+costs_own m dataset s cell room old new e small h = let is = cost-own m dataset s cell e in omega (arith, is, small, h)
 
 -- the same where the objects may be untold
 pub sharded_cost : (o : Option Objects) (dataset : Name) (s : Scale) (cell : Cell) (sharding : Sharding) (limit id old new : ℕ) → s.sharding ≡ Some sharding → limit ≡ cell_limit s cell → id ≡ id_of s cell
@@ -146,10 +142,10 @@ pub sharded_cost : (o : Option Objects) (dataset : Name) (s : Scale) (cell : Cel
 sharded_cost None dataset s cell sharding limit id old new e is_limit is_id h = tt
 sharded_cost (Some m) dataset s cell sharding limit id old new e is_limit is_id h = costs_sharded m dataset s cell sharding limit id old new e is_limit is_id h
 
-pub own_cost : (o : Option Objects) (dataset : Name) (s : Scale) (cell : Cell) (room old new : ℕ) → s.sharding ≡ None → s.encoding ≡ Raw → room ≤ first_bytes s.width s.channels s.size s.chunk + 1
+pub own_cost : (o : Option Objects) (dataset : Name) (s : Scale) (cell : Cell) (room old new : ℕ) → s.sharding ≡ None → room ≤ chunk_room s
     → new ≤ old + room → IfSome o (λ m. new ≤ old + cell_cost m dataset s cell)
-own_cost None dataset s cell room old new e raw small h = tt
-own_cost (Some m) dataset s cell room old new e raw small h = costs_own m dataset s cell room old new e raw small h
+own_cost None dataset s cell room old new e small h = tt
+own_cost (Some m) dataset s cell room old new e small h = costs_own m dataset s cell room old new e small h
 
 -- what is kept of an index, by the sharding
 pub keeps_as : (o : Option Objects) (dataset : Name) (s : Scale) (sharding : Sharding) (shards : ShardReader) → s.sharding ≡ Some sharding → KeepsShards o dataset s shards

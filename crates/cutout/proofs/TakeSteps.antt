@@ -1,28 +1,44 @@
 -- Values of a cell put into those of a part.
-use Rattle.std.proofs.Common.{◌≡◌, ℕ, zero, suc, ◌+◌, ◌*◌, replicate, Some, None, Ok, refl, ap, ◌∙◌, sym}
+use Rattle.std.proofs.Common.{◌≡◌, ℕ, zero, suc, ◌+◌, ◌*◌, replicate, List, Some, None, Ok, refl, ap, ◌∙◌, sym}
 use Rattle.vol_base.specs.declared.boxes.Box3.{Box3}
 use Rattle.vol_spec.proofs.Plain.{value_at-raw}
 use Rattle.vol_spec.specs.Grid.{cell_box}
 use Rattle.vol_spec.specs.Raw.{number}
 use Rattle.vol_spec.specs.Types.{Bytes, Cell}
-use Rattle.vol_spec.specs.declared.encoding.Encoding.TheVariants.{Raw}
+use Rattle.vol_spec.specs.Encodings.{by_encoding}
+use Rattle.vol_spec.specs.Limits.{first_bytes}
+use Rattle.vol_spec.specs.declared.encoding.Encoding.TheVariants.{Raw, Seg}
 use Rattle.vol_spec.specs.declared.scale.Scale.{Scale}
 use Rattle.voxel_raw.specs.Copies.{HasValues, HasZeros, KeepsRest}
 use Rattle.voxel_raw.specs.Common.{IsCommon}
-use Rattle.cutout.specs.Reading.{Took}
+use Rattle.segment_cells.specs.Decoding.{HoldsValues}
+use Rattle.cutout.specs.Opened.{values_room}
+use Rattle.cutout.specs.Reading.{Puts, Took}
 
 -- zero bytes make zero
 number-zeros : (w : ℕ) → number (replicate w 0) ≡ 0
 number-zeros zero = refl
 number-zeros (suc w) = ap (λ n. 0 + 256 * n) (number-zeros w)
 
-pub took_bytes : (s : Scale) (cell : Cell) (part common : Box3) (bytes old new : Bytes) → s.encoding ≡ Raw → IsCommon (cell_box s cell) part common
-    → HasValues (cell_box s cell) part common s.channels s.width bytes new → KeepsRest part common s.channels s.width old new
-    → Took s cell part (Ok (Some bytes)) old new
-took_bytes s cell part common bytes old new raw is values rest = record {
-  taken = λ p c in_cell in_part lc.
-      ap Ok (value_at-raw s raw cell bytes p c) ∙ ap (λ xs. Ok (number xs)) (sym (values p c ((is.both p).1 (in_cell, in_part)) lc));
+-- values copied where a cell and a part have a position
+pub puts_values : (s : Scale) (cell : Cell) (part common : Box3) (values old new : Bytes) → IsCommon (cell_box s cell) part common
+    → HasValues (cell_box s cell) part common s.channels s.width values new → KeepsRest part common s.channels s.width old new
+    → Puts s cell part values old new
+puts_values s cell part common values old new is copied rest = record {
+  put = λ p c in_cell in_part lc. ap number (copied p c ((is.both p).1 (in_cell, in_part)) lc);
   kept = λ p c in_part out lc. rest p c in_part (λ cov. out ((is.both p).0 cov).0) lc;
+}
+
+-- a chunk of raw values has them as they are
+pub holds_raw : (s : Scale) (cell : Cell) (bytes : Bytes) → s.encoding ≡ Raw → HoldsValues s cell bytes bytes
+holds_raw s cell bytes raw p c covered low = sym (value_at-raw s raw cell bytes p c)
+
+-- values that are put are those of the cell's chunk
+pub took_values : (s : Scale) (cell : Cell) (part : Box3) (bytes values old new : Bytes) → HoldsValues s cell bytes values → Puts s cell part values old new
+    → Took s cell part (Ok (Some bytes)) old new
+took_values s cell part bytes values old new holds puts = record {
+  taken = λ p c in_cell in_part lc. ap Ok (sym (puts.put p c in_cell in_part lc ∙ holds p c in_cell lc));
+  kept = puts.kept;
 }
 
 pub took_zeros : (s : Scale) (cell : Cell) (part common : Box3) (old new : Bytes) → IsCommon (cell_box s cell) part common
@@ -32,3 +48,7 @@ took_zeros s cell part common old new is zeros rest = record {
   taken = λ p c in_cell in_part lc. ap Ok (sym (ap number (zeros p c ((is.both p).1 (in_cell, in_part)) lc) ∙ number-zeros s.width));
   kept = λ p c in_part out lc. rest p c in_part (λ cov. out ((is.both p).0 cov).0) lc;
 }
+
+-- a chunk that is decoded has room for its values
+pub room_seg : (s : Scale) (block : List ℕ) → s.encoding ≡ Seg block → values_room s ≡ first_bytes s.width s.channels s.size s.chunk
+room_seg s block seg = ap (λ e. by_encoding e 0 (first_bytes s.width s.channels s.size s.chunk)) seg

@@ -1,9 +1,9 @@
 -- An opened reader.
-use Rattle.std.specs.Prelude.{◌≡◌, ◌+◌, ◌≤◌, length}
+use Rattle.std.specs.Prelude.{◌≡◌, ◌+◌, ◌≤◌, ℕ, length}
 use Rattle.chunk_pool.specs.Frames.{Filled}
-use Rattle.vol_spec.specs.Limits.{first_bytes}
+use Rattle.vol_spec.specs.Encodings.{by_encoding}
+use Rattle.vol_spec.specs.Limits.{first_bytes, limit_of}
 use Rattle.vol_spec.specs.Types.{Name}
-use Rattle.vol_spec.specs.declared.encoding.Encoding.TheVariants.{Raw}
 use Rattle.vol_spec.specs.declared.scale.Scale.{Scale}
 
 -- a reader of a scale of a data set
@@ -11,8 +11,16 @@ pub record Opened : Type 0 where
   pub dataset : Name
   pub scale : Scale
 
--- its frame has room for a chunk and a byte more
-pub record IsReady (reader : Opened) (chunk : Filled) : Type 0 where
+-- room for a chunk of a scale and a byte more
+abbrev pub chunk_room : Scale → ℕ
+chunk_room s = limit_of s.encoding s.width s.channels s.size s.chunk + 1
+
+-- room for the values of a chunk that is decoded; a raw chunk has its values as they are
+abbrev pub values_room : Scale → ℕ
+values_room s = by_encoding s.encoding 0 (first_bytes s.width s.channels s.size s.chunk)
+
+-- its frames have this room
+pub record IsReady (reader : Opened) (chunk values : Filled) : Type 0 where
   pub short : length reader.dataset ≤ 200
-  pub raw : reader.scale.encoding ≡ Raw
-  pub room : length chunk.bytes ≡ first_bytes reader.scale.width reader.scale.channels reader.scale.size reader.scale.chunk + 1
+  pub room : length chunk.bytes ≡ chunk_room reader.scale
+  pub decoded : length values.bytes ≡ values_room reader.scale

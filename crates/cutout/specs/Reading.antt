@@ -1,10 +1,8 @@
 -- What reading the cells of a part leaves.
-use Rattle.std.specs.Prelude.{◌≡◌, ℕ, ◌<◌, Bool, true, false, None, Option, Some, Result, Ok, Err, ⊤, map, Contains, length, ◌==◌, if◌then◌else◌, List}
+use Rattle.std.specs.Prelude.{◌≡◌, ℕ, ◌<◌, None, Option, Some, Result, Ok, Err, ⊤, map, Contains, length, List}
 use Rattle.std.specs.FinMap as fin
 use Rattle.vol_base.specs.declared.boxes.Box3.{Box3}
 use Rattle.vol_base.specs.declared.faults.Fault.{Fault}
-use Rattle.vol_base.specs.declared.faults.ChunkFault.TheVariants.{ChunkLength}
-use Rattle.vol_base.specs.declared.faults.Fault.TheVariants.{Chunk}
 use Rattle.vol_base.specs.Boxes.{Covers, num, value}
 use Rattle.vol_base.specs.Outside.{Objects}
 use Rattle.vol_spec.specs.BoxValues.{first_some}
@@ -14,7 +12,7 @@ use Rattle.vol_spec.specs.Encodings.{cell_limit}
 use Rattle.vol_spec.specs.FoundChunks.{found}
 use Rattle.vol_spec.specs.Grid.{cell_at, cell_box}
 use Rattle.vol_spec.specs.Places.{id_of}
-use Rattle.vol_spec.specs.Raw.{digit}
+use Rattle.vol_spec.specs.Raw.{digit, raw_at}
 use Rattle.vol_spec.specs.StoredBytes.{object_of}
 use Rattle.vol_spec.specs.Types.{Bytes, Cell, Name, Position}
 use Rattle.vol_spec.specs.declared.scale.Scale.{Scale}
@@ -27,17 +25,10 @@ use Rattle.cutout.specs.declared.fault.CutFault.TheVariants.{OutsideScale, Store
 use Rattle.cutout.specs.declared.found.Found.{Found}
 use Rattle.cutout.specs.declared.found.Found.TheVariants.{Absent, At}
 
--- an answer on a cell's chunk shows what the objects say of it: that it is absent, its bytes, or its fault
-abbrev pub Shows : Result Bool LookupFault → Bytes → Result (Option Bytes) Fault → Type 0
-Shows (Ok false) bytes seen = seen ≡ Ok None
-Shows (Ok true) bytes seen = seen ≡ Ok (Some bytes)
-Shows (Err (Faulty fault)) bytes seen = seen ≡ Err fault
-Shows (Err NotRead) bytes seen = Unit {0}
-
--- a chunk of raw values by the number of its bytes, and by that of its values
-abbrev pub judged_found : Option ℕ → ℕ → Result Bool LookupFault
-judged_found None wanted = Ok false
-judged_found (Some n) wanted = if n == wanted then Ok true else Err (Faulty (Chunk (ChunkLength n wanted)))
+-- what putting values of a cell into those of a part leaves: they stand where both have the position, the part's elsewhere
+pub record Puts (s : Scale) (cell : Cell) (part : Box3) (values old new : Bytes) : Type 0 where
+  pub put : (p : Position) (c : ℕ) → Covers (cell_box s cell) p → Covers part p → c < s.channels → digit new s.width (num part p c) ≡ raw_at (cell_box s cell) s.width values p c
+  pub kept : (p : Position) (c : ℕ) → Covers part p → (Covers (cell_box s cell) p → ⊥) → c < s.channels → value s.width new (num part p c) ≡ value s.width old (num part p c)
 
 -- what putting the values of a cell into those of a part leaves: the cell's values where both have the position, the part's elsewhere
 pub record Took (s : Scale) (cell : Cell) (part : Box3) (seen : Result (Option Bytes) Fault) (old new : Bytes) : Type 0 where

@@ -11,32 +11,17 @@ ghost use Rattle.vol_spec.specs.Limits.{first_bytes};
 ghost use Rattle.vol_spec.specs.Raw.{raw_len};
 ghost use Rattle.vol_spec.specs.declared.encoding.Encoding.TheVariants.{Raw};
 ghost use Rattle.cutout.specs.Keeping.{cell_cost, KeepsShards};
+ghost use Rattle.cutout.specs.Opened.{chunk_room, values_room};
 ghost use Rattle.cutout.specs.Reading.{placed, Reads, ReadsAll, Took};
 
 use crate::CutFault;
-use crate::chunk::read_chunk;
-use chunk_grid::{byte_len, cell_box, cells, tell_cells};
+use crate::chunk::read_stored;
+use crate::values::{put_chunk, put_zeros};
+use chunk_grid::{cells, tell_cells};
+use segment_cells::chunk_limit;
 use shard_reader::{LookupFault, ShardReader};
-use vol_base::{Box3, Name, Source};
+use vol_base::{Box3, Fault, Name, Source};
 use vol_spec::Scale;
-use voxel_raw::{common_part, copy_box, fill_box};
-
-// Puts the values of a cell, or zeros where it has no chunk, into those of a part.
-fn put_chunk(chunk: Option<&[u8]>, scale: &Scale, cell: [u64; 3], part: &Box3, out: &mut [u8])
-    requires raw { scale.now.encoding ≡ Raw }
-    requires cell { IsCell scale.now cell }
-    requires chunk { IfSome chunk (λ bytes. length bytes.now ≡ raw_size scale.now cell) }
-    requires len { length out.old ≡ raw_len part.now scale.now.channels scale.now.width }
-    requires limit { length out.old ≤ 2 ^ 30 }
-    ensures { Took scale.now cell part.now (Ok (option_map (λ bytes. bytes.now) chunk.entry)) out.old out.new }
-{
-    let own = cell_box(scale, cell);
-    let common = common_part(&own, part);
-    match chunk {
-        Some(bytes) => copy_box(bytes, &own, out, part, &common, scale.channels, scale.width),
-        None => fill_box(out, part, &common, scale.channels, scale.width),
-    }
-}
 
 // Reads a cell that meets the part, and puts its values into those of the part.
 fn read_one<S: Source>(
@@ -46,13 +31,14 @@ fn read_one<S: Source>(
     scale: &Scale,
     cell: [u64; 3],
     chunk: &mut [u8],
+    values: &mut [u8],
     part: &Box3,
     out: &mut [u8],
 ) -> Result<(), LookupFault>
     requires dataset { length dataset.now ≤ 200 }
-    requires raw { scale.now.encoding ≡ Raw }
     requires cell { IsCell scale.now cell }
-    requires room { length chunk.old ≡ first_bytes scale.now.width scale.now.channels scale.now.size scale.now.chunk + 1 }
+    requires room { length chunk.old ≡ chunk_room scale.now }
+    requires values { values_room scale.now ≤ length values.old }
     requires len { length out.old ≡ raw_len part.now scale.now.channels scale.now.width }
     requires limit { length out.old ≤ 2 ^ 30 }
     requires keeps { KeepsShards (S.objects store.old) dataset.now scale.now shards.old }
@@ -64,15 +50,20 @@ fn read_one<S: Source>(
     ensures later { S.faults store.old ≤ S.faults store.new }
     ensures fault { result ≡ Err LookupFault.NotRead → Rose (S.faults store.old) (S.faults store.new) }
 {
-    let own = cell_box(scale, cell);
-    let len = byte_len(&own, scale.channels, scale.width) as usize;
-    let room = &mut chunk[..len + 1];
-    match read_chunk(shards, store, dataset, scale, cell, room) {
+    let limit = chunk_limit(scale, cell);
+    let room = &mut chunk[..limit as usize + 1];
+    let len = match read_stored(shards, store, dataset, scale, cell, limit, room) {
         Err(fault) => return Err(fault),
-        Ok(true) => put_chunk(Some(&room[..len]), scale, cell, part, out),
-        Ok(false) => put_chunk(None, scale, cell, part, out),
+        Ok(None) => {
+            put_zeros(scale, cell, part, out);
+            return Ok(());
+        }
+        Ok(Some(len)) => len as usize,
+    };
+    match put_chunk(&room[..len], scale, cell, values, part, out) {
+        Ok(()) => Ok(()),
+        Err(fault) => Err(LookupFault::Faulty(Fault::Chunk(fault))),
     }
-    Ok(())
 }
 
 /// The fault of a cell, with the cell.
@@ -85,22 +76,23 @@ pub(crate) fn place_fault(cell: [u64; 3], fault: LookupFault) -> CutFault
     }
 }
 
-/// Reads the cells that meet the part, x fastest, and puts their values into those of the part. The buffer
-/// has room for one byte more than the chunks of the scale have at most. Nothing is used of an index
-/// that was kept before.
+/// Reads the cells that meet the part, x fastest, and puts their values into those of the part. `chunk` has
+/// room for one byte more than the chunks of the scale have at most, and `values` for what is decoded. Nothing
+/// is used of an index that was kept before.
 pub(crate) fn read_cells<S: Source>(
     shards: &mut ShardReader,
     store: &mut S,
     dataset: &Name,
     scale: &Scale,
     chunk: &mut [u8],
+    values: &mut [u8],
     part: &Box3,
     out: &mut [u8],
 ) -> Result<(), CutFault>
     requires dataset { length dataset.now ≤ 200 }
-    requires raw { scale.now.encoding ≡ Raw }
     requires inside { Inside scale.now part.now }
-    requires room { length chunk.old ≡ first_bytes scale.now.width scale.now.channels scale.now.size scale.now.chunk + 1 }
+    requires room { length chunk.old ≡ chunk_room scale.now }
+    requires values { values_room scale.now ≤ length values.old }
     requires len { length out.old ≡ raw_len part.now scale.now.channels scale.now.width }
     requires limit { length out.old ≤ 2 ^ 30 }
     ensures read { IfSome (S.objects store.old) (λ m. ReadsAll result m dataset.now scale.now part.now out.new) }
@@ -113,7 +105,9 @@ pub(crate) fn read_cells<S: Source>(
     shards.forget();
     tell_cells(scale, part);
     for cell in cells(scale, part) {
-        match read_one(shards, store, dataset, scale, cell, chunk, part, out) {
+        match read_one(
+            shards, store, dataset, scale, cell, chunk, values, part, out,
+        ) {
             Ok(()) => {}
             Err(fault) => return Err(place_fault(cell, fault)),
         }

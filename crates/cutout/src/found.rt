@@ -3,14 +3,14 @@ ghost use Rattle.std.specs.Prelude.{◌≡◌, ◌≢◌, ◌+◌, ◌≤◌, le
 ghost use Rattle.vol_base.specs.Causes.{Rose};
 ghost use Rattle.vol_base.specs.Outside.{OnlyReads};
 ghost use Rattle.vol_spec.specs.Grid.{IsCell};
-ghost use Rattle.vol_spec.specs.declared.encoding.Encoding.TheVariants.{Raw};
 ghost use Rattle.cutout.specs.Keeping.{search_cost};
 ghost use Rattle.cutout.specs.Reading.{Locates};
 
 use crate::CutFault;
 use crate::cells::place_fault;
-use chunk_grid::{byte_len, cell_box, grid, object_name};
+use chunk_grid::{grid, object_name};
 use morton_code::code;
+use segment_cells::chunk_limit;
 use shard_index::{place, shard_name};
 use shard_reader::ShardReader;
 use vol_base::{Name, Source};
@@ -65,7 +65,6 @@ pub(crate) fn locate_in_shard<S: Source>(
     requires dataset { length dataset.now ≤ 200 }
     requires cell { IsCell scale.now cell }
     requires sharding { scale.now.sharding ≡ Some sharding.now }
-    requires raw { scale.now.encoding ≡ Raw }
     ensures found { IfSome (S.objects store.old) (λ m. Locates result m dataset.now scale.now cell) }
     ensures inside { result ≢ Err CutFault.OutsideScale }
     ensures asked { IfSome (S.objects store.old) (λ m. S.asked store.new ≤ S.asked store.old + search_cost m dataset.now scale.now cell) }
@@ -75,8 +74,7 @@ pub(crate) fn locate_in_shard<S: Source>(
 {
     shards.forget();
     let id = code(&grid(scale), cell);
-    let part = cell_box(scale, cell);
-    let limit = byte_len(&part, scale.channels, scale.width) as u64;
+    let limit = chunk_limit(scale, cell);
     match shards.locate(store, dataset, scale, sharding, limit, id) {
         Err(fault) => Err(place_fault(cell, fault)),
         Ok(None) => Ok(Found::Absent),

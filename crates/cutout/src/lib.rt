@@ -1,4 +1,4 @@
-//! Boxes of voxels and places of chunks, read from the objects of a scale. So far its chunks are raw.
+//! Boxes of voxels and places of chunks, read from the objects of a scale.
 #![tactic(auto)]
 
 mod cells;
@@ -8,6 +8,7 @@ mod found;
 mod reader;
 #[cfg(test)]
 mod tests;
+mod values;
 
 pub use fault::CutFault;
 pub use found::Found;

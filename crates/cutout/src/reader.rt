@@ -6,8 +6,8 @@ ghost use Rattle.vol_base.specs.Outside.{OnlyReads};
 ghost use Rattle.vol_spec.specs.Costs.{cost};
 ghost use Rattle.vol_spec.specs.Grid.{Inside, IsCell};
 ghost use Rattle.vol_spec.specs.Raw.{raw_len};
-ghost use Rattle.vol_spec.specs.declared.encoding.Encoding.TheVariants.{Raw};
 ghost use Rattle.cutout.specs.Keeping.{search_cost};
+ghost use Rattle.cutout.specs.Opened.{values_room};
 ghost use Rattle.cutout.specs.Reading.{HasCut, Locates};
 
 use crate::cells::read_cells;
@@ -19,15 +19,16 @@ use shard_reader::{ShardReader, WINDOW_LEN};
 use std::alloc::Global;
 use std::marker::Model;
 use vol_base::{Box3, Name, OutOfMemory, Source};
-use vol_spec::Scale;
+use vol_spec::{Encoding, Scale};
 
 /// Reads a scale of a data set. All the memory that it needs is taken when it is opened: room for a chunk
-/// and a byte more, and for 1,024 rows of an index.
+/// and a byte more, for the values of a chunk where chunks are segmented, and for 1,024 rows of an index.
 #[derive(Drop)]
 pub struct Reader {
     dataset: Name,
     scale: Scale,
     chunk: Frame,
+    values: Frame,
     shards: ShardReader,
 }
 
@@ -38,7 +39,7 @@ impl Model for Reader {
 
     ghost view = { λ r. record { dataset = r.dataset; scale = r.scale } };
 
-    ghost invariant = { λ r. IsReady (record { dataset = r.dataset; scale = r.scale }) r.chunk };
+    ghost invariant = { λ r. IsReady (record { dataset = r.dataset; scale = r.scale }) r.chunk r.values };
 }
 
 // A frame of so many bytes.
@@ -52,6 +53,16 @@ fn reserve_frame(alloc: Global, len: u64) -> Result<Frame, OutOfMemory>
     }
 }
 
+// How many bytes of values are decoded at once: none where chunks have their values as they are.
+fn values_limit(scale: &Scale) -> u64
+    ensures { result ≡ values_room scale.now }
+{
+    match scale.encoding {
+        Encoding::Raw => 0,
+        Encoding::Seg { .. } => scale.raw_limit(),
+    }
+}
+
 // Knows that the elements of bytes are bytes.
 fn tell_bytes(bytes: &[u8])
     ensures { AreBytes bytes.now }
@@ -60,19 +71,20 @@ fn tell_bytes(bytes: &[u8])
 }
 
 impl Reader {
-    /// A reader of a scale of raw chunks. This call alone takes memory; where there is none, it is refused.
+    /// A reader of a scale. This call alone takes memory; where there is none, it is refused.
     pub fn open(alloc: Global, dataset: &Name, scale: &Scale) -> Result<Reader, OutOfMemory>
         requires dataset { length dataset.now ≤ 200 }
-        requires raw { scale.now.encoding ≡ Raw }
         ensures dataset { IfOk result (λ reader. reader.dataset ≡ dataset.now) }
         ensures scale { IfOk result (λ reader. reader.scale ≡ scale.now) }
     {
-        let chunk = reserve_frame(alloc, scale.raw_limit() + 1)?;
+        let chunk = reserve_frame(alloc, scale.chunk_limit() + 1)?;
+        let values = reserve_frame(alloc, values_limit(scale))?;
         let window = reserve_frame(alloc, WINDOW_LEN)?;
         Ok(Reader {
             dataset: dataset.duplicate(),
             scale: scale.duplicate(),
             chunk,
+            values,
             shards: ShardReader::new(window),
         })
     }
@@ -102,12 +114,14 @@ impl Reader {
             return Err(CutFault::OutsideScale);
         }
         let chunk = self.chunk.room();
+        let values = self.values.room();
         read_cells(
             &mut self.shards,
             store,
             &self.dataset,
             &self.scale,
             chunk,
+            values,
             part,
             out,
         )?;

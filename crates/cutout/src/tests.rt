@@ -1,6 +1,5 @@
 //! Boxes and places read from small stores, worked out by hand.
 ghost use Rattle.std.specs.Prelude.{◌≡◌, ◌≤◌, length};
-ghost use Rattle.vol_spec.specs.declared.encoding.Encoding.TheVariants.{Raw};
 
 use crate::{CutFault, Found, Reader};
 use chunk_grid::{byte_len, grid, inside};
@@ -26,9 +25,7 @@ fn store_of(
 }
 
 // Five voxels in three cells of a row, the last one narrower.
-fn row_scale(rt: &impl Abort) -> Scale
-    ensures { result.encoding ≡ Raw }
-{
+fn row_scale(rt: &impl Abort) -> Scale {
     let key = short_name(b"s").expect(rt, "a key");
     raw_scale(key, 1, 1, [5, 1, 1], [0; 3], [2, 1, 1]).expect(rt, "a scale")
 }
@@ -46,7 +43,6 @@ fn one_minishard() -> Sharding {
 // The same cells in shards.
 fn sharded_scale(key: Name, sharding: Sharding) -> Scale
     requires { length key ≤ 200 }
-    ensures { result.encoding ≡ Raw }
 {
     Scale {
         key,
@@ -75,9 +71,7 @@ fn check_cut(
     scale: &Scale,
     store: &mut MemoryStore,
     cut: &Cut,
-) -> Result<(), Fail>
-    requires { scale.now.encoding ≡ Raw }
-{
+) -> Result<(), Fail> {
     let dataset = short_name(b"d").expect(rt, "a data set");
     let mut reader = Reader::open(alloc, &dataset, scale)?;
     let len = byte_len(&cut.part, scale.channels, scale.width);
@@ -214,9 +208,7 @@ fn check_place(
     cell: [u64; 3],
     wanted: Option<(&[u8], u64, u64)>,
     asked: u64,
-) -> Result<(), Fail>
-    requires { scale.now.encoding ≡ Raw }
-{
+) -> Result<(), Fail> {
     let dataset = short_name(b"d").expect(rt, "a data set");
     let mut reader = Reader::open(alloc, &dataset, scale)?;
     let before = store.asked();
@@ -239,9 +231,7 @@ fn check_lost(
     scale: &Scale,
     store: &mut MemoryStore,
     fault: ShardFault,
-) -> Result<(), Fail>
-    requires { scale.now.encoding ≡ Raw }
-{
+) -> Result<(), Fail> {
     let dataset = short_name(b"d").expect(rt, "a data set");
     let mut reader = Reader::open(alloc, &dataset, scale)?;
     let wanted = CutFault::Damaged {
@@ -313,9 +303,7 @@ fn check_replaced(
     alloc: Global,
     scale: &Scale,
     store: &mut MemoryStore,
-) -> Result<(), Fail>
-    requires { scale.now.encoding ≡ Raw }
-{
+) -> Result<(), Fail> {
     let dataset = short_name(b"d").expect(rt, "a data set");
     let mut reader = Reader::open(alloc, &dataset, scale)?;
     let len = byte_len(&ALL, scale.channels, scale.width);
@@ -339,4 +327,78 @@ fn reads_a_new_shard_anew(rt: HostRuntime) -> Result<(), Fail> {
     let scale = sharded_scale(key, one_minishard());
     let mut store = store_of(&rt, alloc, &[(SHARD, &BYTES)], NONE_FAILS)?;
     check_replaced(&rt, alloc, &scale, &mut store)
+}
+
+// Two rows of three values of four bytes, in cells of two by two; the second cell has one voxel of each row.
+fn segmented_scale(key: Name) -> Scale
+    requires { length key ≤ 200 }
+{
+    Scale {
+        key,
+        width: 4,
+        channels: 1,
+        size: [3, 2, 1],
+        offset: [0; 3],
+        chunk: [2, 2, 1],
+        encoding: Encoding::Seg { block: [2, 2, 1] },
+        sharding: None,
+    }
+}
+
+// The values 1 2 4 4, by a table of three and two bits a voxel.
+const FIRST_CHUNK: [u8; 28] = [
+    1, 0, 0, 0, 3, 0, 0, 2, 2, 0, 0, 0, 164, 0, 0, 0, 1, 0, 0, 0, 2, 0, 0, 0, 4, 0, 0, 0,
+];
+
+// The values 3 5: the second voxel of a block that is clipped has number 2.
+const SECOND_CHUNK: [u8; 24] = [
+    1, 0, 0, 0, 3, 0, 0, 1, 2, 0, 0, 0, 4, 0, 0, 0, 3, 0, 0, 0, 5, 0, 0, 0,
+];
+
+// An index of three bits.
+const BAD_BITS: [u8; 24] = [
+    1, 0, 0, 0, 3, 0, 0, 3, 2, 0, 0, 0, 4, 0, 0, 0, 3, 0, 0, 0, 5, 0, 0, 0,
+];
+
+const PLANE: Box3 = Box3 {
+    begin: [0; 3],
+    size: [3, 2, 1],
+};
+
+const PLANE_VALUES: [u8; 24] = [
+    1, 0, 0, 0, 2, 0, 0, 0, 3, 0, 0, 0, 4, 0, 0, 0, 4, 0, 0, 0, 5, 0, 0, 0,
+];
+
+// The first voxel of the second row.
+const CORNER: Box3 = Box3 {
+    begin: [0, 1, 0],
+    size: [1; 3],
+};
+
+#[test]
+fn cuts_segmentations_out(rt: HostRuntime) -> Result<(), Fail> {
+    let alloc = rt.alloc();
+    let key = short_name(b"s").expect(&rt, "a key");
+    let scale = segmented_scale(key);
+    let first = (b"d/s/0-2_0-2_0-1".as_slice(), FIRST_CHUNK.as_slice());
+    let second = (b"d/s/2-3_0-2_0-1".as_slice(), SECOND_CHUNK.as_slice());
+    let mut store = store_of(&rt, alloc, &[first, second], NONE_FAILS)?;
+    // of each cell the longest chunk and a byte more
+    let all = good(PLANE, &PLANE_VALUES, 69 + 69);
+    check_cut(&rt, alloc, &scale, &mut store, &all)?;
+    let corner = good(CORNER, &[4, 0, 0, 0], 69);
+    check_cut(&rt, alloc, &scale, &mut store, &corner)?;
+    let damaged = (second.0, BAD_BITS.as_slice());
+    let mut store = store_of(&rt, alloc, &[first, damaged], NONE_FAILS)?;
+    let bits = ChunkFault::SegBits {
+        c: 0,
+        b: 0,
+        bits: 3,
+    };
+    let fault = CutFault::Damaged {
+        cell: [1, 0, 0],
+        fault: Fault::Chunk(bits),
+    };
+    check_cut(&rt, alloc, &scale, &mut store, &bad(PLANE, fault, 138))?;
+    check_cut(&rt, alloc, &scale, &mut store, &corner)
 }

@@ -194,6 +194,10 @@ pub memory_answer : (A : Type 0) (o : Option Objects) (fault : Objects → Fault
 memory_answer A None fault total = tt
 memory_answer A (Some m) fault total = tt
 
+pub want_answer : (A : Type 0) (o : Option Objects) (fault : Objects → Faults) (total : ℕ) (answer : WriteFault) → answer ≡ WriteMemory
+    → IfSome o (λ m. WritesAll {A = A} (Err answer) (first_some (map (fault m) (range_with_len 0 total))))
+want_answer A o fault total answer is = subst (λ f. IfSome o (λ m. WritesAll {A = A} (Err f) (first_some (map (fault m) (range_with_len 0 total))))) (sym is) (memory_answer A o fault total)
+
 pub memory_cause : {A : Type 0} (before now : ℕ) → before ≤ now → HasWriteCause {A = A} before now (Err WriteMemory)
 memory_cause before now later = record { later = later; failed = λ same. absurd (cc same) }
 

@@ -1,6 +1,8 @@
 pub mod CellLens
 pub mod CountSteps
+pub mod EncodedSteps
 pub mod JobSteps
+pub mod LensSteps
 pub mod ListedSteps
 pub mod ObjectSteps
 pub mod PlaceSteps

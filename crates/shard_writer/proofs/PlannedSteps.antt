@@ -3,13 +3,13 @@ use Rattle.std.proofs.Common.{◌≡◌, ◌∙◌, ℕ, suc, ◌+◌, ◌<◌, 
 use Rattle.std.specs.Prelude.{All}
 use Rattle.std.specs.List.{range_with_len}
 use Rattle.vol_base.specs.Outside.{Objects}
+use Rattle.vol_spec.specs.Encodings.{encoded}
 use Rattle.vol_spec.specs.Grid.{IsCell}
 use Rattle.vol_spec.specs.LastWrite.{zeros}
 use Rattle.vol_spec.specs.StoredCells.{chunks_of, met_cells, written_raw}
-use Rattle.vol_spec.specs.StoredLists.{cell_key, in_key_order, key_by, listed_by, stored_list}
+use Rattle.vol_spec.specs.StoredLists.{cell_key, encoded_chunks, in_key_order, key_by, listed_by, stored_list}
 use Rattle.vol_spec.specs.StoredShards.{in_order, key_of, objects_in}
 use Rattle.vol_spec.specs.Types.{Bytes, Cell, Key, Keyed, Name}
-use Rattle.vol_spec.specs.declared.encoding.Encoding.TheVariants.{Raw}
 use Rattle.vol_spec.specs.declared.scale.Scale.{Scale}
 use Rattle.vol_spec.specs.declared.sharding.Sharding.{Sharding}
 use Rattle.chunk_grid.proofs.JobOrder.{in_key_order-jobs, jobs_in_order}
@@ -18,7 +18,6 @@ use Rattle.write_plan.specs.Plans.{Planned, planned_cells, work_of}
 use Rattle.write_plan.proofs.KeySteps.{distinct_cells, from_key_order, in_order-alike, key_known, length-in_key_order, paired, to_key_order}
 use Rattle.std.proofs.lemmas.List.Elements.{All-contains}
 use Rattle.shard_writer.specs.Writing.{job_chunks, job_objects}
-use Rattle.shard_writer.proofs.WorkSteps.{encoded_same}
 
 -- a cell with its bytes
 abbrev chunk_by : (Cell → Bytes) → Cell → Cell × Bytes
@@ -51,27 +50,33 @@ keyed_cells s sharding f sharded (c ∷ cells) =
     let key : key_by (Some sharding) s c ≡ cell_key s c = ap (λ (o : Option Sharding). key_by o s c) (sym sharded) in
     ap (λ k. (let e : Key × Bytes = (k, f c) in e) ∷ rest) key ∙ ap (λ (es : Keyed). paired s f c ∷ es) (keyed_cells s sharding f sharded cells)
 
+-- chunks of cells are stored one by one
+encoded_cells : (s : Scale) (f : Cell → Bytes) (cells : List Cell) → encoded_chunks s (map (chunk_by f) cells) ≡ map (chunk_by (λ cell. encoded s cell (f cell))) cells
+encoded_cells s f [] = refl
+encoded_cells s f (c ∷ cells) = ap (λ cs. (let chunk : Cell × Bytes = (c, encoded s c (f c)) in chunk) ∷ cs) (encoded_cells s f cells)
+
 -- in any order they are stored alike
-stored_alike : (dataset : Name) (s : Scale) (sharding : Sharding) (f : Cell → Bytes) (cells : List Cell) → s.encoding ≡ Raw → s.sharding ≡ Some sharding → All (IsCell s) cells
+stored_alike : (dataset : Name) (s : Scale) (sharding : Sharding) (f : Cell → Bytes) (cells : List Cell) → s.sharding ≡ Some sharding → All (IsCell s) cells
     → stored_list dataset s (map (chunk_by f) (in_key_order s cells)) ≡ stored_list dataset s (map (chunk_by f) cells)
 unfolding stored_list
-stored_alike dataset s sharding f cells raw sharded all =
+stored_alike dataset s sharding f cells sharded all =
+    let g : Cell → Bytes = λ cell. encoded s cell (f cell) in
     let shards : List ℕ = range_with_len 0 (2 ^ sharding.shard_bits) in
-    let same : in_order (map (paired s f) (in_key_order s cells)) ≡ in_order (map (paired s f) cells) =
-    in_order-alike s f (in_key_order s cells) cells (from_key_order s cells) (λ c h. to_key_order s cells c all h)
+    let same : in_order (map (paired s (λ cell. encoded s cell (f cell))) (in_key_order s cells)) ≡ in_order (map (paired s (λ cell. encoded s cell (f cell))) cells) =
+    in_order-alike s g (in_key_order s cells) cells (from_key_order s cells) (λ c h. to_key_order s cells c all h)
     (λ c d hc hd e. key_known s c d (All-contains (IsCell s) cells c all (from_key_order s cells c hc)) (All-contains (IsCell s) cells d all (from_key_order s cells d hd)) e) in
-    ap (λ cs. listed_by s.sharding dataset s cs) (encoded_same s raw (map (chunk_by f) (in_key_order s cells)))
-    ∙ ap (λ (o : Option Sharding). listed_by o dataset s (map (chunk_by f) (in_key_order s cells))) sharded
-    ∙ ap (λ (es : Keyed). objects_in dataset s sharding (in_order es) shards) (keyed_cells s sharding f sharded (in_key_order s cells))
+    ap (λ cs. listed_by s.sharding dataset s cs) (encoded_cells s f (in_key_order s cells))
+    ∙ ap (λ (o : Option Sharding). listed_by o dataset s (map (chunk_by g) (in_key_order s cells))) sharded
+    ∙ ap (λ (es : Keyed). objects_in dataset s sharding (in_order es) shards) (keyed_cells s sharding g sharded (in_key_order s cells))
     ∙ ap (λ (es : Keyed). objects_in dataset s sharding es shards) same
-    ∙ ap (λ (es : Keyed). objects_in dataset s sharding (in_order es) shards) (sym (keyed_cells s sharding f sharded cells))
-    ∙ ap (λ (o : Option Sharding). listed_by o dataset s (map (chunk_by f) cells)) (sym sharded)
-    ∙ ap (λ cs. listed_by s.sharding dataset s cs) (sym (encoded_same s raw (map (chunk_by f) cells)))
+    ∙ ap (λ (es : Keyed). objects_in dataset s sharding (in_order es) shards) (sym (keyed_cells s sharding g sharded cells))
+    ∙ ap (λ (o : Option Sharding). listed_by o dataset s (map (chunk_by g) cells)) (sym sharded)
+    ∙ ap (λ cs. listed_by s.sharding dataset s cs) (sym (encoded_cells s f cells))
 
 -- the objects of a plan's jobs are those of its writes
-pub planned_objects : (dataset : Name) (plan : Planned) (m : Objects) → plan.scale.encoding ≡ Raw → job_objects dataset (work_of plan) m ≡ stored_list dataset plan.scale (chunks_of plan.scale zeros plan.writes)
+pub planned_objects : (dataset : Name) (plan : Planned) (m : Objects) → job_objects dataset (work_of plan) m ≡ stored_list dataset plan.scale (chunks_of plan.scale zeros plan.writes)
 unfolding chunks_of
-planned_objects dataset plan m raw = ap (stored_list dataset plan.scale) (plan_chunks plan m) ∙ by plan.scale.sharding refl
+planned_objects dataset plan m = ap (stored_list dataset plan.scale) (plan_chunks plan m) ∙ by plan.scale.sharding refl
   where
     s : Scale
     s = plan.scale
@@ -84,7 +89,7 @@ planned_objects dataset plan m raw = ap (stored_list dataset plan.scale) (plan_c
 
     by : (o : Option Sharding) → s.sharding ≡ o → stored_list dataset s (map (chunk_by f) (in_key_order s met)) ≡ stored_list dataset s (map (chunk_by f) met)
     by None is = ap (λ cells. stored_list dataset s (map (chunk_by f) cells)) (in_key_order-jobs s met (jobs_in_order s met is (AreInOrder-met_cells s plan.writes)))
-    by (Some sharding) is = stored_alike dataset s sharding f met raw is (AreInOrder-met_cells s plan.writes).each
+    by (Some sharding) is = stored_alike dataset s sharding f met is (AreInOrder-met_cells s plan.writes).each
 
 -- and its jobs are as many as the cells that the writes meet
 pub planned_len : (plan : Planned) → length (planned_cells plan) ≡ length (met_cells plan.scale plan.writes)

@@ -4,10 +4,11 @@ use Rattle.std.specs.List.{range_with_len, sum_by}
 use Rattle.vol_base.specs.Causes.{Rose}
 use Rattle.vol_base.specs.Outside.{Draft, Objects}
 use Rattle.vol_base.specs.declared.faults.Fault.{Fault}
-use Rattle.vol_spec.specs.Encodings.{raw_size}
+use Rattle.vol_spec.specs.Encodings.{encoded, raw_size}
 use Rattle.vol_spec.specs.StoredCells.{cell_of, put_in}
 use Rattle.vol_spec.specs.StoredLists.{stored_list}
 use Rattle.vol_spec.specs.Types.{Bytes, Cell, Chunks, Listed, Name}
+use Rattle.vol_spec.specs.declared.encoding.Encoding.TheVariants.{Raw}
 use Rattle.write_plan.specs.Jobs.{Work, jobs_fault}
 use Rattle.shard_writer.specs.declared.written.WriteFault.{WriteFault}
 use Rattle.shard_writer.specs.declared.written.WriteFault.TheVariants.{StoreFault, Damaged, OutOfMemory}
@@ -20,6 +21,10 @@ chunks_with work raw = map (λ job. (cell_of work.cells job, raw job)) (range_wi
 abbrev pub job_chunks : Work → Objects → Chunks
 job_chunks work m = chunks_with work (work.raw m)
 
+-- the chunk that is stored of a job
+abbrev pub stored_by : Work → Objects → ℕ → Bytes
+stored_by work m job = encoded work.scale (cell_of work.cells job) (work.raw m job)
+
 -- the objects that the jobs' chunks are stored as
 abbrev pub job_objects : Name → Work → Objects → Listed
 job_objects dataset work m = stored_list dataset work.scale (job_chunks work m)
@@ -28,14 +33,23 @@ job_objects dataset work m = stored_list dataset work.scale (job_chunks work m)
 abbrev pub job_len : Work → ℕ → ℕ
 job_len work job = raw_size work.scale (cell_of work.cells job)
 
--- the raw bytes of jobs over objects; where none are told, as many zeros
+-- the bytes of jobs over objects; where none are told, as many zeros
 abbrev pub raw_in : Option Objects → (Objects → ℕ → Bytes) → (ℕ → ℕ) → ℕ → Bytes
 raw_in None raw len job = replicate (len job) 0
 raw_in (Some m) raw len job = raw m job
 
--- the objects that the jobs' chunks are stored as, of which only the number and the lengths are known where no objects are told
+-- the objects that the jobs' chunks are stored as, of which only the number, and of raw chunks the lengths, are known where no objects are told
 abbrev pub told_objects : Name → Work → Option Objects → Listed
 told_objects dataset work o = stored_list dataset work.scale (chunks_with work (raw_in o work.raw (job_len work)))
+
+-- and the chunk that is stored of a job there
+abbrev pub told_chunk : Work → Option Objects → ℕ → Bytes
+told_chunk work o job = encoded work.scale (cell_of work.cells job) (raw_in o work.raw (job_len work) job)
+
+-- the lengths of the jobs' chunks are known: over objects that are told, and of raw chunks always
+abbrev pub KnowsLens : Work → Option Objects → Type 0
+KnowsLens work None = work.scale.encoding ≡ Raw
+KnowsLens work (Some m) = Unit {0}
 
 -- how many bytes objects have together
 abbrev pub joint_len : Listed → ℕ

@@ -6,11 +6,14 @@ ghost use Rattle.vol_base.specs.Causes.{HasStoreCause};
 ghost use Rattle.vol_spec.specs.CellNames.{cell_name};
 ghost use Rattle.vol_spec.specs.Encodings.{raw_size};
 ghost use Rattle.vol_spec.specs.Grid.{IsCell};
-ghost use Rattle.vol_spec.specs.Limits.{first_bytes};
+ghost use Rattle.vol_spec.specs.Limits.{first_bytes, padded_of};
 ghost use Rattle.vol_spec.specs.StoredCells.{cell_of, put_in};
-ghost use Rattle.shard_writer.specs.Plain.{bytes_in, bytes_from, objects_from};
-ghost use Rattle.shard_writer.specs.Writing.{Drops, PutsFront};
+ghost use Rattle.shard_writer.specs.Plain.{bytes_in, chunk_ready, objects_from};
+ghost use Rattle.shard_writer.specs.Serving.{ServesFrames};
+ghost use Rattle.shard_writer.specs.Writing.{Drops, PutsFront, joint_len};
 
+use crate::encoder::encode_job;
+use crate::frames::Frames;
 use crate::steps::find_job;
 use chunk_grid::{byte_len, cell_box, object_name};
 use vol_base::{Name, Store, StoreRefusal};
@@ -57,39 +60,38 @@ pub(crate) fn fill_job<C: Chunks>(chunks: &C, job: u64, raw: &mut [u8])
     chunks.fill(job, raw);
 }
 
-// Writes the object of a job that is prepared, by way of a buffer with room for every cell's values;
-// answers how many bytes it has.
+// Writes the object of a job that is prepared, by way of frames for the scale's chunks; answers how many
+// bytes it has.
 fn write_job<S: Store, C: Chunks>(
     store: &mut S,
     dataset: &Name,
     scale: &Scale,
     chunks: &C,
     job: u64,
-    buffer: &mut [u8],
+    frames: &mut Frames,
 ) -> Result<u64, StoreRefusal>
     requires dataset { length dataset.now ≤ 200 }
     requires scale { (C.work chunks.now).scale ≡ scale.now }
     requires job { job < length (C.work chunks.now).cells }
     requires ready { IsSome (C.ready chunks.now job) }
-    requires room { length buffer.old ≡ first_bytes scale.now.width scale.now.channels scale.now.size scale.now.chunk }
-    ensures put { OnOk result (S.objects store.new ≡ option_map (λ m. fin.insert m (cell_name dataset.now scale.now (cell_of (C.work chunks.now).cells job)) (bytes_in (C.ready chunks.now job))) (S.objects store.old)) }
-    ensures bytes { IfOk result (λ len. len ≡ raw_size scale.now (cell_of (C.work chunks.now).cells job)) }
+    requires writable { padded_of scale.now.encoding scale.now.channels scale.now.size scale.now.chunk ≤ 2 ^ 22 }
+    requires frames { ServesFrames scale.now frames.old }
+    ensures put { OnOk result (S.objects store.new ≡ option_map (λ m. fin.insert m (cell_name dataset.now scale.now (cell_of (C.work chunks.now).cells job)) (chunk_ready (C.work chunks.now) (C.ready chunks.now) job)) (S.objects store.old)) }
+    ensures bytes { IfOk result (λ len. len ≡ length (chunk_ready (C.work chunks.now) (C.ready chunks.now) job)) }
     ensures small { IfOk result (λ len. len ≤ 2 ^ 27) }
+    ensures frames { ServesFrames scale.now frames.new }
     ensures kept { OnErr result (S.objects store.new ≡ S.objects store.old) }
     ensures draft { S.draft store.new ≡ None }
     ensures cause { HasStoreCause (S.faults store.old) (S.faults store.new) result }
 {
-    let cell = find_cell(chunks, job);
-    let name = object_name(dataset, scale, cell);
-    let len = find_len(scale, cell);
-    let raw = &mut buffer[..len];
-    fill_job(chunks, job, raw);
-    put_object(store, &name, raw)?;
+    let name = object_name(dataset, scale, find_cell(chunks, job));
+    let len = encode_job(chunks, scale, job, frames);
+    put_object(store, &name, &frames.chunk[..len])?;
     Ok(len as u64)
 }
 
-/// Writes the objects of the jobs from one number up to, not with, another, which are prepared, by way of a
-/// buffer with room for every cell's values; answers how many bytes they have together.
+/// Writes the objects of the jobs from one number up to, not with, another, which are prepared, by way of
+/// frames for the scale's chunks; answers how many bytes they have together.
 pub(crate) fn write_jobs<S: Store, C: Chunks>(
     store: &mut S,
     dataset: &Name,
@@ -97,7 +99,7 @@ pub(crate) fn write_jobs<S: Store, C: Chunks>(
     chunks: &C,
     from: u64,
     to: u64,
-    buffer: &mut [u8],
+    frames: &mut Frames,
 ) -> Result<u64, StoreRefusal>
     requires dataset { length dataset.now ≤ 200 }
     requires scale { (C.work chunks.now).scale ≡ scale.now }
@@ -105,17 +107,19 @@ pub(crate) fn write_jobs<S: Store, C: Chunks>(
     requires within { to ≤ length (C.work chunks.now).cells }
     requires few { to ≤ 2 ^ 22 }
     requires ready { (job : ℕ) → from ≤ job → job < to → IsSome (C.ready chunks.now job) }
-    requires room { length buffer.old ≡ first_bytes scale.now.width scale.now.channels scale.now.size scale.now.chunk }
-    ensures put { OnOk result (S.objects store.new ≡ option_map (λ m. put_in m (objects_from dataset.now scale.now (C.work chunks.now).cells (λ job. bytes_in (C.ready chunks.now job)) from (to - from))) (S.objects store.old)) }
-    ensures bytes { IfOk result (λ len. len ≡ bytes_from scale.now (C.work chunks.now).cells from (to - from)) }
+    requires writable { padded_of scale.now.encoding scale.now.channels scale.now.size scale.now.chunk ≤ 2 ^ 22 }
+    requires frames { ServesFrames scale.now frames.old }
+    ensures put { OnOk result (S.objects store.new ≡ option_map (λ m. put_in m (objects_from dataset.now scale.now (C.work chunks.now).cells (chunk_ready (C.work chunks.now) (C.ready chunks.now)) from (to - from))) (S.objects store.old)) }
+    ensures bytes { IfOk result (λ len. len ≡ joint_len (objects_from dataset.now scale.now (C.work chunks.now).cells (chunk_ready (C.work chunks.now) (C.ready chunks.now)) from (to - from))) }
+    ensures frames { ServesFrames scale.now frames.new }
     ensures small { IfOk result (λ len. len ≤ (to - from) * 2 ^ 27) }
-    ensures front { OnErr result (IfSome (S.objects store.old) (λ m. PutsFront (objects_from dataset.now scale.now (C.work chunks.now).cells (λ job. bytes_in (C.ready chunks.now job)) from (to - from)) m (S.objects store.new))) }
+    ensures front { OnErr result (IfSome (S.objects store.old) (λ m. PutsFront (objects_from dataset.now scale.now (C.work chunks.now).cells (chunk_ready (C.work chunks.now) (C.ready chunks.now)) from (to - from)) m (S.objects store.new))) }
     ensures draft { Drops (S.draft store.old) (S.draft store.new) }
     ensures cause { HasStoreCause (S.faults store.old) (S.faults store.new) result }
 {
     let mut bytes = 0;
     for job in from..to {
-        bytes += write_job(store, dataset, scale, chunks, job, buffer)?;
+        bytes += write_job(store, dataset, scale, chunks, job, frames)?;
     }
     Ok(bytes)
 }

@@ -1,6 +1,8 @@
 //! The objects of a scale, written from its chunks.
 #![tactic(auto)]
 
+mod encoder;
+mod frames;
 mod jobs;
 mod runs;
 mod scale;

@@ -1,7 +1,7 @@
 //! A scale's objects.
-ghost use Rattle.std.specs.Prelude.{◌≡◌, ◌≤◌, ◌^◌, IfOk, IfSome, OnOk, OnErr, length};
-ghost use Rattle.vol_spec.specs.declared.encoding.Encoding.TheVariants.{Raw};
-ghost use Rattle.shard_writer.specs.Writing.{Drops, HasWriteCause, NeverDamaged, PutsJobs, PutsSome, WritesAll, first_of_jobs, joint_len, told_objects};
+ghost use Rattle.std.specs.Prelude.{◌≡◌, ◌≤◌, ◌^◌, None, IfOk, IfSome, OnOk, OnErr, length};
+ghost use Rattle.vol_spec.specs.Limits.{padded_of};
+ghost use Rattle.shard_writer.specs.Writing.{Drops, HasWriteCause, KnowsLens, NeverDamaged, PutsJobs, PutsSome, WritesAll, first_of_jobs, joint_len, told_objects};
 
 use crate::sharded::write_sharded;
 use crate::windows::write_plain;
@@ -14,8 +14,10 @@ use vol_spec::Scale;
 use write_plan::Chunks;
 
 /// Writes the objects of all jobs, in their order: one for each chunk, or, in a sharded scale, one for each
-/// shard that has a chunk. Each object is put whole. Beside a window of chunks it takes memory for one
-/// chunk and, of a sharded scale, for 64 KiB and for the rows of the largest minishard.
+/// shard that has a chunk. Each chunk is stored in the scale's encoding, and each object is put whole. Beside
+/// a window of chunks it takes memory for one chunk, of a segmentation for a cell's values and for a scratch
+/// besides, and, of a sharded scale, for 64 KiB and for the rows of the largest minishard. All of this is taken
+/// before the store is called.
 ///
 /// # Errors
 /// `StoreFault` only where the store failed, and `OutOfMemory`; else `Damaged` exactly where a job has a
@@ -38,7 +40,7 @@ pub fn write_scale<R, S: Store, C: Chunks + Sync, G: Gate + Sync>(
 where
     R: Threads + Wait + Sync,
     requires dataset { length dataset.now ≤ 200 }
-    requires raw { scale.now.encoding ≡ Raw }
+    requires writable { padded_of scale.now.encoding scale.now.channels scale.now.size scale.now.chunk ≤ 2 ^ 22 }
     requires scale { (C.work chunks.old).scale ≡ scale.now }
     requires few { length (C.work chunks.old).cells ≤ 2 ^ 22 }
     requires apart { IfSome (S.objects store.old) (λ _. C.apart chunks.old dataset.now scale.now) }
@@ -46,11 +48,12 @@ where
     ensures front { OnErr result (PutsSome dataset.now (C.work chunks.old) (S.objects store.old) (S.objects store.new)) }
     ensures objects { IfOk result (λ written. written.objects ≡ length (told_objects dataset.now (C.work chunks.old) (S.objects store.old))) }
     ensures cells { IfOk result (λ written. written.cells ≡ length (C.work chunks.old).cells) }
-    ensures bytes { IfOk result (λ written. written.bytes ≡ joint_len (told_objects dataset.now (C.work chunks.old) (S.objects store.old))) }
+    ensures bytes { KnowsLens (C.work chunks.old) (S.objects store.old) → IfOk result (λ written. written.bytes ≡ joint_len (told_objects dataset.now (C.work chunks.old) (S.objects store.old))) }
     ensures answer { IfSome (S.objects store.old) (λ m. WritesAll result (first_of_jobs (C.work chunks.old) m)) }
     ensures sound { C.sure chunks.old → NeverDamaged result }
     ensures draft { OnOk result (Drops (S.draft store.old) (S.draft store.new)) }
     ensures dropped { C.sure chunks.old → Drops (S.draft store.old) (S.draft store.new) }
+    ensures unsharded { scale.now.sharding ≡ None → Drops (S.draft store.old) (S.draft store.new) }
     ensures cause { HasWriteCause (S.faults store.old) (S.faults store.new) result }
 {
     match &scale.sharding {

@@ -1,11 +1,13 @@
 //! A sharded scale: each shard is one object, written job by job.
 ghost use Rattle.std.specs.Prelude.{◌≡◌, ◌+◌, ◌-◌, ◌*◌, ◌<◌, ◌≤◌, ◌^◌, ℕ, [], Some, None, IfOk, IfSome, OnOk, OnErr, length, map, vec_capacity};
-ghost use Rattle.vol_spec.specs.Limits.{first_bytes};
+ghost use Rattle.vol_spec.specs.Limits.{padded_of};
 ghost use Rattle.vol_spec.specs.StoredCells.{put_in};
-ghost use Rattle.vol_spec.specs.declared.encoding.Encoding.TheVariants.{Raw};
+ghost use Rattle.shard_writer.specs.Serving.{ServesFrames};
 ghost use Rattle.shard_writer.specs.ShardRuns.{AreOrdered, IsSameRun, jobs_in, shards_between};
-ghost use Rattle.shard_writer.specs.Writing.{Drops, HasWriteCause, NeverDamaged, PutsFront, PutsJobs, PutsSome, WritesAll, first_of_jobs, job_len, joint_len, raw_in, told_objects};
+ghost use Rattle.shard_writer.specs.Writing.{Drops, HasWriteCause, KnowsLens, NeverDamaged, PutsFront, PutsJobs, PutsSome, WritesAll, first_of_jobs, joint_len, stored_by, told_chunk, told_objects};
 
+use crate::encoder::{reserve_frames, zeros};
+use crate::frames::Frames;
 use crate::runs::longest_run;
 use crate::steps::{
     append_job, count_jobs, ends_minishard, ends_shard, find_job, is_fresh, open_shard, pick,
@@ -15,7 +17,7 @@ use crate::written::{WriteFault, Written};
 use minishard::Row;
 use shard_index::base_len;
 use shard_parts::{end_if, finish_if};
-use std::alloc::{AllocError, Global};
+use std::alloc::Global;
 use vol_base::{Name, Store};
 use vol_spec::{Scale, Sharding};
 use write_plan::{Chunks, window};
@@ -23,14 +25,8 @@ use write_plan::{Chunks, window};
 // How many bytes of zeros, and of an index, are appended at once.
 const PIECE: usize = 1 << 16;
 
-fn zeros(alloc: Global, len: usize) -> Result<Vec<u8>, AllocError>
-    ensures { IfOk result (λ v. length v.items ≡ len) }
-{
-    Ok(vec![in alloc; 0; len]?)
-}
-
-// Writes the shards of all jobs, by way of a buffer with room for every cell's values and a buffer for
-// zeros and indexes. There is room for the rows of each minishard.
+// Writes the shards of all jobs, by way of frames for the scale's chunks and a buffer for zeros and
+// indexes. There is room for the rows of each minishard.
 fn write_shards<S: Store, C: Chunks>(
     store: &mut S,
     dataset: &Name,
@@ -38,7 +34,7 @@ fn write_shards<S: Store, C: Chunks>(
     sharding: &Sharding,
     chunks: &mut C,
     rows: &mut Vec<Row>,
-    buffer: &mut [u8],
+    frames: &mut Frames,
     piece: &mut [u8],
 ) -> Result<Written, WriteFault>
     requires dataset { length dataset.now ≤ 200 }
@@ -47,17 +43,18 @@ fn write_shards<S: Store, C: Chunks>(
     requires ordered { AreOrdered sharding.now (length (C.work chunks.old).cells) (jobs_in (C.work chunks.old)) }
     requires few { length (C.work chunks.old).cells ≤ 2 ^ 22 }
     requires apart { IfSome (S.objects store.old) (λ _. C.apart chunks.old dataset.now scale.now) }
-    requires room { length buffer.old ≡ first_bytes scale.now.width scale.now.channels scale.now.size scale.now.chunk }
+    requires writable { padded_of scale.now.encoding scale.now.channels scale.now.size scale.now.chunk ≤ 2 ^ 22 }
+    requires frames { ServesFrames scale.now frames.old }
     requires piece { 8 ≤ length piece.old }
     requires rows { length rows.old.items ≡ 0 }
     requires reserved { (a b : ℕ) → IsSameRun (length (C.work chunks.old).cells) (jobs_in (C.work chunks.old)) a b → b - a ≤ vec_capacity rows.old }
-    ensures put { OnOk result (IfSome (S.objects store.old) (λ m. S.objects store.new ≡ Some (put_in m (shards_between dataset.now scale.now sharding.now (jobs_in (C.work chunks.old)) ((C.work chunks.old).raw m) 0 (length (C.work chunks.old).cells))))) }
-    ensures front { OnErr result (IfSome (S.objects store.old) (λ m. PutsFront (shards_between dataset.now scale.now sharding.now (jobs_in (C.work chunks.old)) ((C.work chunks.old).raw m) 0 (length (C.work chunks.old).cells)) m (S.objects store.new))) }
+    ensures put { OnOk result (IfSome (S.objects store.old) (λ m. S.objects store.new ≡ Some (put_in m (shards_between dataset.now scale.now sharding.now (jobs_in (C.work chunks.old)) (stored_by (C.work chunks.old) m) 0 (length (C.work chunks.old).cells))))) }
+    ensures front { OnErr result (IfSome (S.objects store.old) (λ m. PutsFront (shards_between dataset.now scale.now sharding.now (jobs_in (C.work chunks.old)) (stored_by (C.work chunks.old) m) 0 (length (C.work chunks.old).cells)) m (S.objects store.new))) }
     ensures answer { IfSome (S.objects store.old) (λ m. WritesAll result (first_of_jobs (C.work chunks.old) m)) }
     ensures sound { C.sure chunks.old → NeverDamaged result }
     ensures cells { IfOk result (λ w. w.cells ≡ length (C.work chunks.old).cells) }
-    ensures number { IfOk result (λ w. w.objects ≡ length (shards_between dataset.now scale.now sharding.now (jobs_in (C.work chunks.old)) (raw_in (S.objects store.old) (C.work chunks.old).raw (job_len (C.work chunks.old))) 0 (length (C.work chunks.old).cells))) }
-    ensures bytes { IfOk result (λ w. w.bytes ≡ joint_len (shards_between dataset.now scale.now sharding.now (jobs_in (C.work chunks.old)) (raw_in (S.objects store.old) (C.work chunks.old).raw (job_len (C.work chunks.old))) 0 (length (C.work chunks.old).cells))) }
+    ensures number { IfOk result (λ w. w.objects ≡ length (shards_between dataset.now scale.now sharding.now (jobs_in (C.work chunks.old)) (told_chunk (C.work chunks.old) (S.objects store.old)) 0 (length (C.work chunks.old).cells))) }
+    ensures bytes { IfOk result (λ w. KnowsLens (C.work chunks.old) (S.objects store.old) → w.bytes ≡ joint_len (shards_between dataset.now scale.now sharding.now (jobs_in (C.work chunks.old)) (told_chunk (C.work chunks.old) (S.objects store.old)) 0 (length (C.work chunks.old).cells))) }
     ensures draft { OnOk result (Drops (S.draft store.old) (S.draft store.new)) }
     ensures dropped { C.sure chunks.old → Drops (S.draft store.old) (S.draft store.new) }
     ensures cause { HasWriteCause (S.faults store.old) (S.faults store.new) result }
@@ -83,7 +80,7 @@ fn write_shards<S: Store, C: Chunks>(
             fresh,
             piece,
         )?;
-        let len = append_job(store, scale, chunks, job, buffer)?;
+        let len = append_job(store, scale, chunks, job, frames)?;
         push_row(rows, own.id, at, len)?;
         let ends = ends_minishard(chunks, job, count);
         let next = end_if(store, ends, own.place.minishard, rows, at + len, piece)?;
@@ -113,7 +110,7 @@ pub(crate) fn write_sharded<S: Store, C: Chunks>(
 ) -> Result<Written, WriteFault>
     requires dataset { length dataset.now ≤ 200 }
     requires sharded { scale.now.sharding ≡ Some sharding.now }
-    requires raw { scale.now.encoding ≡ Raw }
+    requires writable { padded_of scale.now.encoding scale.now.channels scale.now.size scale.now.chunk ≤ 2 ^ 22 }
     requires scale { (C.work chunks.old).scale ≡ scale.now }
     requires few { length (C.work chunks.old).cells ≤ 2 ^ 22 }
     requires apart { IfSome (S.objects store.old) (λ _. C.apart chunks.old dataset.now scale.now) }
@@ -121,7 +118,7 @@ pub(crate) fn write_sharded<S: Store, C: Chunks>(
     ensures front { OnErr result (PutsSome dataset.now (C.work chunks.old) (S.objects store.old) (S.objects store.new)) }
     ensures objects { IfOk result (λ written. written.objects ≡ length (told_objects dataset.now (C.work chunks.old) (S.objects store.old))) }
     ensures cells { IfOk result (λ written. written.cells ≡ length (C.work chunks.old).cells) }
-    ensures bytes { IfOk result (λ written. written.bytes ≡ joint_len (told_objects dataset.now (C.work chunks.old) (S.objects store.old))) }
+    ensures bytes { IfOk result (λ written. KnowsLens (C.work chunks.old) (S.objects store.old) → written.bytes ≡ joint_len (told_objects dataset.now (C.work chunks.old) (S.objects store.old))) }
     ensures answer { IfSome (S.objects store.old) (λ m. WritesAll result (first_of_jobs (C.work chunks.old) m)) }
     ensures sound { C.sure chunks.old → NeverDamaged result }
     ensures draft { OnOk result (Drops (S.draft store.old) (S.draft store.new)) }
@@ -130,7 +127,7 @@ pub(crate) fn write_sharded<S: Store, C: Chunks>(
 {
     let most = longest_run(chunks, count_jobs(chunks));
     let mut rows = Vec::with_capacity(alloc, most)?;
-    let mut buffer = zeros(alloc, scale.raw_limit() as usize)?;
+    let mut frames = reserve_frames(alloc, scale)?;
     let mut piece = zeros(alloc, PIECE)?;
     write_shards(
         store,
@@ -139,7 +136,7 @@ pub(crate) fn write_sharded<S: Store, C: Chunks>(
         sharding,
         chunks,
         &mut rows,
-        &mut buffer,
+        &mut frames,
         &mut piece,
     )
 }

@@ -6,16 +6,19 @@ ghost use Rattle.vol_base.specs.Causes.{HasStoreCause};
 ghost use Rattle.vol_base.specs.Outside.{appended};
 ghost use Rattle.vol_base.specs.declared.faults.Fault.{Fault};
 ghost use Rattle.vol_spec.specs.BoxValues.{first_some};
-ghost use Rattle.vol_spec.specs.Limits.{first_bytes};
+ghost use Rattle.vol_spec.specs.Limits.{padded_of};
 ghost use Rattle.vol_spec.specs.ShardNames.{shard_name as shard_name_of};
 ghost use Rattle.vol_spec.specs.Shards.{shard_bytes};
 ghost use Rattle.shard_parts.specs.Parts.{draft_of};
-ghost use Rattle.shard_writer.specs.Plain.{bytes_in};
+ghost use Rattle.vol_spec.specs.declared.encoding.Encoding.TheVariants.{Raw};
+ghost use Rattle.shard_writer.specs.Plain.{chunk_ready};
+ghost use Rattle.shard_writer.specs.Serving.{ServesFrames};
 ghost use Rattle.shard_writer.specs.ShardRuns.{ends_minishard as ends_minishard_at, ends_shard as ends_shard_at, jobs_in};
 ghost use Rattle.shard_writer.specs.Writing.{job_len};
 ghost use Rattle.write_plan.specs.Jobs.{HasPrepareCause, Prepares, window_of};
 
-use crate::jobs::{fill_job, find_cell, find_len};
+use crate::encoder::encode_job;
+use crate::frames::Frames;
 use minishard::Row;
 use shard_index::shard_name;
 use shard_parts::begin_if;
@@ -97,32 +100,32 @@ pub(crate) fn open_shard<S: Store>(
     begin_if(store, fresh, &name, sharding.minishard_bits, piece)
 }
 
-/// Appends the chunk of a job that is prepared, by way of a buffer with room for every cell's values; answers
-/// how many bytes it has.
+/// Appends the chunk of a job that is prepared, by way of frames for the scale's chunks; answers how
+/// many bytes it has.
 pub(crate) fn append_job<S: Store, C: Chunks>(
     store: &mut S,
     scale: &Scale,
     chunks: &C,
     job: u64,
-    buffer: &mut [u8],
+    frames: &mut Frames,
 ) -> Result<u64, StoreRefusal>
     requires some { IsSome (S.draft store.old) }
     requires scale { (C.work chunks.now).scale ≡ scale.now }
     requires job { job < length (C.work chunks.now).cells }
     requires ready { IsSome (C.ready chunks.now job) }
-    requires room { length buffer.old ≡ first_bytes scale.now.width scale.now.channels scale.now.size scale.now.chunk }
-    ensures appended { OnOk result (S.draft store.new ≡ option_map (λ d. appended d (bytes_in (C.ready chunks.now job))) (S.draft store.old)) }
-    ensures len { IfOk result (λ len. len ≡ job_len (C.work chunks.now) job) }
+    requires writable { padded_of scale.now.encoding scale.now.channels scale.now.size scale.now.chunk ≤ 2 ^ 22 }
+    requires frames { ServesFrames scale.now frames.old }
+    ensures appended { OnOk result (S.draft store.new ≡ option_map (λ d. appended d (chunk_ready (C.work chunks.now) (C.ready chunks.now) job)) (S.draft store.old)) }
+    ensures len { IfOk result (λ len. len ≡ length (chunk_ready (C.work chunks.now) (C.ready chunks.now) job)) }
+    ensures plain { IfOk result (λ len. scale.now.encoding ≡ Raw → len ≡ job_len (C.work chunks.now) job) }
     ensures small { IfOk result (λ len. len ≤ 2 ^ 27) }
-    ensures whole { length (bytes_in (C.ready chunks.now job)) ≡ job_len (C.work chunks.now) job }
+    ensures frames { ServesFrames scale.now frames.new }
     ensures refused { OnErr result (S.draft store.new ≡ None) }
     ensures objects { S.objects store.new ≡ S.objects store.old }
     ensures cause { HasStoreCause (S.faults store.old) (S.faults store.new) result }
 {
-    let len = find_len(scale, find_cell(chunks, job));
-    let raw = &mut buffer[..len];
-    fill_job(chunks, job, raw);
-    store.append(raw)?;
+    let len = encode_job(chunks, scale, job, frames);
+    store.append(&frames.chunk[..len])?;
     Ok(len as u64)
 }
 

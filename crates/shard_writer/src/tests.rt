@@ -1,7 +1,6 @@
 //! Objects worked out by hand, from the format's names and its order of values.
 
-ghost use Rattle.std.specs.Prelude.{◌≡◌, ◌≤◌, IfOk};
-ghost use Rattle.vol_spec.specs.declared.encoding.Encoding.TheVariants.{Raw};
+ghost use Rattle.std.specs.Prelude.{◌≡◌, ◌≤◌, IfOk, length};
 
 use crate::{WriteFault, Written, write_scale};
 use chunk_grid::grid;
@@ -11,8 +10,8 @@ use std::process::Abort;
 use std::sync::Wait;
 use std::test::Fail;
 use std::thread::Threads;
-use vol_base::{Box3, FreeGate, MemoryFeed, MemoryStore};
-use vol_spec::{HashKind, Scale, Sharding};
+use vol_base::{Box3, FreeGate, MemoryFeed, MemoryStore, Name};
+use vol_spec::{Encoding, HashKind, Scale, Sharding};
 use write_plan::{Chunks, Plan, read_writes};
 
 // The stream of some writes.
@@ -57,13 +56,12 @@ fn check_scale<R: Threads + Wait + Abort + Sync>(
     wanted: Result<Written, WriteFault>,
     objects: &[(&[u8], &[u8])],
     stand: u64,
-) -> Result<(), Fail>
-    requires { scale.now.encoding ≡ Raw }
-{
+) -> Result<(), Fail> {
     let mut plan = plan_of(alloc, scale, writes)?;
     let mut store = MemoryStore::new(alloc, Vec::from_slice(alloc, &[failing])?);
     let dataset = short_name(b"d").expect(rt, "a data set");
     assert!(rt; plan.jobs().len() <= 1 << 22);
+    assert!(rt; scale.can_encode());
     let answer = write_scale(
         rt, alloc, &mut store, &dataset, scale, &mut plan, 1, &FreeGate,
     );
@@ -186,7 +184,6 @@ fn writes_a_second_window(rt: HostRuntime) -> Result<(), Fail> {
 fn in_shards(rt: &impl Abort, scale: &Scale, minishard_bits: u32, shard_bits: u32) -> Scale
     requires minishards { minishard_bits ≤ 24 }
     requires shards { shard_bits ≤ 40 }
-    ensures { result.encoding ≡ scale.now.encoding }
 {
     assert!(rt; grid(scale).bits() <= 64);
     Scale {
@@ -367,4 +364,69 @@ fn writes_a_minishard_over_windows(rt: HostRuntime) -> Result<(), Fail> {
         check_scale(&rt, alloc, &single, &[all], call, wanted, &one, stand)?;
     }
     Ok(())
+}
+
+// A segmentation of 3 by 2 voxels in cells of 2 by 2, each in one block; the second cell is narrower.
+fn in_blocks(key: Name) -> Scale
+    requires { length key ≤ 200 }
+{
+    Scale {
+        key,
+        width: 4,
+        channels: 1,
+        size: [3, 2, 1],
+        offset: [0, 0, 0],
+        chunk: [2, 2, 1],
+        encoding: Encoding::Seg { block: [2, 2, 1] },
+        sharding: None,
+    }
+}
+
+// Its values: 7 9 5 and 7 300 5.
+const LABELS: [u8; 24] = [
+    7, 0, 0, 0, 9, 0, 0, 0, 5, 0, 0, 0, //
+    7, 0, 0, 0, 44, 1, 0, 0, 5, 0, 0, 0,
+];
+
+// Three labels: the channel's start, the header (two bits, table at 3, indices at 2), the indices 0 1 0 2,
+// and the table.
+const THREE_LABELS: [u8; 28] = [
+    1, 0, 0, 0, 3, 0, 0, 2, 2, 0, 0, 0, 132, 0, 0, 0, 7, 0, 0, 0, 9, 0, 0, 0, 44, 1, 0, 0,
+];
+
+// One label, whose indices take no bits.
+const ONE_LABEL: [u8; 16] = [1, 0, 0, 0, 2, 0, 0, 0, 2, 0, 0, 0, 5, 0, 0, 0];
+
+// Both in one shard.
+const LABELLED: [u8; 108] = [
+    44, 0, 0, 0, 0, 0, 0, 0, 92, 0, 0, 0, 0, 0, 0, 0, // the entry
+    1, 0, 0, 0, 3, 0, 0, 2, 2, 0, 0, 0, 132, 0, 0, 0, // chunk 0
+    7, 0, 0, 0, 9, 0, 0, 0, 44, 1, 0, 0, //
+    1, 0, 0, 0, 2, 0, 0, 0, 2, 0, 0, 0, 5, 0, 0, 0, // chunk 1
+    0, 0, 0, 0, 0, 0, 0, 0, 1, 0, 0, 0, 0, 0, 0, 0, // ids
+    0, 0, 0, 0, 0, 0, 0, 0, 0, 0, 0, 0, 0, 0, 0, 0, // starts
+    28, 0, 0, 0, 0, 0, 0, 0, 16, 0, 0, 0, 0, 0, 0, 0, // sizes
+];
+
+#[test]
+fn writes_segmentations(rt: HostRuntime) -> Result<(), Fail> {
+    let alloc = rt.alloc();
+    let scale = in_blocks(short_name(b"s").expect(&rt, "a key"));
+    let all = (part([0; 3], scale.size), LABELS.as_slice());
+    let each = [
+        (LEFT, THREE_LABELS.as_slice()),
+        (b"d/s/2-3_0-2_0-1".as_slice(), ONE_LABEL.as_slice()),
+    ];
+    let fault = Err(WriteFault::StoreFault);
+    check_scale(&rt, alloc, &scale, &[all], 6, Ok(written(2, 44)), &each, 2)?;
+    check_scale(&rt, alloc, &scale, &[all], 5, fault, &each, 1)?;
+    let single = in_shards(&rt, &scale, 0, 0);
+    let one = [(ZERO, LABELLED.as_slice())];
+    let wanted = Ok(Written {
+        objects: 1,
+        cells: 2,
+        bytes: 108,
+    });
+    check_scale(&rt, alloc, &single, &[all], 9, wanted, &one, 1)?;
+    check_scale(&rt, alloc, &single, &[all], 8, fault, &one, 0)
 }

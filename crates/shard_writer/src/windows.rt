@@ -1,12 +1,15 @@
 //! An unsharded scale: each chunk is one object, written window by window.
 ghost use Rattle.std.specs.Prelude.{◌≡◌, ◌-◌, ◌*◌, ◌≤◌, ◌<◌, ◌^◌, None, Some, IfOk, IfSome, OnOk, OnErr, length};
-ghost use Rattle.vol_spec.specs.Limits.{first_bytes};
+ghost use Rattle.vol_spec.specs.Limits.{padded_of};
 ghost use Rattle.vol_spec.specs.StoredCells.{put_in};
 ghost use Rattle.vol_spec.specs.declared.encoding.Encoding.TheVariants.{Raw};
 ghost use Rattle.shard_writer.specs.Plain.{bytes_from, objects_from};
-ghost use Rattle.shard_writer.specs.Writing.{Drops, HasWriteCause, NeverDamaged, PutsFront, PutsJobs, PutsSome, WritesAll, first_of_jobs, joint_len, told_objects};
+ghost use Rattle.shard_writer.specs.Serving.{ServesFrames};
+ghost use Rattle.shard_writer.specs.Writing.{Drops, HasWriteCause, KnowsLens, NeverDamaged, PutsFront, PutsJobs, PutsSome, WritesAll, first_of_jobs, joint_len, stored_by, told_objects};
 ghost use Rattle.write_plan.specs.Jobs.{jobs_fault, window_of};
 
+use crate::encoder::reserve_frames;
+use crate::frames::Frames;
 use crate::jobs::write_jobs;
 use crate::steps::count_jobs;
 use crate::written::{WriteFault, Written};
@@ -15,8 +18,8 @@ use vol_base::{Name, Store};
 use vol_spec::Scale;
 use write_plan::{Chunks, window};
 
-// Prepares the jobs from one number up to, not with, another, and writes their objects, by way of a buffer
-// with room for every cell's values; answers how many bytes they have together.
+// Prepares the jobs from one number up to, not with, another, and writes their objects, by way of frames
+// for the scale's chunks; answers how many bytes they have together.
 fn write_window<S: Store, C: Chunks>(
     store: &mut S,
     dataset: &Name,
@@ -24,7 +27,7 @@ fn write_window<S: Store, C: Chunks>(
     chunks: &mut C,
     from: u64,
     to: u64,
-    buffer: &mut [u8],
+    frames: &mut Frames,
 ) -> Result<u64, WriteFault>
     requires dataset { length dataset.now ≤ 200 }
     requires scale { (C.work chunks.old).scale ≡ scale.now }
@@ -32,11 +35,14 @@ fn write_window<S: Store, C: Chunks>(
     requires within { to ≤ length (C.work chunks.old).cells }
     requires window { to - from ≤ window_of scale.now }
     requires few { to ≤ 2 ^ 22 }
-    requires room { length buffer.old ≡ first_bytes scale.now.width scale.now.channels scale.now.size scale.now.chunk }
-    ensures put { OnOk result (IfSome (S.objects store.old) (λ m. S.objects store.new ≡ Some (put_in m (objects_from dataset.now scale.now (C.work chunks.old).cells ((C.work chunks.old).raw m) from (to - from))))) }
+    requires writable { padded_of scale.now.encoding scale.now.channels scale.now.size scale.now.chunk ≤ 2 ^ 22 }
+    requires frames { ServesFrames scale.now frames.old }
+    ensures put { OnOk result (IfSome (S.objects store.old) (λ m. S.objects store.new ≡ Some (put_in m (objects_from dataset.now scale.now (C.work chunks.old).cells (stored_by (C.work chunks.old) m) from (to - from))))) }
     ensures answer { IfSome (S.objects store.old) (λ m. WritesAll result (jobs_fault (C.work chunks.old) m from (to - from))) }
-    ensures front { OnErr result (IfSome (S.objects store.old) (λ m. PutsFront (objects_from dataset.now scale.now (C.work chunks.old).cells ((C.work chunks.old).raw m) from (to - from)) m (S.objects store.new))) }
-    ensures bytes { IfOk result (λ len. len ≡ bytes_from scale.now (C.work chunks.old).cells from (to - from)) }
+    ensures front { OnErr result (IfSome (S.objects store.old) (λ m. PutsFront (objects_from dataset.now scale.now (C.work chunks.old).cells (stored_by (C.work chunks.old) m) from (to - from)) m (S.objects store.new))) }
+    ensures told { IfOk result (λ len. IfSome (S.objects store.old) (λ m. len ≡ joint_len (objects_from dataset.now scale.now (C.work chunks.old).cells (stored_by (C.work chunks.old) m) from (to - from)))) }
+    ensures plain { IfOk result (λ len. scale.now.encoding ≡ Raw → len ≡ bytes_from scale.now (C.work chunks.old).cells from (to - from)) }
+    ensures frames { ServesFrames scale.now frames.new }
     ensures small { IfOk result (λ len. len ≤ (to - from) * 2 ^ 27) }
     ensures work { C.work chunks.new ≡ C.work chunks.old }
     ensures sure { C.sure chunks.old → NeverDamaged result × C.sure chunks.new }
@@ -44,19 +50,19 @@ fn write_window<S: Store, C: Chunks>(
     ensures cause { HasWriteCause (S.faults store.old) (S.faults store.new) result }
 {
     chunks.prepare(store, from, to)?;
-    let bytes = write_jobs(store, dataset, scale, chunks, from, to, buffer)?;
+    let bytes = write_jobs(store, dataset, scale, chunks, from, to, frames)?;
     Ok(bytes)
 }
 
-// Writes the objects of all jobs, by way of a buffer with room for every cell's values; answers how many
-// bytes they have together.
+// Writes the objects of all jobs, by way of frames for the scale's chunks; answers how many bytes they
+// have together.
 fn write_windows<S: Store, C: Chunks>(
     store: &mut S,
     dataset: &Name,
     scale: &Scale,
     chunks: &mut C,
     count: u64,
-    buffer: &mut [u8],
+    frames: &mut Frames,
 ) -> Result<u64, WriteFault>
     requires dataset { length dataset.now ≤ 200 }
     requires unsharded { scale.now.sharding ≡ None }
@@ -64,11 +70,13 @@ fn write_windows<S: Store, C: Chunks>(
     requires count { count ≡ length (C.work chunks.old).cells }
     requires few { count ≤ 2 ^ 22 }
     requires apart { IfSome (S.objects store.old) (λ _. C.apart chunks.old dataset.now scale.now) }
-    requires room { length buffer.old ≡ first_bytes scale.now.width scale.now.channels scale.now.size scale.now.chunk }
-    ensures put { OnOk result (IfSome (S.objects store.old) (λ m. S.objects store.new ≡ Some (put_in m (objects_from dataset.now scale.now (C.work chunks.old).cells ((C.work chunks.old).raw m) 0 count)))) }
+    requires writable { padded_of scale.now.encoding scale.now.channels scale.now.size scale.now.chunk ≤ 2 ^ 22 }
+    requires frames { ServesFrames scale.now frames.old }
+    ensures put { OnOk result (IfSome (S.objects store.old) (λ m. S.objects store.new ≡ Some (put_in m (objects_from dataset.now scale.now (C.work chunks.old).cells (stored_by (C.work chunks.old) m) 0 count)))) }
     ensures answer { IfSome (S.objects store.old) (λ m. WritesAll result (jobs_fault (C.work chunks.old) m 0 count)) }
-    ensures front { OnErr result (IfSome (S.objects store.old) (λ m. PutsFront (objects_from dataset.now scale.now (C.work chunks.old).cells ((C.work chunks.old).raw m) 0 count) m (S.objects store.new))) }
-    ensures bytes { IfOk result (λ len. len ≡ bytes_from scale.now (C.work chunks.old).cells 0 count) }
+    ensures front { OnErr result (IfSome (S.objects store.old) (λ m. PutsFront (objects_from dataset.now scale.now (C.work chunks.old).cells (stored_by (C.work chunks.old) m) 0 count) m (S.objects store.new))) }
+    ensures told { IfOk result (λ len. IfSome (S.objects store.old) (λ m. len ≡ joint_len (objects_from dataset.now scale.now (C.work chunks.old).cells (stored_by (C.work chunks.old) m) 0 count))) }
+    ensures plain { IfOk result (λ len. scale.now.encoding ≡ Raw → len ≡ bytes_from scale.now (C.work chunks.old).cells 0 count) }
     ensures sure { C.sure chunks.old → NeverDamaged result }
     ensures draft { Drops (S.draft store.old) (S.draft store.new) }
     ensures cause { HasWriteCause (S.faults store.old) (S.faults store.new) result }
@@ -78,7 +86,7 @@ fn write_windows<S: Store, C: Chunks>(
     let mut bytes = 0;
     while from < count {
         let to = count.min(from + window);
-        bytes += write_window(store, dataset, scale, chunks, from, to, buffer)?;
+        bytes += write_window(store, dataset, scale, chunks, from, to, frames)?;
         from = to;
     }
     Ok(bytes)
@@ -94,7 +102,7 @@ pub(crate) fn write_plain<S: Store, C: Chunks>(
 ) -> Result<Written, WriteFault>
     requires dataset { length dataset.now ≤ 200 }
     requires unsharded { scale.now.sharding ≡ None }
-    requires raw { scale.now.encoding ≡ Raw }
+    requires writable { padded_of scale.now.encoding scale.now.channels scale.now.size scale.now.chunk ≤ 2 ^ 22 }
     requires scale { (C.work chunks.old).scale ≡ scale.now }
     requires few { length (C.work chunks.old).cells ≤ 2 ^ 22 }
     requires apart { IfSome (S.objects store.old) (λ _. C.apart chunks.old dataset.now scale.now) }
@@ -102,15 +110,15 @@ pub(crate) fn write_plain<S: Store, C: Chunks>(
     ensures front { OnErr result (PutsSome dataset.now (C.work chunks.old) (S.objects store.old) (S.objects store.new)) }
     ensures objects { IfOk result (λ written. written.objects ≡ length (told_objects dataset.now (C.work chunks.old) (S.objects store.old))) }
     ensures cells { IfOk result (λ written. written.cells ≡ length (C.work chunks.old).cells) }
-    ensures bytes { IfOk result (λ written. written.bytes ≡ joint_len (told_objects dataset.now (C.work chunks.old) (S.objects store.old))) }
+    ensures bytes { IfOk result (λ written. KnowsLens (C.work chunks.old) (S.objects store.old) → written.bytes ≡ joint_len (told_objects dataset.now (C.work chunks.old) (S.objects store.old))) }
     ensures answer { IfSome (S.objects store.old) (λ m. WritesAll result (first_of_jobs (C.work chunks.old) m)) }
     ensures sound { C.sure chunks.old → NeverDamaged result }
     ensures draft { Drops (S.draft store.old) (S.draft store.new) }
     ensures cause { HasWriteCause (S.faults store.old) (S.faults store.new) result }
 {
-    let mut buffer = vec![in alloc; 0; scale.raw_limit() as usize]?;
+    let mut frames = reserve_frames(alloc, scale)?;
     let count = count_jobs(chunks);
-    let bytes = write_windows(store, dataset, scale, chunks, count, &mut buffer)?;
+    let bytes = write_windows(store, dataset, scale, chunks, count, &mut frames)?;
     Ok(Written {
         objects: count,
         cells: count,

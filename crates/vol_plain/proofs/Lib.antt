@@ -3,7 +3,6 @@ pub mod CellSteps
 pub mod ObjectSteps
 pub mod PackedSteps
 pub mod PartSteps
-pub mod ShapeSteps
 pub mod SpotSteps
 pub mod SumSteps
 pub mod ValueSteps

@@ -8,61 +8,14 @@ ghost use Rattle.vol_spec.specs.SegShapes.{sizes_of};
 ghost use Rattle.vol_spec.specs.SegSizes.{encoded_limit};
 ghost use Rattle.vol_spec.specs.declared.encoding.Encoding.TheVariants.{Seg};
 
-use crate::raw::{raw_fault, raw_len, raw_value};
+use crate::raw::{raw_fault, raw_value};
 use crate::segments::{seg_fault, seg_value};
 use crate::written::seg_bytes;
 use chunk_grid::cell_box;
+use segment_cells::shape_of;
 use std::alloc::{AllocError, Global};
 use vol_base::{Box3, ChunkFault};
-use vol_spec::{Encoding, Scale, SegShape};
-
-fn shape_of(scale: &Scale, cell: [u64; 3], block: [u64; 3]) -> SegShape
-    requires cell { IsCell scale.now cell }
-    requires block { scale.now.encoding ≡ Seg block }
-    ensures { sizes_of result ≡ sizes_in scale.now cell }
-{
-    let size = cell_box(scale, cell).size;
-    SegShape {
-        size,
-        block,
-        channels: scale.channels,
-        wide: scale.width == 8,
-    }
-}
-
-// A size rounded up to whole blocks.
-fn round_up(size: u64, block: u64) -> u64
-    requires size { size ≤ 2 ^ 40 }
-    requires some { 1 ≤ block }
-    requires block { block ≤ 2 ^ 24 }
-    ensures { result ≡ rounded size block }
-{
-    (size + block - 1) / block * block
-}
-
-fn seg_limit(shape: &SegShape) -> u64
-    ensures limit { result ≡ encoded_limit (sizes_of shape.now) }
-    ensures small { result < 2 ^ 30 }
-{
-    let x = round_up(shape.size[0], shape.block[0]);
-    let y = round_up(shape.size[1], shape.block[1]);
-    let z = round_up(shape.size[2], shape.block[2]);
-    let channels = shape.channels as u64;
-    4 * channels + 16 * (x * y * z * channels)
-}
-
-/// How many bytes it has at most.
-pub(crate) fn limit(scale: &Scale, cell: [u64; 3]) -> u64
-    requires { IsCell scale.now cell }
-    ensures limit { result ≡ cell_limit scale.now cell }
-    ensures small { result < 2 ^ 30 }
-{
-    let part = cell_box(scale, cell);
-    match scale.encoding {
-        Encoding::Raw => raw_len(&part, scale.channels, scale.width),
-        Encoding::Seg { block } => seg_limit(&shape_of(scale, cell, block)),
-    }
-}
+use vol_spec::{Encoding, Scale};
 
 /// What is wrong with bytes that are given for it.
 pub(crate) fn find_fault(bytes: &[u8], scale: &Scale, cell: [u64; 3]) -> Option<ChunkFault>

@@ -6,10 +6,11 @@ ghost use Rattle.vol_spec.specs.Encodings.{chunk_fault};
 ghost use Rattle.vol_spec.specs.Grid.{IsCell, cell_box, whole};
 ghost use Rattle.vol_spec.specs.StoredBytes.{held_by, object_of};
 
-use crate::chunks::{find_fault, find_value, limit};
+use crate::chunks::{find_fault, find_value};
 use crate::plain_found;
 use chunk_grid::{cell_of, grid, object_name};
 use morton_code::code;
+use segment_cells::chunk_limit;
 use shard_index::{place, shard_name};
 use vol_base::{Fault, MemoryStore, Name};
 use vol_spec::{Scale, Sharding};
@@ -53,7 +54,7 @@ fn own_value(
     requires channel { c < scale.now.channels }
     ensures { result ≡ value_of scale.now cell (judged scale.now cell (held_by None scale.now cell object.now)) p c }
 {
-    let bytes = front(object, limit(scale, cell) as usize + 1);
+    let bytes = front(object, chunk_limit(scale, cell) as usize + 1);
     bytes_value(bytes, scale, cell, p, c)
 }
 
@@ -73,7 +74,7 @@ fn shard_value(
     ensures { result ≡ value_of scale.now cell (judged scale.now cell (held_by (Some sharding.now) scale.now cell object.now)) p c }
 {
     let id = code(&grid(scale), cell);
-    match plain_found(object, sharding, limit(scale, cell), id) {
+    match plain_found(object, sharding, chunk_limit(scale, cell), id) {
         Err(fault) => Err(fault),
         Ok(None) => Ok(0),
         Ok(Some(span)) => {

@@ -38,6 +38,10 @@ stream_line fault = texts (stream_text fault ∷ line_feed ∷ [])
 abbrev pub cells_line : ℕ → List ℕ
 cells_line cells = texts (codes "too many cells " ∷ decimal cells ∷ line_feed ∷ [])
 
+-- a scale of more padded voxels times channels than are written, and the limit
+abbrev pub voxels_line : ℕ → List ℕ
+voxels_line voxels = texts (codes "padded voxels " ∷ decimal voxels ∷ codes " over 4194304" ∷ line_feed ∷ [])
+
 -- what a writing command prints
 abbrev pub written_line : ℕ → ℕ → List ℕ
 written_line objects cells = texts (codes "objects " ∷ decimal objects ∷ codes " cells " ∷ decimal cells ∷ line_feed ∷ [])

@@ -13,7 +13,7 @@ pub use directory::DirStore;
 pub use lines::{
     DOOR_LINE, FEED_LINE, FOLDER_LINE, MEMORY_LINE, OUTPUT_LINE, STORE_LINE, USAGE_LINE,
     tell_lines, write_cells_line, write_damaged_line, write_info_line, write_large_line,
-    write_outside_line, write_stream_line, write_written_line,
+    write_outside_line, write_stream_line, write_voxels_line, write_written_line,
 };
 pub use output::{say, write_all};
 pub use streams::{NoDoor, NoLink, StdFeed, StdOutlet};

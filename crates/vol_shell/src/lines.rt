@@ -1,6 +1,6 @@
 //! The lines that the tool prints.
 ghost use Rattle.std.specs.Prelude.{◌≡◌, IfOk, string_bytes};
-ghost use Rattle.vol_shell.specs.Lines.{cells_line, damaged_line, door_line, feed_line, folder_line, info_line, large_line, memory_line, output_line, outside_line, store_line, stream_line, usage_line, written_line};
+ghost use Rattle.vol_shell.specs.Lines.{cells_line, damaged_line, door_line, feed_line, folder_line, info_line, large_line, memory_line, output_line, outside_line, store_line, stream_line, usage_line, voxels_line, written_line};
 
 use std::alloc::{AllocError, Global};
 use vol_base::{Box3, Fault, Name};
@@ -84,6 +84,13 @@ pub fn write_cells_line(alloc: Global, cells: u64) -> Result<String, AllocError>
     ensures { IfOk result (λ line. string_bytes line ≡ cells_line cells) }
 {
     format!(in alloc; "too many cells {cells}\n")
+}
+
+/// A scale of more padded voxels times channels than are written.
+pub fn write_voxels_line(alloc: Global, voxels: u64) -> Result<String, AllocError>
+    ensures { IfOk result (λ line. string_bytes line ≡ voxels_line voxels) }
+{
+    format!(in alloc; "padded voxels {voxels} over 4194304\n")
 }
 
 /// What a writing command prints: how many objects were put, and how many cells they hold.

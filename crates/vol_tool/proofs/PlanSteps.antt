@@ -10,7 +10,6 @@ use Rattle.vol_spec.specs.Grid.{cells_on, meets, numbers_on}
 use Rattle.vol_spec.specs.StoredCells.{chunks_of, met_cells, put_in}
 use Rattle.vol_spec.specs.StoredLists.{stored_list}
 use Rattle.vol_spec.specs.Types.{Name, Writes}
-use Rattle.vol_spec.specs.declared.encoding.Encoding.TheVariants.{Raw}
 use Rattle.vol_spec.specs.declared.scale.Scale.{Scale}
 use Rattle.shard_writer.proofs.PlannedSteps.{planned_len, planned_objects}
 use Rattle.shard_writer.specs.Writing.{job_objects, PutsFront, PutsJobs, PutsSome, told_objects}
@@ -27,9 +26,9 @@ planned_count : (plan : Planned) (s : Scale) → plan.scale ≡ s → length (pl
 planned_count plan s e = planned_len plan ∙ ap (λ x. length (met_cells x plan.writes)) e
 
 -- and their objects those that the writes are stored as
-plan_objects : (plan : Planned) (m : Objects) (dataset : Name) (s : Scale) → plan.scale ≡ s → s.encoding ≡ Raw → job_objects dataset (work_of plan) m ≡ stored_list dataset s (chunks_of s zeros plan.writes)
-plan_objects plan m dataset s e raw =
-    planned_objects dataset plan m (ap (λ x. x.encoding) e ∙ raw) ∙ ap (λ x. stored_list dataset x (chunks_of x zeros plan.writes)) e
+plan_objects : (plan : Planned) (m : Objects) (dataset : Name) (s : Scale) → plan.scale ≡ s → job_objects dataset (work_of plan) m ≡ stored_list dataset s (chunks_of s zeros plan.writes)
+plan_objects plan m dataset s e =
+    planned_objects dataset plan m ∙ ap (λ x. stored_list dataset x (chunks_of x zeros plan.writes)) e
 
 -- no more cells are met than there are pairs of a write and a cell that it meets
 first_or : {X : Type 0} (b c : Bool) (x : X) (xs ys zs : List X) → length xs ≤ length ys + length zs
@@ -67,29 +66,29 @@ few_jobs plan s e few =
     omega (arith, cells, same, few)
 
 -- what putting a plan's objects answers
-pub put_done : (written : Written) (o now : Option Objects) (plan : Planned) (dataset : Name) (s : Scale) → plan.scale ≡ s → s.encoding ≡ Raw → pairs s plan.writes ≤ 2 ^ 22
+pub put_done : (written : Written) (o now : Option Objects) (plan : Planned) (dataset : Name) (s : Scale) → plan.scale ≡ s → pairs s plan.writes ≤ 2 ^ 22
     → written.objects ≡ length (told_objects dataset (work_of plan) o) → written.cells ≡ length (planned_cells plan) → PutsJobs dataset (work_of plan) o now
     → IfSome o (λ m. PutsWrites (Ok written) m now dataset s plan.writes)
-put_done written None now plan dataset s e raw few objects cells put = tt
-put_done written (Some m) now plan dataset s e raw few objects cells put = (
-  put ∙ ap (λ xs. Some (put_in m xs)) (plan_objects plan m dataset s e raw),
+put_done written None now plan dataset s e few objects cells put = tt
+put_done written (Some m) now plan dataset s e few objects cells put = (
+  put ∙ ap (λ xs. Some (put_in m xs)) (plan_objects plan m dataset s e),
   few,
-  record { objects = objects ∙ ap length (plan_objects plan m dataset s e raw); cells = cells ∙ planned_count plan s e },
+  record { objects = objects ∙ ap length (plan_objects plan m dataset s e); cells = cells ∙ planned_count plan s e },
 )
 
-front_done : (m : Objects) (now : Option Objects) (plan : Planned) (dataset : Name) (s : Scale) → plan.scale ≡ s → s.encoding ≡ Raw → PutsSome dataset (work_of plan) (Some m) now
+front_done : (m : Objects) (now : Option Objects) (plan : Planned) (dataset : Name) (s : Scale) → plan.scale ≡ s → PutsSome dataset (work_of plan) (Some m) now
     → PutsFront (stored_list dataset s (chunks_of s zeros plan.writes)) m now
-front_done m now plan dataset s e raw front = subst (λ xs. PutsFront xs m now) (plan_objects plan m dataset s e raw) front
+front_done m now plan dataset s e front = subst (λ xs. PutsFront xs m now) (plan_objects plan m dataset s e) front
 
-pub store_failed : (o now : Option Objects) (plan : Planned) (dataset : Name) (s : Scale) → plan.scale ≡ s → s.encoding ≡ Raw → pairs s plan.writes ≤ 2 ^ 22 → PutsSome dataset (work_of plan) o now
+pub store_failed : (o now : Option Objects) (plan : Planned) (dataset : Name) (s : Scale) → plan.scale ≡ s → pairs s plan.writes ≤ 2 ^ 22 → PutsSome dataset (work_of plan) o now
     → IfSome o (λ m. PutsWrites (Err StoreFault) m now dataset s plan.writes)
-store_failed None now plan dataset s e raw few front = tt
-store_failed (Some m) now plan dataset s e raw few front = (few, front_done m now plan dataset s e raw front)
+store_failed None now plan dataset s e few front = tt
+store_failed (Some m) now plan dataset s e few front = (few, front_done m now plan dataset s e front)
 
-pub memory_failed : (o now : Option Objects) (plan : Planned) (dataset : Name) (s : Scale) → plan.scale ≡ s → s.encoding ≡ Raw → pairs s plan.writes ≤ 2 ^ 22 → PutsSome dataset (work_of plan) o now
+pub memory_failed : (o now : Option Objects) (plan : Planned) (dataset : Name) (s : Scale) → plan.scale ≡ s → pairs s plan.writes ≤ 2 ^ 22 → PutsSome dataset (work_of plan) o now
     → IfSome o (λ m. PutsWrites (Err NoMemory) m now dataset s plan.writes)
-memory_failed None now plan dataset s e raw few front = tt
-memory_failed (Some m) now plan dataset s e raw few front = inr (few, front_done m now plan dataset s e raw front)
+memory_failed None now plan dataset s e few front = tt
+memory_failed (Some m) now plan dataset s e few front = inr (few, front_done m now plan dataset s e front)
 
 -- a plan has few pairs
 pub few_pairs : (plan : Planned) (count n : ℕ) → ((cells : ℕ) → (Ok plan ≡ Err (refusals.TooManyCells cells)) ↔ ((n < count) × (cells ≡ count))) → count ≤ n

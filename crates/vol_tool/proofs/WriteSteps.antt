@@ -15,32 +15,57 @@ use Rattle.write_plan.specs.Plans.{pairs}
 use Rattle.write_plan.specs.Stream.{writes_of}
 use Rattle.write_plan.specs.declared.fault.PlanFault.{PlanFault}
 use Rattle.vol_shell.specs.Effects.{Gains, GainsFront}
-use Rattle.vol_shell.specs.Lines.{cells_line, folder_line, stream_line, written_line}
+use Rattle.vol_shell.specs.Lines.{cells_line, folder_line, stream_line, voxels_line, written_line}
 use Rattle.vol_tool.proofs.Choices.{err_and, never, ok_and}
 use Rattle.vol_tool.specs.Refusals.{write_line, write_status}
-use Rattle.vol_tool.specs.Scales.{stored_scale}
+use Rattle.vol_tool.specs.Scales.{IsWritable, padded, stored_scale}
 use Rattle.vol_tool.specs.Seen.{Outlets, Silent, Tells}
 use Rattle.vol_tool.specs.Statuses.{fixed_line, Reports}
-use Rattle.vol_tool.specs.Storing.{AllReadBack, count_line, Counts, FrontPut, HasStored, Judges, KeepsFeed, KeepsStore, Prints, RefusesStream, WriteJudges, WriteLeaves, WritesAll, WriteShows, WritesScale, WrittenBack}
+use Rattle.vol_tool.specs.Storing.{AllReadBack, count_line, Counts, FrontPut, HasStored, Judges, KeepsFeed, KeepsStore, Prints, RefusesScale, RefusesStream, WriteJudges, WriteLeaves, WritesAll, WriteShows, WritesScale, WrittenBack}
 use Rattle.vol_tool.specs.declared.refusal.WriteRefusal.{WriteRefusal}
-use Rattle.vol_tool.specs.declared.refusal.WriteRefusal.TheVariants.{NoScale, NotEmpty, Stream, TooManyCells, StoreFault, FeedFault, OutFault, NoMemory}
+use Rattle.vol_tool.specs.declared.refusal.WriteRefusal.TheVariants.{NoScale, TooManyVoxels, NotEmpty, Stream, TooManyCells, StoreFault, FeedFault, OutFault, NoMemory}
 use Rattle.vol_tool.specs.declared.status.Status.{Status}
 use Rattle.vol_tool.specs.declared.status.Status.TheVariants.{Ok as Done, OutFault as OutStatus, NoMemory as MemoryStatus}
 
--- the folder was empty, or not
-abbrev IsEmpty : Objects → Name → Scale → Type 0
-IsEmpty m dataset s = any_under m (folder_of dataset s) ≡ false
+-- no number is both past another and at most that
+past : (n k : ℕ) → n < k → k ≤ n → ⊥
+past n k more most = omega arith
+
+-- the scale passed the writing limit
+abbrev IsPast : ℕ → Scale → Type 0
+IsPast voxels s = (voxels ≡ padded s) × (2 ^ 22 < padded s)
+
+-- or it kept the limit, and its folder was empty, or not
+abbrev IsFull : Objects → Name → Scale → Type 0
+IsFull m dataset s = IsWritable s × (any_under m (folder_of dataset s) ≡ true)
+
+abbrev IsReady : Objects → Name → Scale → Type 0
+IsReady m dataset s = IsWritable s × (any_under m (folder_of dataset s) ≡ false)
+
+refused_past : (m : Objects) (dataset : Name) (s : Scale) (old new : Option Bytes) (o : Outlets) (voxels : ℕ) → IsPast voxels s → new ≡ old → Tells o (voxels_line voxels) → RefusesScale m dataset s old new o
+refused_past m dataset s old new o voxels h kept told = (
+  λ many. (kept, subst (λ n. Tells o (voxels_line n)) h.0 told),
+  λ few full. absurd (past (2 ^ 22) (padded s) h.1 few),
+)
+
+refused_full : (m : Objects) (dataset : Name) (s : Scale) (old new : Option Bytes) (o : Outlets) → IsFull m dataset s → new ≡ old → Tells o folder_line → RefusesScale m dataset s old new o
+refused_full m dataset s old new o h kept told = (λ many. absurd (past (2 ^ 22) (padded s) many h.0), λ few full. (kept, told))
+
+unrefused : (m : Objects) (dataset : Name) (s : Scale) (old new : Option Bytes) (o : Outlets) → IsReady m dataset s → RefusesScale m dataset s old new o
+unrefused m dataset s old new o h = (λ many. absurd (past (2 ^ 22) (padded s) many h.0), λ few full. cc (h.1, full))
 
 -- a refusal with its line, over objects that are told
 judges_line : (refusal : WriteRefusal) (m : Objects) (dataset key : Name) (old new : Option Bytes) (o : Outlets) → Judges (Err refusal) (stored_scale m dataset key) m dataset → KeepsFeed (Err refusal) old new
     → Tells o (write_line dataset refusal) → WriteJudges (write_status refusal) m dataset key old new o
 judges_line (NoScale why) m dataset key old new o judges kept told = err_and (stored_scale m dataset key) why _ judges told
+judges_line (TooManyVoxels voxels) m dataset key old new o judges kept told =
+    ok_and (stored_scale m dataset key) (IsPast voxels) (λ s. RefusesScale m dataset s old new o) (λ s h. refused_past m dataset s old new o voxels h kept told) judges
 judges_line NotEmpty m dataset key old new o judges kept told =
-    ok_and (stored_scale m dataset key) _ (λ s. any_under m (folder_of dataset s) ≡ true → (new ≡ old) × Tells o folder_line) (λ s h found. (kept, told)) judges
+    ok_and (stored_scale m dataset key) (IsFull m dataset) (λ s. RefusesScale m dataset s old new o) (λ s h. refused_full m dataset s old new o h kept told) judges
 judges_line (Stream fault) m dataset key old new o judges kept told =
-    ok_and (stored_scale m dataset key) (IsEmpty m dataset) (λ s. any_under m (folder_of dataset s) ≡ true → (new ≡ old) × Tells o folder_line) (λ s h found. cc (h, found)) judges
+    ok_and (stored_scale m dataset key) (IsReady m dataset) (λ s. RefusesScale m dataset s old new o) (λ s h. unrefused m dataset s old new o h) judges
 judges_line (TooManyCells cells) m dataset key old new o judges kept told =
-    ok_and (stored_scale m dataset key) (IsEmpty m dataset) (λ s. any_under m (folder_of dataset s) ≡ true → (new ≡ old) × Tells o folder_line) (λ s h found. cc (h, found)) judges
+    ok_and (stored_scale m dataset key) (IsReady m dataset) (λ s. RefusesScale m dataset s old new o) (λ s h. unrefused m dataset s old new o h) judges
 judges_line StoreFault m dataset key old new o judges kept told = tt
 judges_line FeedFault m dataset key old new o judges kept told = judges
 judges_line OutFault m dataset key old new o judges kept told = judges
@@ -52,17 +77,22 @@ write_judged refusal status m dataset key old new o judges kept (inl told) = sub
 write_judged refusal status m dataset key old new o judges kept (inr told) = subst (λ st. WriteJudges st m dataset key old new o) (sym told.0) tt
 
 -- and over a feed that is told too
+abbrev RefusesAfter : Objects → Bytes → Name → Outlets → Scale → Type 0
+RefusesAfter m bytes dataset o s = IsWritable s → any_under m (folder_of dataset s) ≡ false → RefusesStream bytes s o
+
 shows_line : (refusal : WriteRefusal) (m : Objects) (now : Option Objects) (bytes : Bytes) (left : Option Bytes) (dataset key : Name) (o : Outlets) → Judges (Err refusal) (stored_scale m dataset key) m dataset
     → WritesAll (Err refusal) (stored_scale m dataset key) m now bytes left dataset key → Tells o (write_line dataset refusal) → WriteShows (write_status refusal) m now bytes left dataset key o
 shows_line (NoScale why) m now bytes left dataset key o judges writes told = tt
+shows_line (TooManyVoxels voxels) m now bytes left dataset key o judges writes told =
+    ok_and (stored_scale m dataset key) (IsPast voxels) (RefusesAfter m bytes dataset o) (λ s h few empty. absurd (past (2 ^ 22) (padded s) h.1 few)) judges
 shows_line NotEmpty m now bytes left dataset key o judges writes told =
-    ok_and (stored_scale m dataset key) (λ s. any_under m (folder_of dataset s) ≡ true) (λ s. IsEmpty m dataset s → RefusesStream bytes s o) (λ s h empty. cc (h, empty)) judges
+    ok_and (stored_scale m dataset key) (IsFull m dataset) (RefusesAfter m bytes dataset o) (λ s h few empty. cc (h.1, empty)) judges
 shows_line (Stream fault) m now bytes left dataset key o judges writes told =
-    ok_and (stored_scale m dataset key) (λ s. writes_of bytes s ≡ Err fault) (λ s. IsEmpty m dataset s → RefusesStream bytes s o)
-    (λ s h empty. inl (err_and (writes_of bytes s) fault (λ fault. Tells o (stream_line fault)) h told)) writes
+    ok_and (stored_scale m dataset key) (λ s. writes_of bytes s ≡ Err fault) (RefusesAfter m bytes dataset o)
+    (λ s h few empty. inl (err_and (writes_of bytes s) fault (λ fault. Tells o (stream_line fault)) h told)) writes
 shows_line (TooManyCells cells) m now bytes left dataset key o judges writes told =
-    ok_and (stored_scale m dataset key) (λ s. WritesScale (Err (TooManyCells cells)) m now bytes left dataset key s) (λ s. IsEmpty m dataset s → RefusesStream bytes s o)
-    (λ s h empty.
+    ok_and (stored_scale m dataset key) (λ s. WritesScale (Err (TooManyCells cells)) m now bytes left dataset key s) (RefusesAfter m bytes dataset o)
+    (λ s h few empty.
     inr (ok_and (writes_of bytes s) (λ ws. (cells ≡ pairs s ws) × (2 ^ 22 < pairs s ws)) (λ ws. (2 ^ 22 < pairs s ws) × Tells o (cells_line (pairs s ws)))
     (λ ws k. (k.1, subst (λ n. Tells o (cells_line n)) k.0 told)) h)) writes
 shows_line StoreFault m now bytes left dataset key o judges writes told = writes
@@ -73,6 +103,7 @@ shows_line OutFault m now bytes left dataset key o judges writes told = absurd (
 -- a refusal whose line isn't fixed puts nothing
 put_none : (refusal : WriteRefusal) (old new : Option Objects) (before after : Option Draft) → fixed_line (write_status refusal) ≡ None → KeepsStore refusal old new before after → new ≡ old
 put_none (NoScale why) old new before after other kept = kept.same_objects
+put_none (TooManyVoxels voxels) old new before after other kept = kept.same_objects
 put_none NotEmpty old new before after other kept = kept.same_objects
 put_none (Stream fault) old new before after other kept = kept.same_objects
 put_none (TooManyCells cells) old new before after other kept = kept.same_objects
@@ -93,9 +124,10 @@ write_shown refusal status m old now before after bytes left dataset key o told_
 line_left : (refusal : WriteRefusal) (old new : Option Objects) (before after : Option Draft) (dataset : Name) (o : Outlets) → KeepsStore refusal old new before after → Silent o → Tells o (write_line dataset refusal)
     → WriteLeaves (write_status refusal) dataset o
 line_left (NoScale why) old new before after dataset o kept silent told = (silent, (why, told))
-line_left NotEmpty old new before after dataset o kept silent told = (silent, inl told)
-line_left (Stream fault) old new before after dataset o kept silent told = (silent, inr (inl (fault, told)))
-line_left (TooManyCells cells) old new before after dataset o kept silent told = (silent, inr (inr (cells, told)))
+line_left (TooManyVoxels voxels) old new before after dataset o kept silent told = (silent, inl (voxels, told))
+line_left NotEmpty old new before after dataset o kept silent told = (silent, inr (inl told))
+line_left (Stream fault) old new before after dataset o kept silent told = (silent, inr (inr (inl (fault, told))))
+line_left (TooManyCells cells) old new before after dataset o kept silent told = (silent, inr (inr (inr (cells, told))))
 line_left StoreFault old new before after dataset o kept silent told = (silent, told)
 line_left FeedFault old new before after dataset o kept silent told = (silent, told)
 line_left OutFault old new before after dataset o kept silent told = absurd kept
@@ -121,6 +153,7 @@ print_left NoMemory status dataset o objects cells prints (inl told) =
     subst (λ s. WriteLeaves s dataset o) (sym told.0) left
 print_left NoMemory status dataset o objects cells prints (inr told) = cc told.1
 print_left (NoScale why) status dataset o objects cells prints told = absurd prints
+print_left (TooManyVoxels voxels) status dataset o objects cells prints told = absurd prints
 print_left NotEmpty status dataset o objects cells prints told = absurd prints
 print_left (Stream fault) status dataset o objects cells prints told = absurd prints
 print_left (TooManyCells count) status dataset o objects cells prints told = absurd prints
@@ -158,6 +191,7 @@ front_all m now list put = record { count = length list; within = omega arith; p
 scale_put : (m : Objects) (now : Option Objects) (bytes : Bytes) (left : Option Bytes) (dataset key : Name) (s : Scale) (written : Written) (r : Result Writes PlanFault) → r ≡ writes_of bytes s
     → IsOkAnd r (λ ws. HasStored m now left dataset key s ws × AllReadBack now dataset s ws × Counts written dataset s ws) → FrontPut m now bytes dataset s
 scale_put m now bytes left dataset key s written (Ok ws) is h = (
+  h.0.writable,
   h.0.empty,
   subst (λ q. IsOkAnd q (λ writes. (pairs s writes ≤ 2 ^ 22) × PutsFront (stored_list dataset s (chunks_of s zeros writes)) m now)) is
       (h.0.few, front_all m now (stored_list dataset s (chunks_of s zeros ws)) h.0.put),
@@ -182,6 +216,7 @@ unprinted NoMemory status written m now bytes left dataset key o writes prints (
     subst (λ st. WriteShows st m now bytes left dataset key o) (sym told.0) (inr (all_put m now bytes left dataset key written writes))
 unprinted NoMemory status written m now bytes left dataset key o writes prints (inr told) = cc told.1
 unprinted (NoScale why) status written m now bytes left dataset key o writes prints told = absurd prints
+unprinted (TooManyVoxels voxels) status written m now bytes left dataset key o writes prints told = absurd prints
 unprinted NotEmpty status written m now bytes left dataset key o writes prints told = absurd prints
 unprinted (Stream fault) status written m now bytes left dataset key o writes prints told = absurd prints
 unprinted (TooManyCells cells) status written m now bytes left dataset key o writes prints told = absurd prints
@@ -195,6 +230,7 @@ unprinted_judged OutFault status written m dataset key old new o line judges pri
 unprinted_judged NoMemory status written m dataset key old new o line judges prints (inl told) = subst (λ st. WriteJudges st m dataset key old new o) (sym told.0) tt
 unprinted_judged NoMemory status written m dataset key old new o line judges prints (inr told) = cc told.1
 unprinted_judged (NoScale why) status written m dataset key old new o line judges prints told = absurd prints
+unprinted_judged (TooManyVoxels voxels) status written m dataset key old new o line judges prints told = absurd prints
 unprinted_judged NotEmpty status written m dataset key old new o line judges prints told = absurd prints
 unprinted_judged (Stream fault) status written m dataset key old new o line judges prints told = absurd prints
 unprinted_judged (TooManyCells cells) status written m dataset key old new o line judges prints told = absurd prints

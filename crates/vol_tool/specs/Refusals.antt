@@ -3,12 +3,12 @@ use Rattle.std.specs.Prelude.{codes}
 use Rattle.info_doc.specs.Texts.{fault_text as info_fault_text}
 use Rattle.info_doc.specs.declared.fault.InfoFault.{InfoFault}
 use Rattle.info_doc.specs.declared.fault.InfoFault.TheVariants.{OutOfMemory as InfoMemory}
-use Rattle.vol_shell.specs.Lines.{cells_line, damaged_line, feed_line, folder_line, info_line, large_line, memory_line, outside_line, output_line, store_line, stream_line}
+use Rattle.vol_shell.specs.Lines.{cells_line, damaged_line, feed_line, folder_line, info_line, large_line, memory_line, outside_line, output_line, store_line, stream_line, voxels_line}
 use Rattle.vol_spec.specs.Types.{Bytes, Name}
 use Rattle.vol_tool.specs.declared.refusal.CutoutRefusal.{CutoutRefusal}
 use Rattle.vol_tool.specs.declared.refusal.CutoutRefusal.TheVariants as cutout
 use Rattle.vol_tool.specs.declared.refusal.NoScale.{NoScale}
-use Rattle.vol_tool.specs.declared.refusal.NoScale.TheVariants.{Absent, Refused, NotBuilt}
+use Rattle.vol_tool.specs.declared.refusal.NoScale.TheVariants.{Absent, Refused}
 use Rattle.vol_tool.specs.declared.refusal.ScaleRefusal.{ScaleRefusal}
 use Rattle.vol_tool.specs.declared.refusal.ScaleRefusal.TheVariants as scale
 use Rattle.vol_tool.specs.declared.refusal.WriteRefusal.{WriteRefusal}
@@ -24,7 +24,6 @@ use Rattle.write_plan.specs.declared.plan.PlanRefusal.TheVariants.{TooManyCells 
 abbrev pub info_text : NoScale → Bytes
 info_text Absent = codes "absent"
 info_text (Refused fault) = info_fault_text fault
-info_text NotBuilt = codes "not built"
 
 -- what a fault of the info document is, as a refusal of its scale
 abbrev pub scale_refused : InfoFault → ScaleRefusal
@@ -74,6 +73,7 @@ unplanned PlanMemory = write.NoMemory
 
 abbrev pub write_status : WriteRefusal → Status
 write_status (write.NoScale why) = InfoRefused
+write_status (write.TooManyVoxels voxels) = RequestRefused
 write_status write.NotEmpty = RequestRefused
 write_status (write.Stream fault) = RequestRefused
 write_status (write.TooManyCells cells) = RequestRefused
@@ -84,6 +84,7 @@ write_status write.NoMemory = NoMemory
 
 abbrev pub write_line : Name → WriteRefusal → Bytes
 write_line dataset (write.NoScale why) = info_line dataset (info_text why)
+write_line dataset (write.TooManyVoxels voxels) = voxels_line voxels
 write_line dataset write.NotEmpty = folder_line
 write_line dataset (write.Stream fault) = stream_line fault
 write_line dataset (write.TooManyCells cells) = cells_line cells

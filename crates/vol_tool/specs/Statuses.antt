@@ -52,6 +52,7 @@ cutout_fixed dataset cutout.NoMemory = refl
 
 pub write_fixed : (dataset : Name) (refusal : WriteRefusal) → IfSome (fixed_line (write_status refusal)) (λ text. write_line dataset refusal ≡ text)
 write_fixed dataset (write.NoScale why) = tt
+write_fixed dataset (write.TooManyVoxels voxels) = tt
 write_fixed dataset write.NotEmpty = tt
 write_fixed dataset (write.Stream fault) = tt
 write_fixed dataset (write.TooManyCells cells) = tt

@@ -17,10 +17,10 @@ use Rattle.write_plan.specs.Plans.{pairs}
 use Rattle.write_plan.specs.Stream.{writes_of}
 use Rattle.write_plan.specs.declared.fault.PlanFault.{PlanFault}
 use Rattle.vol_shell.specs.Effects.{Gains, GainsFront}
-use Rattle.vol_shell.specs.Lines.{cells_line, feed_line, folder_line, info_line, memory_line, output_line, store_line, stream_line, written_line}
+use Rattle.vol_shell.specs.Lines.{cells_line, feed_line, folder_line, info_line, memory_line, output_line, store_line, stream_line, voxels_line, written_line}
 use Rattle.vol_tool.specs.Cutouts.{TellsNoScale}
 use Rattle.vol_tool.specs.Refusals.{info_text}
-use Rattle.vol_tool.specs.Scales.{stored_scale}
+use Rattle.vol_tool.specs.Scales.{IsWritable, padded, stored_scale}
 use Rattle.vol_tool.specs.Seen.{Outlets, Silent, Tells}
 use Rattle.vol_tool.specs.declared.refusal.NoScale.{NoScale}
 use Rattle.vol_tool.specs.declared.refusal.WriteRefusal.{WriteRefusal}
@@ -28,9 +28,10 @@ use Rattle.vol_tool.specs.declared.refusal.WriteRefusal.TheVariants as refused
 use Rattle.vol_tool.specs.declared.status.Status.{Status}
 use Rattle.vol_tool.specs.declared.status.Status.TheVariants.{Ok as Done, Usage, InfoRefused, RequestRefused, Damaged, StoreFault, FeedFault, OutFault, NoMemory, DoorFault}
 
--- what stands after a write: the folder was empty, the feed was read to its end, the objects of the writes were put in and nothing else
--- was changed, so the scale is as before
+-- what stands after a write: the scale kept the writing limit, its folder was empty, the feed was read to its end, the objects of the writes
+-- were put in and nothing else was changed, so the scale is as before
 pub record HasStored (m : Objects) (now : Option Objects) (left : Option Bytes) (dataset key : Name) (s : Scale) (writes : Writes) : Type 0 where
+  pub writable : IsWritable s
   pub empty : any_under m (folder_of dataset s) ≡ false
   pub few : pairs s writes ≤ 2 ^ 22
   pub end : left ≡ Some []
@@ -45,10 +46,11 @@ AllReadBack objects dataset s writes = IsSomeAnd objects (λ now. (b : Box3) →
 abbrev pub WrittenBack : Objects → Option Objects → Bytes → Name → Name → Type 0
 WrittenBack m now bytes dataset key = IsOkAnd (stored_scale m dataset key) (λ s. IsOkAnd (writes_of bytes s) (AllReadBack now dataset s))
 
--- a front of the objects of writes that can be stored: the folder was empty, and there are not too many cells
+-- a front of the objects of writes that can be stored: the limit was kept, the folder was empty, and there are not too many cells
 abbrev pub FrontPut : Objects → Option Objects → Bytes → Name → Scale → Type 0
 FrontPut m now bytes dataset s =
-    (any_under m (folder_of dataset s) ≡ false) × IsOkAnd (writes_of bytes s) (λ writes. (pairs s writes ≤ 2 ^ 22) × PutsFront (stored_list dataset s (chunks_of s zeros writes)) m now)
+    IsWritable s × (any_under m (folder_of dataset s) ≡ false)
+    × IsOkAnd (writes_of bytes s) (λ writes. (pairs s writes ≤ 2 ^ 22) × PutsFront (stored_list dataset s (chunks_of s zeros writes)) m now)
 
 -- a number of objects that is that of the objects of the writes, and one of cells that is that of the cells that they meet
 pub record Counts (written : Written) (dataset : Name) (s : Scale) (writes : Writes) : Type 0 where
@@ -70,11 +72,17 @@ Prints (Err refused.OutFault) old new line = GainsFront old new line
 Prints (Err refused.NoMemory) old new line = new ≡ old
 Prints (Err other) old new line = ⊥
 
+-- what judging the writing limit answers
+abbrev pub JudgesLimit : Result ⊤ WriteRefusal → Scale → Type 0
+JudgesLimit (Ok done) s = IsWritable s
+JudgesLimit (Err refusal) s = (refusal ≡ refused.TooManyVoxels (padded s)) × (2 ^ 22 < padded s)
+
 -- what writing a scale answers over objects and a feed that are told, and what stands after it
 abbrev pub WritesScale : Result Written WriteRefusal → Objects → Option Objects → Bytes → Option Bytes → Name → Name → Scale → Type 0
 WritesScale (Ok written) m now bytes left dataset key s =
     IsOkAnd (writes_of bytes s) (λ writes. HasStored m now left dataset key s writes × AllReadBack now dataset s writes × Counts written dataset s writes)
 WritesScale (Err (refused.NoScale why)) m now bytes left dataset key s = ⊥
+WritesScale (Err (refused.TooManyVoxels voxels)) m now bytes left dataset key s = Unit {0}
 WritesScale (Err refused.NotEmpty) m now bytes left dataset key s = Unit {0}
 WritesScale (Err (refused.Stream fault)) m now bytes left dataset key s = writes_of bytes s ≡ Err fault
 WritesScale (Err (refused.TooManyCells cells)) m now bytes left dataset key s = IsOkAnd (writes_of bytes s) (λ writes. (cells ≡ pairs s writes) × (2 ^ 22 < pairs s writes))
@@ -90,19 +98,22 @@ WritesAll (Err refused.StoreFault) told m now bytes left dataset key = (now ≡ 
 WritesAll (Err refused.NoMemory) told m now bytes left dataset key = (now ≡ Some m) ⊎ IsOkAnd told (FrontPut m now bytes dataset)
 WritesAll result told m now bytes left dataset key = IsOkAnd told (λ s. WritesScale result m now bytes left dataset key s)
 
--- what it answers over objects alone, the feed told or not: the scale and its folder are judged first, and the feed is read only then
+-- what it answers over objects alone, the feed told or not: the scale is judged first, then the writing limit, then the folder, and the
+-- feed is read only then
 abbrev pub Judges : Result Written WriteRefusal → Result Scale NoScale → Objects → Name → Type 0
 Judges (Err (refused.NoScale why)) told m dataset = told ≡ Err why
-Judges (Err refused.NotEmpty) told m dataset = IsOkAnd told (λ s. any_under m (folder_of dataset s) ≡ true)
+Judges (Err (refused.TooManyVoxels voxels)) told m dataset = IsOkAnd told (λ s. (voxels ≡ padded s) × (2 ^ 22 < padded s))
+Judges (Err refused.NotEmpty) told m dataset = IsOkAnd told (λ s. IsWritable s × (any_under m (folder_of dataset s) ≡ true))
 Judges (Err refused.StoreFault) told m dataset = Unit {0}
 Judges (Err refused.NoMemory) told m dataset = Unit {0}
-Judges result told m dataset = IsOkAnd told (λ s. any_under m (folder_of dataset s) ≡ false)
+Judges result told m dataset = IsOkAnd told (λ s. IsWritable s × (any_under m (folder_of dataset s) ≡ false))
 
--- what it leaves where nothing is told: the feed isn't read where the scale or the folder is refused, and is read to its end by a write that
--- succeeds; and nothing is put, and what was being written stays, but where the objects of a plan were begun
+-- what it leaves where nothing is told: the feed isn't read where the scale, the limit or the folder is refused, and is read to its end by a
+-- write that succeeds; and nothing is put, and what was being written stays, but where the objects of a plan were begun
 abbrev pub KeepsFeed : Result Written WriteRefusal → Option Bytes → Option Bytes → Type 0
 KeepsFeed (Ok written) old new = new ≡ option_map (λ _. []) old
 KeepsFeed (Err (refused.NoScale why)) old new = new ≡ old
+KeepsFeed (Err (refused.TooManyVoxels voxels)) old new = new ≡ old
 KeepsFeed (Err refused.NotEmpty) old new = new ≡ old
 KeepsFeed (Err other) old new = Unit {0}
 
@@ -131,18 +142,25 @@ puts other = false
 abbrev pub count_line : Name → Scale → Writes → Bytes
 count_line dataset s writes = written_line (length (stored_list dataset s (chunks_of s zeros writes))) (length (met_cells s writes))
 
--- what each status of `write` says over objects that are told: the scale and its folder are judged before the feed is read, of which this
--- is left before and after the call
+-- a scale that is refused before the feed is read, with its line: it passes the writing limit, whatever its folder has, or else its folder
+-- isn't empty
+abbrev pub RefusesScale : Objects → Name → Scale → Option Bytes → Option Bytes → Outlets → Type 0
+RefusesScale m dataset s old new o =
+    (2 ^ 22 < padded s → (new ≡ old) × Tells o (voxels_line (padded s)))
+    × (IsWritable s → any_under m (folder_of dataset s) ≡ true → (new ≡ old) × Tells o folder_line)
+
+-- what each status of `write` says over objects that are told: the scale, the writing limit and the folder are judged before the feed is
+-- read, of which this is left before and after the call
 abbrev pub WriteJudges : Status → Objects → Name → Name → Option Bytes → Option Bytes → Outlets → Type 0
 WriteJudges InfoRefused m dataset key old new o = IsErrAnd (stored_scale m dataset key) (λ why. Tells o (info_line dataset (info_text why)))
-WriteJudges RequestRefused m dataset key old new o =
-    IsOkAnd (stored_scale m dataset key) (λ s. any_under m (folder_of dataset s) ≡ true → (new ≡ old) × Tells o folder_line)
+WriteJudges RequestRefused m dataset key old new o = IsOkAnd (stored_scale m dataset key) (λ s. RefusesScale m dataset s old new o)
 WriteJudges StoreFault m dataset key old new o = Unit {0}
 WriteJudges NoMemory m dataset key old new o = Unit {0}
 WriteJudges Usage m dataset key old new o = ⊥
 WriteJudges Damaged m dataset key old new o = ⊥
 WriteJudges DoorFault m dataset key old new o = ⊥
-WriteJudges other m dataset key old new o = IsOkAnd (stored_scale m dataset key) (λ s. any_under m (folder_of dataset s) ≡ false)
+WriteJudges other m dataset key old new o =
+    IsOkAnd (stored_scale m dataset key) (λ s. IsWritable s × (any_under m (folder_of dataset s) ≡ false))
 
 -- why a stream can't be written, with the line: it has a fault, or its writes meet too many cells
 abbrev pub RefusesStream : Bytes → Scale → Outlets → Type 0
@@ -159,19 +177,22 @@ WriteShows OutFault m now bytes left dataset key o =
     IsOkAnd (stored_scale m dataset key) (λ s. IsOkAnd (writes_of bytes s) (λ writes.
     HasStored m now left dataset key s writes × GainsFront o.out_old o.out_new (count_line dataset s writes)))
 WriteShows RequestRefused m now bytes left dataset key o =
-    IsOkAnd (stored_scale m dataset key) (λ s. any_under m (folder_of dataset s) ≡ false → RefusesStream bytes s o)
+    IsOkAnd (stored_scale m dataset key) (λ s. IsWritable s → any_under m (folder_of dataset s) ≡ false → RefusesStream bytes s o)
 WriteShows StoreFault m now bytes left dataset key o = (now ≡ Some m) ⊎ IsOkAnd (stored_scale m dataset key) (FrontPut m now bytes dataset)
 WriteShows NoMemory m now bytes left dataset key o = (now ≡ Some m) ⊎ IsOkAnd (stored_scale m dataset key) (FrontPut m now bytes dataset)
 WriteShows other m now bytes left dataset key o = Unit {0}
 
--- the scale is there, its folder is empty, and the stream can be written
+-- the scale is there and keeps the writing limit, its folder is empty, and the stream can be written
 abbrev pub CanWrite : Objects → Bytes → Name → Name → Type 0
 CanWrite m bytes dataset key =
-    IsOkAnd (stored_scale m dataset key) (λ s. (any_under m (folder_of dataset s) ≡ false) × IsOkAnd (writes_of bytes s) (λ writes. pairs s writes ≤ 2 ^ 22))
+    IsOkAnd (stored_scale m dataset key) (λ s. IsWritable s × (any_under m (folder_of dataset s) ≡ false)
+    × IsOkAnd (writes_of bytes s) (λ writes. pairs s writes ≤ 2 ^ 22))
 
--- the line of a folder that isn't empty, of some fault of a stream, or of too many cells
+-- the line of too many padded voxels, of a folder that isn't empty, of some fault of a stream, or of too many cells
 abbrev pub TellsRequest : Outlets → Type 0
-TellsRequest o = Tells o folder_line ⊎ (((fault : PlanFault) × Tells o (stream_line fault)) ⊎ ((cells : ℕ) × Tells o (cells_line cells)))
+TellsRequest o =
+    ((voxels : ℕ) × Tells o (voxels_line voxels))
+    ⊎ (Tells o folder_line ⊎ (((fault : PlanFault) × Tells o (stream_line fault)) ⊎ ((cells : ℕ) × Tells o (cells_line cells))))
 
 -- what `write` leaves, also where nothing is told: its line at success, a front of it where the output failed; else the output
 -- gains nothing, and a line of the status is told. No chunk is read, so none is found damaged

@@ -101,7 +101,6 @@ fn cut_scale<S: Source, O: Outlet>(
     part: &Box3,
 ) -> Result<(), CutoutRefusal>
     requires dataset { length dataset.now ≤ 200 }
-    requires raw { scale.now.encoding ≡ Raw }
     ensures cuts { IfSome (S.objects store.old) (λ m. CutsScale result m dataset.now scale.now part.now (O.written out.old) (O.written out.new)) }
     ensures asked { IfSome (S.objects store.old) (λ m. S.asked store.new ≤ S.asked store.old + cost m dataset.now scale.now part.now) }
     ensures kept { OnlyReads (S.objects store.old) (S.objects store.new) (S.draft store.old) (S.draft store.new) }

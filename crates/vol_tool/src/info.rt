@@ -3,11 +3,11 @@ ghost use Rattle.std.specs.Prelude.{◌≡◌, ◌≢◌, ◌≤◌, ◌+◌, �
 ghost use Rattle.vol_base.specs.Causes.{Rose};
 ghost use Rattle.vol_base.specs.Outside.{OnlyReads};
 ghost use Rattle.info_doc.specs.Info.{scale_in};
-ghost use Rattle.vol_tool.specs.Scales.{info_name, is_served, IsServed, judged_info, ReadsScale, served_only, stored_scale};
+ghost use Rattle.vol_tool.specs.Scales.{info_name, judged_info, ReadsScale, stored_scale};
 
 use crate::buffers::make_buffer;
 use crate::refusal::{NoScale, ScaleRefusal};
-use info_doc::{Encoding, Scale, scale_of};
+use info_doc::{Scale, scale_of};
 use std::alloc::Global;
 use vol_base::{Got, Name, Source};
 
@@ -23,34 +23,13 @@ fn find_info(dataset: &Name) -> Name
     dataset.join(&info).unwrap()
 }
 
-// Whether the scale is read and written: where its chunks are raw.
-fn is_served_scale(scale: &Scale) -> bool
-    ensures { result ≡ is_served scale.now }
-{
-    matches!(&scale.encoding, Encoding::Raw)
-}
-
-// A scale of the info document, where its chunks are read.
-fn serve_scale(scale: Scale) -> Result<Scale, ScaleRefusal>
-    ensures served { ReadsScale result (served_only scale) }
-    ensures form { IfOk result IsServed }
-    ensures unasked { result ≢ Err ScaleRefusal.StoreFault }
-{
-    if is_served_scale(&scale) {
-        Ok(scale)
-    } else {
-        Err(ScaleRefusal::NoScale(NoScale::NotBuilt))
-    }
-}
-
 fn judge_info(alloc: Global, info: &[u8], key: &Name) -> Result<Scale, ScaleRefusal>
     requires { length key.now ≤ 200 }
     ensures judged { ReadsScale result (judged_info (scale_in info.now key.now)) }
-    ensures form { IfOk result IsServed }
     ensures unasked { result ≢ Err ScaleRefusal.StoreFault }
 {
     let scale = scale_of(alloc, info, key)?;
-    serve_scale(scale)
+    Ok(scale)
 }
 
 // The scale, read by way of a buffer.
@@ -65,7 +44,6 @@ fn read_scale_into<S: Source>(
     requires key { length key.now ≤ 200 }
     requires room { length buffer.old ≡ 2 ^ 20 + 1 }
     ensures read { IfSome (S.objects store.old) (λ m. ReadsScale result (stored_scale m dataset.now key.now)) }
-    ensures form { IfOk result IsServed }
     ensures kept { OnlyReads (S.objects store.old) (S.objects store.new) (S.draft store.old) (S.draft store.new) }
     ensures asked { S.asked store.new ≤ S.asked store.old + (2 ^ 20 + 1) }
     ensures later { S.faults store.old ≤ S.faults store.new }
@@ -89,7 +67,6 @@ pub(crate) fn read_scale<S: Source>(
     requires dataset { length dataset.now ≤ 200 }
     requires key { length key.now ≤ 200 }
     ensures read { IfSome (S.objects store.old) (λ m. ReadsScale result (stored_scale m dataset.now key.now)) }
-    ensures form { IfOk result IsServed }
     ensures kept { OnlyReads (S.objects store.old) (S.objects store.new) (S.draft store.old) (S.draft store.new) }
     ensures asked { S.asked store.new ≤ S.asked store.old + (2 ^ 20 + 1) }
     ensures later { S.faults store.old ≤ S.faults store.new }

@@ -5,15 +5,13 @@ use std::alloc::AllocError;
 use vol_base::{Box3, Fault, OutOfMemory};
 use write_plan::{PlanFault, PlanRefusal};
 
-/// Why a data set has no scale of a key that is served.
+/// Why a data set has no scale of a key.
 #[derive(Clone, Copy, Debug, PartialEq, Eq)]
 pub(crate) enum NoScale {
     /// There is no info document.
     Absent,
     /// The info document gives no scale.
     Refused(InfoFault),
-    /// The scale is segmented, which isn't served yet.
-    NotBuilt,
 }
 
 /// Why a scale wasn't read.
@@ -45,6 +43,8 @@ pub(crate) enum CutoutRefusal {
 pub(crate) enum WriteRefusal {
     /// There is no scale.
     NoScale(NoScale),
+    /// The scale has more padded voxels times channels than are written: so many.
+    TooManyVoxels(u64),
     /// An object stands under the folder of the scale that is to be written.
     NotEmpty,
     /// The stream of writes has a fault.

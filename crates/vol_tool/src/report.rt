@@ -12,7 +12,7 @@ use std::alloc::{AllocError, Global};
 use vol_base::{Name, Outlet};
 use vol_shell::{
     FOLDER_LINE, say, tell_lines, write_cells_line, write_damaged_line, write_info_line,
-    write_large_line, write_outside_line, write_stream_line,
+    write_large_line, write_outside_line, write_stream_line, write_voxels_line,
 };
 
 /// Why a command was refused: a status, and a line.
@@ -45,7 +45,6 @@ fn write_why(alloc: Global, dataset: &Name, why: &NoScale) -> Result<Vec<u8>, Al
             let text = fault.to_string(alloc)?;
             write_info_line(alloc, dataset, &text)
         }
-        NoScale::NotBuilt => write_info_line(alloc, dataset, "not built"),
     }
 }
 
@@ -102,9 +101,10 @@ impl Refusal for WriteRefusal {
     fn status(&self) -> Status {
         match self {
             WriteRefusal::NoScale(_) => Status::InfoRefused,
-            WriteRefusal::NotEmpty | WriteRefusal::Stream(_) | WriteRefusal::TooManyCells(_) => {
-                Status::RequestRefused
-            }
+            WriteRefusal::TooManyVoxels(_)
+            | WriteRefusal::NotEmpty
+            | WriteRefusal::Stream(_)
+            | WriteRefusal::TooManyCells(_) => Status::RequestRefused,
             WriteRefusal::StoreFault => Status::StoreFault,
             WriteRefusal::FeedFault => Status::FeedFault,
             WriteRefusal::OutFault => Status::OutFault,
@@ -115,6 +115,9 @@ impl Refusal for WriteRefusal {
     fn write_line(&self, alloc: Global, dataset: &Name) -> Result<Vec<u8>, AllocError> {
         match self {
             WriteRefusal::NoScale(why) => write_why(alloc, dataset, why),
+            WriteRefusal::TooManyVoxels(voxels) => {
+                Ok(write_voxels_line(alloc, *voxels)?.into_bytes())
+            }
             WriteRefusal::NotEmpty => write_folder_line(alloc),
             WriteRefusal::Stream(fault) => Ok(write_stream_line(alloc, *fault)?.into_bytes()),
             WriteRefusal::TooManyCells(cells) => {

@@ -1,6 +1,8 @@
 //! Calls of the tool over stand-ins in memory. What each answers was worked out by hand.
 
+mod damages;
 mod plain;
+mod segments;
 mod shards;
 mod writes;
 

@@ -2,13 +2,12 @@
 ghost use Rattle.std.specs.Prelude.{◌≡◌, ◌≤◌, ◌^◌, ℕ, List, All, length, IfErr, IfSome};
 ghost use Rattle.vol_base.specs.Causes.{Rose};
 ghost use Rattle.vol_spec.specs.CellNames.{folder_of};
-ghost use Rattle.vol_spec.specs.declared.encoding.Encoding.TheVariants.{Raw};
 ghost use Rattle.write_plan.specs.Plans.{pairs};
 ghost use Rattle.write_plan.specs.WriteLists.{IsWriteOf};
 ghost use Rattle.shard_writer.specs.Writing.{Drops};
 ghost use Rattle.vol_shell.specs.Lines.{written_line};
-ghost use Rattle.vol_tool.specs.Scales.{IsServed, stored_scale};
-ghost use Rattle.vol_tool.specs.Storing.{Judges, KeepsFeed, KeepsPlan, KeepsStore, Prints, PutsWrites, WritesAll, WritesScale};
+ghost use Rattle.vol_tool.specs.Scales.{IsWritable, stored_scale};
+ghost use Rattle.vol_tool.specs.Storing.{Judges, JudgesLimit, KeepsFeed, KeepsPlan, KeepsStore, Prints, PutsWrites, WritesAll, WritesScale};
 
 use crate::info::read_scale;
 use crate::refusal::WriteRefusal;
@@ -21,6 +20,17 @@ use std::thread::Threads;
 use vol_base::{Feed, Gate, Name, Outlet, Store};
 use vol_shell::{write_all, write_written_line};
 use write_plan::{Plan, Writes, read_writes};
+
+// Refuses a scale that passes the writing limit.
+fn judge_limit(scale: &Scale) -> Result<(), WriteRefusal>
+    ensures { JudgesLimit result scale.now }
+{
+    if scale.can_encode() {
+        Ok(())
+    } else {
+        Err(WriteRefusal::TooManyVoxels(scale.padded()))
+    }
+}
 
 // The folder of a scale.
 fn find_folder(dataset: &Name, scale: &Scale) -> Name
@@ -44,7 +54,7 @@ fn put_plan<R, S: Store, G: Gate + Sync>(
 where
     R: Threads + Wait + Sync,
     requires dataset { length dataset.now ≤ 200 }
-    requires raw { scale.now.encoding ≡ Raw }
+    requires writable { IsWritable scale.now }
     requires scale { plan.old.scale ≡ scale.now }
     requires few { pairs scale.now plan.old.writes ≤ 2 ^ 22 }
     ensures put { IfSome (S.objects store.old) (λ m. PutsWrites result m (S.objects store.new) dataset.now scale.now plan.old.writes) }
@@ -75,7 +85,7 @@ fn write_planned<R, S: Store, G: Gate + Sync>(
 where
     R: Threads + Wait + Sync,
     requires dataset { length dataset.now ≤ 200 }
-    requires raw { scale.now.encoding ≡ Raw }
+    requires writable { IsWritable scale.now }
     requires fits { All (IsWriteOf scale.now) writes }
     ensures put { IfSome (S.objects store.old) (λ m. PutsWrites result m (S.objects store.new) dataset.now scale.now writes) }
     ensures draft { Drops (S.draft store.old) (S.draft store.new) }
@@ -87,7 +97,7 @@ where
     put_plan(rt, alloc, store, dataset, scale, &mut plan, workers, gate)
 }
 
-// Writes a stream into a scale whose folder is empty.
+// Writes a stream into a scale that keeps the writing limit and whose folder is empty.
 fn write_stream<R, S: Store, F: Feed, G: Gate + Sync>(
     rt: &R,
     alloc: Global,
@@ -101,7 +111,7 @@ fn write_stream<R, S: Store, F: Feed, G: Gate + Sync>(
 where
     R: Threads + Wait + Sync,
     requires dataset { length dataset.now ≤ 200 }
-    requires served { IsServed scale.now }
+    requires writable { IsWritable scale.now }
     ensures judges { IfSome (S.objects store.old) (λ m. Judges result (Ok scale.now) m dataset.now) }
     ensures writes { (key : List ℕ) → IfSome (S.objects store.old) (λ m. IfSome (F.left feed.old) (λ bytes. WritesScale result m (S.objects store.new) bytes (F.left feed.new) dataset.now key scale.now)) }
     ensures feed { KeepsFeed result (F.left feed.old) (F.left feed.new) }
@@ -123,7 +133,7 @@ where
     write_planned(rt, alloc, store, dataset, scale, writes, workers, gate)
 }
 
-/// Writes a stream into the scale of a key, whose folder is empty.
+/// Writes a stream into the scale of a key, which keeps the writing limit and whose folder is empty.
 pub(crate) fn write_objects<R, S: Store, F: Feed, G: Gate + Sync>(
     rt: &R,
     alloc: Global,
@@ -149,6 +159,7 @@ where
     ensures feed_fault { result ≡ Err WriteRefusal.FeedFault → Rose (F.faults feed.old) (F.faults feed.new) }
 {
     let scale = read_scale(alloc, store, dataset, key)?;
+    judge_limit(&scale)?;
     write_stream(rt, alloc, store, feed, dataset, &scale, workers, gate)
 }
 

@@ -1,6 +1,6 @@
 use Rattle.std.proofs.Common.{◌∙◌, ap, arith, length}
 use Rattle.vol_spec.specs.Codes.{code_of}
-use Rattle.cutout.proofs.ReadSteps.{limit_small}
+use Rattle.segment_cells.proofs.CellSteps.{limit_first}
 use Rattle.cutout.proofs.StoredSteps.{keeps_as, keeps_index, own_cost, own_told, sharded_cost, sharded_told}
 use Rattle.cutout.proofs.chunk.read_stored.Goals as goal
 
@@ -27,6 +27,6 @@ returns-in-None-clause-read g c =
 
 pub returns-in-None-clause-asked : goal.returns-in-None-clause-asked
 returns-in-None-clause-asked g c =
-    let small = limit_small c.args.scale.now c.args.cell c.requires.raw in
+    let small = limit_first c.args.scale.now c.args.cell in
     own_cost (g.S.Source.objects c.args.store.now) c.args.dataset.now c.args.scale.now c.args.cell (length c.args.buffer.now) (g.S.Source.asked c.args.store.now) (g.S.Source.asked c.read_object.new.store) c.in-None.is
-    c.requires.raw (omega (arith, small, c.requires.limit, c.requires.room)) c.read_object.ensures.asked
+    (omega (arith, small, c.requires.limit, c.requires.room)) c.read_object.ensures.asked

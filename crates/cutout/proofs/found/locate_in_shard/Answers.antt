@@ -1,25 +1,14 @@
-use Rattle.std.proofs.Common.{◌≡◌, ◌∙◌, ap, arith}
-use Rattle.vol_spec.proofs.Plain.{limit-raw}
+use Rattle.std.proofs.Common.{◌≡◌, ◌∙◌, ap}
 use Rattle.vol_spec.specs.Codes.{code_of}
-use Rattle.vol_spec.specs.Encodings.{cell_limit}
 use Rattle.vol_spec.specs.Places.{id_of}
 use Rattle.vol_spec.specs.ShardNames.{shard_name}
 use Rattle.cutout.proofs.FoundSteps.{absent_told, fault_told, search_told, span_told}
-use Rattle.cutout.proofs.ReadSteps.{cell_len}
 use Rattle.cutout.proofs.found.locate_in_shard.Goals as goal
-
-pub overflow_cast-limit : goal.overflow_cast-limit
-overflow_cast-limit g c =
-    let len = cell_len c.args.scale.now c.args.cell c.cell_box-part.result c.byte_len-limit.result c.cell_box-part.ensures.positions c.byte_len-limit.ensures in
-    omega (arith, len.first, len.small)
 
 pub returns-in-Err-clause-found : goal.returns-in-Err-clause-found
 returns-in-Err-clause-found g c =
-    let len = cell_len c.args.scale.now c.args.cell c.cell_box-part.result c.byte_len-limit.result c.cell_box-part.ensures.positions c.byte_len-limit.ensures in
-    let is = limit-raw c.args.scale.now c.requires.raw c.args.cell in
-    let limit : c.byte_len-limit.result ≡ cell_limit c.args.scale.now c.args.cell = omega (arith, len.is, is) in
     let id : c.code-id.result ≡ id_of c.args.scale.now c.args.cell = c.code-id.ensures ∙ ap (λ size. code_of size c.args.cell) c.grid.ensures in
-    fault_told (g.S.Source.objects c.args.store.now) c.args.dataset.now c.args.scale.now c.args.cell c.args.sharding.now c.byte_len-limit.result c.code-id.result c.in-Err.fault c.place_fault.result c.requires.sharding limit id
+    fault_told (g.S.Source.objects c.args.store.now) c.args.dataset.now c.args.scale.now c.args.cell c.args.sharding.now c.chunk_limit-limit.result c.code-id.result c.in-Err.fault c.place_fault.result c.requires.sharding c.chunk_limit-limit.ensures.limit id
     c.place_fault.ensures c.in-Err.ensures.found
 
 pub returns-in-Err-clause-asked : goal.returns-in-Err-clause-asked
@@ -29,11 +18,8 @@ returns-in-Err-clause-asked g c =
 
 pub returns-in-Ok-None-clause-found : goal.returns-in-Ok-None-clause-found
 returns-in-Ok-None-clause-found g c =
-    let len = cell_len c.args.scale.now c.args.cell c.cell_box-part.result c.byte_len-limit.result c.cell_box-part.ensures.positions c.byte_len-limit.ensures in
-    let is = limit-raw c.args.scale.now c.requires.raw c.args.cell in
-    let limit : c.byte_len-limit.result ≡ cell_limit c.args.scale.now c.args.cell = omega (arith, len.is, is) in
     let id : c.code-id.result ≡ id_of c.args.scale.now c.args.cell = c.code-id.ensures ∙ ap (λ size. code_of size c.args.cell) c.grid.ensures in
-    absent_told (g.S.Source.objects c.args.store.now) c.args.dataset.now c.args.scale.now c.args.cell c.args.sharding.now c.byte_len-limit.result c.code-id.result c.in-Ok-None.field-0 c.requires.sharding limit id c.in-Ok-None.field-0-is c.in-Ok-None.ensures.found
+    absent_told (g.S.Source.objects c.args.store.now) c.args.dataset.now c.args.scale.now c.args.cell c.args.sharding.now c.chunk_limit-limit.result c.code-id.result c.in-Ok-None.field-0 c.requires.sharding c.chunk_limit-limit.ensures.limit id c.in-Ok-None.field-0-is c.in-Ok-None.ensures.found
 
 pub returns-in-Ok-None-clause-asked : goal.returns-in-Ok-None-clause-asked
 returns-in-Ok-None-clause-asked g c =
@@ -42,12 +28,9 @@ returns-in-Ok-None-clause-asked g c =
 
 pub returns-in-Ok-Some-clause-found : goal.returns-in-Ok-Some-clause-found
 returns-in-Ok-Some-clause-found g c =
-    let len = cell_len c.args.scale.now c.args.cell c.cell_box-part.result c.byte_len-limit.result c.cell_box-part.ensures.positions c.byte_len-limit.ensures in
-    let is = limit-raw c.args.scale.now c.requires.raw c.args.cell in
-    let limit : c.byte_len-limit.result ≡ cell_limit c.args.scale.now c.args.cell = omega (arith, len.is, is) in
     let id : c.code-id.result ≡ id_of c.args.scale.now c.args.cell = c.code-id.ensures ∙ ap (λ size. code_of size c.args.cell) c.grid.ensures in
     rw c.in-Ok-Some.span-is
-    (span_told (g.S.Source.objects c.args.store.now) c.args.dataset.now c.args.scale.now c.args.cell c.args.sharding.now c.byte_len-limit.result c.code-id.result c.shard_name.result c.in-Ok-Some.span c.in-Ok-Some.field-0 c.requires.sharding limit id
+    (span_told (g.S.Source.objects c.args.store.now) c.args.dataset.now c.args.scale.now c.args.cell c.args.sharding.now c.chunk_limit-limit.result c.code-id.result c.shard_name.result c.in-Ok-Some.span c.in-Ok-Some.field-0 c.requires.sharding c.chunk_limit-limit.ensures.limit id
     (c.shard_name.ensures ∙ ap (shard_name c.args.dataset.now c.args.scale.now) c.place.ensures.shard) c.in-Ok-Some.field-0-is c.in-Ok-Some.ensures.found)
 
 pub returns-in-Ok-Some-clause-asked : goal.returns-in-Ok-Some-clause-asked

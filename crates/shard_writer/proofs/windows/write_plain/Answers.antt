@@ -6,19 +6,19 @@ pub returns-in_err-bytes-clause-front : goal.returns-in_err-bytes-clause-front
 returns-in_err-bytes-clause-front g c =
     beside_fault c.from_residual-in_err-bytes.result _
     (all_front (g.S.Source.objects c.args.store.now) (g.S.Source.objects c.write_windows.new.store) c.args.dataset.now (g.C.Chunks.work c.args.chunks.now) c.args.scale.now _
-    c.requires.scale c.requires.raw c.requires.unsharded c.count_jobs-count.ensures c.in_err-bytes.ensures.front)
+    c.requires.scale c.requires.unsharded c.count_jobs-count.ensures c.in_err-bytes.ensures.front)
 
 pub returns-clause-put : goal.returns-clause-put
 returns-clause-put g c =
     all_put (g.S.Source.objects c.args.store.now) (g.S.Source.objects c.write_windows.new.store) c.args.dataset.now (g.C.Chunks.work c.args.chunks.now) c.args.scale.now _
-    c.requires.scale c.requires.raw c.requires.unsharded c.count_jobs-count.ensures c.in_ok-bytes.ensures.put
+    c.requires.scale c.requires.unsharded c.count_jobs-count.ensures c.in_ok-bytes.ensures.put
 
 pub returns-clause-objects : goal.returns-clause-objects
 returns-clause-objects g c =
     all_number c.args.dataset.now (g.C.Chunks.work c.args.chunks.now) c.args.scale.now (g.S.Source.objects c.args.store.now) c.count_jobs-count.result
-    c.requires.scale c.requires.raw c.requires.unsharded c.count_jobs-count.ensures
+    c.requires.scale c.requires.unsharded c.count_jobs-count.ensures
 
 pub returns-clause-bytes : goal.returns-clause-bytes
 returns-clause-bytes g c =
     all_bytes c.args.dataset.now (g.C.Chunks.work c.args.chunks.now) c.args.scale.now (g.S.Source.objects c.args.store.now) c.count_jobs-count.result c.in_ok-bytes.bytes
-    c.requires.scale c.requires.raw c.requires.unsharded c.count_jobs-count.ensures (g.met.C.Chunks.lens c.args.chunks.now) c.in_ok-bytes.ensures.bytes
+    c.requires.scale c.requires.unsharded c.count_jobs-count.ensures c.in_ok-bytes.ensures.told c.in_ok-bytes.ensures.plain

@@ -1,4 +1,4 @@
-use Rattle.chunk_laws.proofs.SegSteps.{in_chunk}
+use Rattle.segment_cells.proofs.SegSteps.{in_chunk}
 use Rattle.vol_plain.proofs.ValueSteps.{cell_small}
 use Rattle.vol_plain.proofs.chunks.find_value.Goals as goal
 

@@ -1,12 +1,16 @@
+use Rattle.std.proofs.Common.{◌+◌, ◌≤◌, IfSome, subst}
 use Rattle.vol_spec.specs.Costs.{cost}
-use Rattle.vol_tool.proofs.AskSteps.{asks_none}
+use Rattle.vol_tool.specs.Cutouts.{CutsScale}
 use Rattle.vol_tool.proofs.cut_out.cut_scale.Goals as goal
 
-pub returns-in_err-len-clause-asked : goal.returns-in_err-len-clause-asked
-returns-in_err-len-clause-asked g c = asks_none (g.S.Source.objects c.args.store.now) (λ m. cost m c.args.dataset.now c.args.scale.now c.args.part.now) (g.S.Source.asked c.args.store.now)
+pub returns-clause-cuts : goal.returns-clause-cuts
+returns-clause-cuts g c =
+    subst (λ d. IfSome (g.S.Source.objects c.args.store.now) (λ m. CutsScale c.cut_into.result m d c.args.scale.now c.args.part.now (g.O.Outlet.written c.args.out.now) (g.O.Outlet.written c.cut_into.new.out))) c.in_ok-reader.ensures.dataset
+    (subst (λ s. IfSome (g.S.Source.objects c.args.store.now) (λ m. CutsScale c.cut_into.result m c.in_ok-reader.reader.dataset s c.args.part.now (g.O.Outlet.written c.args.out.now) (g.O.Outlet.written c.cut_into.new.out))) c.in_ok-reader.ensures.scale
+    c.cut_into.ensures.cuts)
 
-pub returns-in_err-values-clause-asked : goal.returns-in_err-values-clause-asked
-returns-in_err-values-clause-asked g c = asks_none (g.S.Source.objects c.args.store.now) (λ m. cost m c.args.dataset.now c.args.scale.now c.args.part.now) (g.S.Source.asked c.args.store.now)
-
-pub returns-in_err-reader-clause-asked : goal.returns-in_err-reader-clause-asked
-returns-in_err-reader-clause-asked g c = asks_none (g.S.Source.objects c.args.store.now) (λ m. cost m c.args.dataset.now c.args.scale.now c.args.part.now) (g.S.Source.asked c.args.store.now)
+pub returns-clause-asked : goal.returns-clause-asked
+returns-clause-asked g c =
+    subst (λ d. IfSome (g.S.Source.objects c.args.store.now) (λ m. g.S.Source.asked c.cut_into.new.store ≤ g.S.Source.asked c.args.store.now + cost m d c.args.scale.now c.args.part.now)) c.in_ok-reader.ensures.dataset
+    (subst (λ s. IfSome (g.S.Source.objects c.args.store.now) (λ m. g.S.Source.asked c.cut_into.new.store ≤ g.S.Source.asked c.args.store.now + cost m c.in_ok-reader.reader.dataset s c.args.part.now)) c.in_ok-reader.ensures.scale
+    c.cut_into.ensures.asked)

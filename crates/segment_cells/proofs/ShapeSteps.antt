@@ -10,7 +10,7 @@ use Rattle.vol_spec.specs.declared.encoding.Encoding.{Encoding}
 use Rattle.vol_spec.specs.declared.encoding.Encoding.TheVariants.{Seg}
 use Rattle.vol_spec.specs.declared.scale.Scale.{Scale}
 use Rattle.chunk_grid.proofs.GridSteps.{cell_box-short}
-use Rattle.chunk_laws.proofs.SegSteps.{padded_short, size_limits, width_is}
+use Rattle.segment_cells.proofs.SegSteps.{padded_short, size_limits, width_is}
 
 clipped : (a b c n w : ℕ) → min a a * min b b * min c c * n * w ≡ a * b * c * n * w
 clipped a b c n w =

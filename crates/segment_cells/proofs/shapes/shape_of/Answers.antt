@@ -3,8 +3,8 @@ use Rattle.vol_base.specs.Grids.{AreSizes}
 use Rattle.vol_base.specs.declared.boxes.Box3.{Box3}
 use Rattle.vol_spec.specs.Limits.{first_bytes, padded_voxels}
 use Rattle.vol_spec.specs.SegSizes.{width_of}
-use Rattle.vol_plain.proofs.ShapeSteps.{padded, raw, sizes}
-use Rattle.vol_plain.proofs.chunks.shape_of.Goals as goal
+use Rattle.segment_cells.proofs.ShapeSteps.{padded, raw, sizes}
+use Rattle.segment_cells.proofs.shapes.shape_of.Goals as goal
 
 pub invariant_of-result : goal.invariant_of-result
 invariant_of-result c =

@@ -4,7 +4,7 @@ use Rattle.segment_blocks.proofs.Shapes.{facts, limits}
 use Rattle.vol_spec.specs.Limits.{rounded}
 use Rattle.vol_spec.specs.SegBlocks.{block, blocks_on, size}
 use Rattle.vol_spec.specs.SegShapes.{sizes_of}
-use Rattle.vol_plain.proofs.chunks.seg_limit.Goals as goal
+use Rattle.segment_cells.proofs.shapes.seg_limit.Goals as goal
 
 pub overflow_mul-result-2 : goal.overflow_mul-result-2
 overflow_mul-result-2 c =

@@ -1,0 +1,3 @@
+pub mod CellSteps
+pub mod SegSteps
+pub mod ShapeSteps

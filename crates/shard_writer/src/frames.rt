@@ -1,0 +1,18 @@
+//! Memory for a chunk, taken before the first call of a store.
+
+use segment_blocks::Scratch;
+
+/// Room for each chunk of a scale, and for what encoding it takes. Raw chunks take nothing more.
+#[derive(Drop)]
+pub(crate) struct Frames {
+    pub chunk: Vec<u8>,
+    pub segments: Option<Segments>,
+}
+
+/// What encoding a chunk in blocks takes: room for its values, and a scratch.
+#[derive(Drop)]
+pub(crate) struct Segments {
+    pub block: [u64; 3],
+    pub values: Vec<u8>,
+    pub scratch: Scratch,
+}
