@@ -17,7 +17,7 @@ import struct
 import sys
 
 from program import DAMAGED, OK, compare, info_of, run, stream_of, tell_all
-from segments import BITS, Shape, bytes_of, decode, encode, least_bits, packed_words, values_in, words_of
+from segments import BITS, Shape, bytes_of, decode, encode, packed_words, values_in, words_of
 from sharded import box_of, pick_sharding
 from shards import Damaged, Sharding, cells_of, code_of, files_of, grid_of
 from writes import (
@@ -401,6 +401,21 @@ def judge_longest(program, scale, folder):
     return compare_cuts(program, folder, scale, chunks, [whole(scale)])
 
 
+CLIPPED_CELL = (2, 0, 0)
+
+
+@in_folder
+def judge_clipped(program, scale, more, folder):
+    """A chunk of a clipped cell may be as long as its own size allows, and no longer."""
+    chunk, limit = ascending(scale)[CLIPPED_CELL], scale.limit(CLIPPED_CELL)
+    store(folder, scale, {**ascending(scale), CLIPPED_CELL: chunk.ljust(limit + more, b"\xff")})
+    box = box_of(scale, CLIPPED_CELL)
+    if more == 0:
+        return compare_cuts(program, folder, scale, ascending(scale), [box])
+    found = f"seg length {limit + 1}" if scale.sharding is None else f"chunk too long {limit + more} limit {limit}"
+    return compare(cut(program, folder, box), (DAMAGED, b"", f"damaged 2,0,0: {found}\n".encode()))
+
+
 # title, channels, bytes of a value, words of a chunk of one block without bits, and the value of all voxels. The table is
 # among the words of the header, so the headers end with the chunk, and the place of the indices lies behind it.
 SHORT = [
@@ -433,6 +448,9 @@ def judge_faults(program):
         for title, other, line in lengths_of(scale):
             yield f"{title}, {form}, {width} bytes a value", judge_broken(program, scale, other, line)
         yield f"the longest chunk, {form}, {width} bytes a value", judge_longest(program, scale)
+        assert scale.limit(CLIPPED_CELL) < scale.limit(DAMAGED_CELL)
+        for more in (0, 4):
+            yield f"a clipped chunk, {more} bytes too long, {form}, {width} bytes a value", judge_clipped(program, scale, more)
     for (form, sharding), (title, channels, width, words, value) in itertools.product(SHARDINGS.items(), SHORT):
         yield f"{title}, {form}", judge_short(program, channels, width, sharding, words, value)
 
