@@ -29,6 +29,9 @@ const FEW: Layout = Layout { size: 96, chunk: 32, channels: 1, width: 1, block: 
 /// A segmentation of 64-bit labels: 128 MiB of them in 64 chunks, each of 512 blocks.
 const LABELS: Layout = Layout { size: 256, chunk: 64, channels: 1, width: 8, block: Some(8) };
 
+/// A large segmentation of 64-bit labels: 8 GiB of them in 4,096 chunks, each of 512 blocks.
+const LARGE: Layout = Layout { size: 1024, chunk: 64, channels: 1, width: 8, block: Some(8) };
+
 /// The begin and the end of a box on each axis, x first.
 pub type Spans = [(usize, usize); 3];
 
@@ -44,6 +47,7 @@ impl Layout {
             "many" => Some(MANY),
             "few" => Some(FEW),
             "labels" => Some(LABELS),
+            "large" => Some(LARGE),
             _ => None,
         }
     }

@@ -5,11 +5,12 @@
 //!     plain_sharded LAYOUT make DATASET                 writes the dataset, with the scale s
 //!     plain_sharded LAYOUT info DATASET                 writes its info alone
 //!     plain_sharded LAYOUT cutout DATASET KEY BOX       writes the values of the box to standard output
-//!     plain_sharded LAYOUT write DATASET KEY            reads a stream from standard input and writes its shards
+//!     plain_sharded LAYOUT write DATASET KEY [WORKERS]  reads a stream from standard input and writes its shards
 //!
 //! For a cutout the shard and the index that were read last are kept. Each chunk is one pread, and is copied by rows. A
 //! write reads the whole stream first. Each chunk is made in memory and appended to the shard's file, which ends in .part and
-//! is renamed; the entries are written last.
+//! is renamed; the entries are written last. With several workers each window of 256 chunks is made by as many threads, which
+//! take one chunk after the other, and then appended in order.
 
 #[allow(dead_code)]
 mod layout;
@@ -26,6 +27,9 @@ use std::io::{self, Write};
 use std::os::unix::fs::FileExt;
 use std::path::{Path, PathBuf};
 use std::process::ExitCode;
+use std::sync::atomic::{AtomicUsize, Ordering};
+use std::sync::OnceLock;
+use std::thread;
 use writes::{fill_chunk, met_cells, read_stream, BoxWrite};
 
 const PRESHIFT: u32 = 3;
@@ -267,19 +271,70 @@ fn plan(layout: &Layout, writes: &[BoxWrite]) -> Shards<([usize; 3], Vec<usize>)
     plan
 }
 
-fn write(layout: &Layout, folder: &Path) -> io::Result<()> {
+/// A cell, and the numbers of the writes that meet it.
+type Job = ([usize; 3], Vec<usize>);
+
+/// Makes one chunk after the other.
+struct Maker<'a> {
+    layout: &'a Layout,
+    writes: &'a [BoxWrite],
+    segments: Option<Segments>,
+    values: Vec<u8>,
+}
+
+impl<'a> Maker<'a> {
+    fn new(layout: &'a Layout, writes: &'a [BoxWrite]) -> Maker<'a> {
+        let values = vec![0; layout.bytes_of(&layout.cell_box([0, 0, 0]))];
+        Maker { layout, writes, segments: Segments::of(layout), values }
+    }
+
+    fn make(&mut self, (cell, numbers): &Job) -> &[u8] {
+        fill_chunk(self.layout, self.writes, numbers, *cell, &mut self.values);
+        match &mut self.segments {
+            Some(segments) => segments.encode(&self.values),
+            None => &self.values,
+        }
+    }
+}
+
+/// Makes the chunks of a window of jobs, in order.
+fn make_window(layout: &Layout, writes: &[BoxWrite], jobs: &[&Job], workers: usize) -> Vec<Vec<u8>> {
+    let next = AtomicUsize::new(0);
+    let made: Vec<OnceLock<Vec<u8>>> = jobs.iter().map(|_| OnceLock::new()).collect();
+    thread::scope(|scope| {
+        for _ in 0..workers {
+            scope.spawn(|| {
+                let mut maker = Maker::new(layout, writes);
+                loop {
+                    let number = next.fetch_add(1, Ordering::Relaxed);
+                    let Some(job) = jobs.get(number) else {
+                        break;
+                    };
+                    made[number].set(maker.make(job).to_vec()).unwrap();
+                }
+            });
+        }
+    });
+    made.into_iter().map(|chunk| chunk.into_inner().unwrap()).collect()
+}
+
+fn write(layout: &Layout, folder: &Path, workers: usize) -> io::Result<()> {
     let writes = read_stream(layout, &mut io::stdin())?;
     fs::create_dir_all(folder)?;
     let plan = plan(layout, &writes);
-    let mut segments = Segments::of(layout);
-    let mut values = vec![0; layout.bytes_of(&layout.cell_box([0, 0, 0]))];
+    let jobs: Vec<&Job> = plan.values().flat_map(BTreeMap::values).collect();
+    let mut windows = jobs.chunks(256).map(|window| make_window(layout, &writes, window, workers));
+    let mut ahead = Vec::new().into_iter();
+    let mut maker = Maker::new(layout, &writes);
     for (shard, chunks) in &plan {
-        write_shard(folder, *shard, chunks, |file, (cell, numbers)| {
-            fill_chunk(layout, &writes, numbers, *cell, &mut values);
-            file.append(match &mut segments {
-                Some(segments) => segments.encode(&values),
-                None => &values,
-            })
+        write_shard(folder, *shard, chunks, |file, job| {
+            if workers == 1 {
+                return file.append(maker.make(job));
+            }
+            if ahead.len() == 0 {
+                ahead = windows.next().unwrap().into_iter();
+            }
+            file.append(&ahead.next().unwrap())
         })?;
     }
     let cells: usize = plan.values().map(BTreeMap::len).sum();
@@ -310,7 +365,10 @@ fn main() -> ExitCode {
     layout::run_with(|layout, words| match *words {
         ["make", dataset] => Some(make(layout, Path::new(dataset))),
         ["info", dataset] => Some(layout.make_info(Path::new(dataset), &members(layout))),
-        ["write", dataset, key] => Some(write(layout, &Path::new(dataset).join(key))),
+        ["write", dataset, key] => Some(write(layout, &Path::new(dataset).join(key), 1)),
+        ["write", dataset, key, workers] => {
+            Some(write(layout, &Path::new(dataset).join(key), workers.parse().ok()?))
+        }
         ["cutout", dataset, key, part] => {
             let part = layout.parse_box(part)?;
             let folder = Path::new(dataset).join(key);

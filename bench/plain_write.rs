@@ -6,7 +6,8 @@
 //!     plain_write LAYOUT write DATASET KEY     reads a stream from standard input and writes its objects
 //!
 //! FORM is `whole`: the whole volume, and a cube of half its side that is in no line with the chunks; or `boxes`: 40 boxes
-//! at random, each of at most half the volume's side on each axis; or `voxels`: 20,000 voxels at random.
+//! at random, each of at most half the volume's side on each axis; or `voxels`: 20,000 voxels at random; or `labelled`: 4,096
+//! boxes at random, each of at most 24 voxels on each axis, with a few labels of its own.
 //!
 //! The whole stream is read first. Each chunk is made in memory from the writes that meet it, written to a file that
 //! ends in .part, and renamed.
@@ -78,8 +79,20 @@ fn pick_parts(layout: &Layout, noise: &mut Noise, form: &str) -> Option<Vec<Span
         "whole" => Some(vec![[(0, layout.size); 3], [(quarter, quarter + half); 3]]),
         "boxes" => Some(pick_boxes(layout, noise, 40, half)),
         "voxels" => Some(pick_boxes(layout, noise, 20_000, 1)),
+        "labelled" => Some(pick_boxes(layout, noise, 4_096, 24)),
         _ => None,
     }
+}
+
+/// The bytes of a box's values: labels of the box alone, or any.
+fn pick_values(layout: &Layout, noise: &mut Noise, form: &str, number: usize, part: &Spans) -> Vec<u8> {
+    let bytes = layout.bytes_of(part);
+    if form != "labelled" {
+        return noise.take(bytes);
+    }
+    let labels = noise.take(bytes / layout.width);
+    let label = |pick: &u8| (8 * number + usize::from(pick & 7)).to_le_bytes();
+    labels.iter().flat_map(|pick| label(pick)[..layout.width].to_vec()).collect()
 }
 
 fn write_stream(layout: &Layout, form: &str) -> io::Result<()> {
@@ -88,14 +101,14 @@ fn write_stream(layout: &Layout, form: &str) -> io::Result<()> {
     let mut out = io::BufWriter::new(io::stdout().lock());
     out.write_all(b"PVW1")?;
     out.write_all(&(parts.len() as u32).to_le_bytes())?;
-    for part in &parts {
+    for (number, part) in parts.iter().enumerate() {
         for (begin, _) in part {
             out.write_all(&(*begin as i64).to_le_bytes())?;
         }
         for (begin, end) in part {
             out.write_all(&((end - begin) as u64).to_le_bytes())?;
         }
-        out.write_all(&noise.take(layout.bytes_of(part)))?;
+        out.write_all(&pick_values(layout, &mut noise, form, number, part))?;
     }
     out.flush()
 }

@@ -7,7 +7,6 @@ use Rattle.vol_base.specs.declared.faults.ChunkFault.{ChunkFault}
 use Rattle.vol_base.specs.Bytes.{AreBytes}
 use Rattle.vol_spec.specs.Encodings.{by_encoding, cell_limit, chunk_fault, encoded, raw_size, sizes_in, value_at}
 use Rattle.vol_spec.specs.Grid.{IsCell, cell_box}
-use Rattle.vol_spec.specs.Limits.{padded_of}
 use Rattle.vol_spec.specs.Raw.{raw_at, raw_fault}
 use Rattle.vol_spec.specs.SegChunks.{seg_at}
 use Rattle.vol_spec.specs.SegFaults.{seg_fault}
@@ -16,6 +15,7 @@ use Rattle.vol_spec.specs.SegWritten.{seg_bytes}
 use Rattle.vol_spec.specs.declared.encoding.Encoding.{Encoding}
 use Rattle.vol_spec.specs.declared.encoding.Encoding.TheVariants.{Raw, Seg}
 use Rattle.vol_spec.specs.declared.scale.Scale.{Scale}
+use Rattle.vol_spec.specs.Writable.{IsWritable}
 use Rattle.chunk_grid.proofs.GridSteps.{cell_box-short}
 use Rattle.segment_cells.proofs.SegSteps.{padded_in_cell, seg_short, seg_sound, seg_value}
 
@@ -26,7 +26,7 @@ none_where false fault e = absurd (cc e)
 equal_true : (m n : ℕ) → m ≡ n → (m == n) ≡ true
 equal_true m n e = grind (arith, nat_tests)
 
-module _ (s : Scale) (cell raw : List ℕ) (is : IsCell s cell) (can : padded_of s.encoding s.channels s.size s.chunk ≤ 2 ^ 22) (len : length raw ≡ raw_size s cell) where
+module _ (s : Scale) (cell raw : List ℕ) (is : IsCell s cell) (can : IsWritable s) (len : length raw ≡ raw_size s cell) where
   -- by either encoding
   either : (P : Encoding → Type 0) → (s.encoding ≡ Raw → P Raw) → ((block : List ℕ) → s.encoding ≡ Seg block → P (Seg block)) → P s.encoding
   either P raw_case seg_case = by s.encoding refl

@@ -16,10 +16,10 @@ use Rattle.vol_spec.specs.Chunks.{value_in}
 use Rattle.vol_spec.specs.Cut.{cut, faulty, first_fault}
 use Rattle.vol_spec.specs.Grid.{Inside, IsCell, cells_in}
 use Rattle.vol_spec.specs.LastWrite.{last, zeros}
-use Rattle.vol_spec.specs.Limits.{padded_of}
 use Rattle.vol_spec.specs.StoredCells.{chunks_of, met_cells, put_in, raw_bytes}
 use Rattle.vol_spec.specs.StoredLists.{stored_list}
 use Rattle.vol_spec.specs.declared.scale.Scale.{Scale}
+use Rattle.vol_spec.specs.Writable.{IsWritable}
 use Rattle.chunk_grid.proofs.ListingSteps.{cells_in-IsCell}
 use Rattle.chunk_laws.proofs.WrittenSteps.{written_sound, written_value}
 
@@ -27,7 +27,7 @@ none_first : {X Y : Type 0} (f : X → Option Y) (xs : List X) → All (λ x. f 
 none_first f [] h = refl
 none_first f (x ∷ xs) h = ap (λ o. first_some (o ∷ map f xs)) (All-head (λ x. f x ≡ None) x xs h) ∙ none_first f xs (All-tail (λ x. f x ≡ None) x xs h)
 
-module _ (s : Scale) (writes : List (Box3 × List ℕ)) (few : length (met_cells s writes) ≤ 2 ^ 22) (can : padded_of s.encoding s.channels s.size s.chunk ≤ 2 ^ 22)
+module _ (s : Scale) (writes : List (Box3 × List ℕ)) (few : length (met_cells s writes) ≤ 2 ^ 22) (can : IsWritable s)
     (m : Objects) (dataset : List ℕ) (none : any_under m (folder_of dataset s) ≡ false) where
   -- no cell of a box has a fault
   pub written_faultless : (b : Box3) → first_fault (put_in m (stored_list dataset s (chunks_of s zeros writes))) dataset s b ≡ None

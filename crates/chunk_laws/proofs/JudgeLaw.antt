@@ -13,7 +13,6 @@ use Rattle.vol_spec.specs.Chunks.{fault_in}
 use Rattle.vol_spec.specs.Encodings.{encoded}
 use Rattle.vol_spec.specs.Grid.{IsCell, cells_in}
 use Rattle.vol_spec.specs.LastWrite.{zeros}
-use Rattle.vol_spec.specs.Limits.{padded_of}
 use Rattle.vol_spec.specs.Places.{hashed, id_of, minishard_of, shard_of}
 use Rattle.vol_spec.specs.ShardNames.{shard_name, shard_bits_of, shard_file}
 use Rattle.vol_spec.specs.StoredBytes.{object_by, object_of}
@@ -23,6 +22,7 @@ use Rattle.vol_spec.specs.StoredShards.{has_chunk, objects_in, placed}
 use Rattle.vol_spec.specs.Verdicts.{Sound, damage, index_wrong, judge}
 use Rattle.vol_spec.specs.declared.scale.Scale.{Scale}
 use Rattle.vol_spec.specs.declared.sharding.Sharding.{Sharding}
+use Rattle.vol_spec.specs.Writable.{IsWritable}
 use Rattle.chunk_grid.proofs.ListingSteps.{cells_in-IsCell}
 use Rattle.chunk_grid.proofs.NameSteps.{is_under-joined}
 use Rattle.chunk_laws.proofs.Law.{list_by, small}
@@ -66,7 +66,7 @@ module _ (dataset : List ℕ) (s : Scale) (raw : List ℕ → List ℕ) (cells :
       ∙ ap (λ f. first_some (None ∷ damage f ∷ [])) none
 
 -- so what writes are stored as is sound in every box
-pub written_whole : (s : Scale) (writes : List (Box3 × List ℕ)) (m : Objects) (dataset : List ℕ) (b : Box3) → length (met_cells s writes) ≤ 2 ^ 22 → padded_of s.encoding s.channels s.size s.chunk ≤ 2 ^ 22
+pub written_whole : (s : Scale) (writes : List (Box3 × List ℕ)) (m : Objects) (dataset : List ℕ) (b : Box3) → length (met_cells s writes) ≤ 2 ^ 22 → IsWritable s
     → any_under m (folder_of dataset s) ≡ false → Sound (put_in m (stored_list dataset s (chunks_of s zeros writes))) dataset s b
 written_whole s writes m dataset b few can empty =
     All-weaker (IsCell s) (λ cell. judge (put_in m (stored_list dataset s (chunks_of s zeros writes))) dataset s cell ≡ None)

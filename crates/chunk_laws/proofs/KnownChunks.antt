@@ -20,7 +20,7 @@ use Rattle.vol_spec.specs.BoxValues.{before_fault, bytes_of, first_some}
 use Rattle.vol_spec.specs.Chunks.{chunk_in, fault_of, judged, value_of}
 use Rattle.vol_spec.specs.Costs.{cost, cost_by}
 use Rattle.vol_spec.specs.Cut.{cut, first_fault}
-use Rattle.vol_spec.specs.Encodings.{blocks_of, encoded}
+use Rattle.vol_spec.specs.Encodings.{blocks_of, cell_limit, encoded}
 use Rattle.vol_spec.specs.Entries.{entry_bytes, entry_of}
 use Rattle.vol_spec.specs.FoundChunks.{found}
 use Rattle.vol_spec.specs.IndexBytes.{eight, numbers}
@@ -598,6 +598,37 @@ three_five_says = refl
 three_five_value : value_of clipped_segments second (says clipped_segments second three_five) (pos 2 ∷ pos 1 ∷ pos 0 ∷ []) 0 ≡ Ok 5
 unfolding seg_fault word field in_chunk entry
 three_five_value = refl
+
+-- the same cells in blocks of one voxel: the second one, of 1 by 2 voxels, has a smaller limit than the first
+abbrev fine_segments : Scale
+fine_segments = record {
+  key = key;
+  width = 4;
+  channels = 1;
+  size = 3 ∷ 2 ∷ 1 ∷ [];
+  offset = no_offset;
+  chunk = 2 ∷ 2 ∷ 1 ∷ [];
+  encoding = Seg ones;
+  sharding = None;
+  key_ok = lit≤ tt;
+  width_ok = ∣ inr (inr (inl refl)) ∣₁;
+  some_channels = lit≤ tt;
+  channels_ok = lit≤ tt;
+  size_ok = clipped_segments_ok;
+  offset_ok = no_offset_ok;
+  chunk_ok = square_ok;
+  first_ok = lit≤ tt;
+  wide_ok = λ block e. ∣ inl refl ∣₁;
+  block_ok = ones_blocks;
+  padded_ok = lit≤ tt;
+  codes_ok = λ x e. no_sharding x e;
+}
+
+first_limit : cell_limit fine_segments first ≡ 68
+first_limit = refl
+
+second_limit : cell_limit fine_segments second ≡ 36
+second_limit = refl
 
 -- 7af.shard and 03.shard
 long_name : shard_file 11 1967 ≡ 55 ∷ 97 ∷ 102 ∷ 46 ∷ 115 ∷ 104 ∷ 97 ∷ 114 ∷ 100 ∷ []

@@ -14,11 +14,11 @@ use Rattle.vol_spec.specs.CellNames.{folder_of}
 use Rattle.vol_spec.specs.BoxValues.{bytes_of, channel_of, position_of}
 use Rattle.vol_spec.specs.Encodings.{encoded, raw_size}
 use Rattle.vol_spec.specs.Grid.{IsCell, cell_at, cell_box, whole}
-use Rattle.vol_spec.specs.Limits.{padded_of}
 use Rattle.vol_spec.specs.StoredCells.{chunks_of, met, met_cells, put_in, raw_bytes, written_raw}
 use Rattle.vol_spec.specs.StoredLists.{stored_list}
 use Rattle.vol_spec.specs.LastWrite.{AreValues, Before, last}
 use Rattle.vol_spec.specs.declared.scale.Scale.{Scale}
+use Rattle.vol_spec.specs.Writable.{IsWritable}
 use Rattle.chunk_grid.proofs.GridSteps.{cell_at-Covers, cell_at-IsCell}
 use Rattle.chunk_grid.proofs.OrderSteps.{AreInOrder-met_cells}
 use Rattle.chunk_grid.proofs.StoredSteps.{Contains-met_cells, last_unmet, met-listed}
@@ -52,7 +52,7 @@ pub chunks_are : (s : Scale) (before : Before) (writes : List (Box3 × List ℕ)
 unfolding chunks_of
 chunks_are s before writes = refl
 
-module _ (s : Scale) (before : Before) (writes : List (Box3 × List ℕ)) (few : length (met_cells s writes) ≤ 2 ^ 22) (can : padded_of s.encoding s.channels s.size s.chunk ≤ 2 ^ 22) where
+module _ (s : Scale) (before : Before) (writes : List (Box3 × List ℕ)) (few : length (met_cells s writes) ≤ 2 ^ 22) (can : IsWritable s) where
   pub storable : AreStorable s (written_raw s before writes) (met_cells s writes)
   storable = record {
     order = AreInOrder-met_cells s writes;

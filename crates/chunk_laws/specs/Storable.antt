@@ -5,12 +5,12 @@ use Rattle.vol_base.specs.Bytes.{AreBytes}
 use Rattle.vol_spec.specs.CellNames.{folder_of}
 use Rattle.vol_spec.specs.Encodings.{raw_size}
 use Rattle.vol_spec.specs.LastWrite.{zeros}
-use Rattle.vol_spec.specs.Limits.{padded_of}
 use Rattle.vol_spec.specs.StoredBytes.{object_of}
 use Rattle.vol_spec.specs.StoredCells.{AreInOrder, chunks_of, met_cells, put_in}
 use Rattle.vol_spec.specs.StoredLists.{stored_list}
 use Rattle.vol_spec.specs.Types.{Bytes, Cell, Chunks, Name, Writes}
 use Rattle.vol_spec.specs.declared.scale.Scale.{Scale}
+use Rattle.vol_spec.specs.Writable.{IsWritable}
 
 -- the bytes of each cell's values
 abbrev pub CellBytes : Type 0
@@ -25,7 +25,7 @@ pub record AreStorable (s : Scale) (raw : CellBytes) (cells : List Cell) : Type 
   pub order : AreInOrder s cells
   pub lens : All (λ cell. length (raw cell) ≡ raw_size s cell) cells
   pub few : length cells ≤ 2 ^ 22
-  pub writable : padded_of s.encoding s.channels s.size s.chunk ≤ 2 ^ 22
+  pub writable : IsWritable s
 
 -- objects with cells stored in them
 abbrev pub stored_in : Objects → Name → Scale → CellBytes → List Cell → Objects
@@ -42,7 +42,7 @@ IsBeside dataset s cells cell = (c : Cell) × Contains cells c × (object_of dat
 -- Writes that meet at most 2^22 cells, of bytes; of a segmentation no more padded voxels than are written; and no object in the scale's folder
 pub record AreWritable (m : Objects) (dataset : Name) (s : Scale) (writes : Writes) : Type 0 where
   pub few : length (met_cells s writes) ≤ 2 ^ 22
-  pub writable : padded_of s.encoding s.channels s.size s.chunk ≤ 2 ^ 22
+  pub writable : IsWritable s
   pub bytes : All (λ write. AreBytes write.1) writes
   pub empty : any_under m (folder_of dataset s) ≡ false
 

@@ -1,5 +1,6 @@
+mod LimitSteps
 mod LineSteps
 mod NumberSteps
 mod ParserSteps
-mod ShortSteps
+mod ServeSteps
 mod SortSteps

@@ -2,10 +2,10 @@
 use Rattle.std.proofs.Common.{◌≡◌, ◌<◌, ℕ, List, [], ◌∷◌, true, Option, Some, None, is_some, length, map, option_and_then, arith, refl}
 use Rattle.std.specs.Borrow.{Bor}
 use Rattle.std.specs.Option.{option_map_or}
-use Rattle.command_line.specs.Words.{cutout_line, worker_count, workers, write_line, write_of}
+use Rattle.command_line.specs.Words.{cutout_line, generate_line, generate_of, numbered, worker_count, workers, write_line, write_of}
 
 -- the texts behind references
-abbrev texts : List (Bor (List ℕ)) → List (List ℕ)
+abbrev pub texts : List (Bor (List ℕ)) → List (List ℕ)
 texts words = map (λ word. word.now) words
 
 pub no_cutout : (plain others : List (Bor (List ℕ))) → (length plain ≡ 3 → 0 < length others) → None ≡ cutout_line (texts plain) (texts others)
@@ -38,3 +38,23 @@ pub with_value : (dataset key : Option (List ℕ)) (value : Option (List ℕ)) �
     → write_of dataset key (option_map_or worker_count value (Some 1)) ≡ write_of dataset key (option_and_then worker_count value)
 with_value dataset key None given = cc
 with_value dataset key (Some v) given = refl
+
+-- the same of `generate`
+pub no_generate : (plain others : List (Bor (List ℕ))) → (length plain ≡ 4 → ⊥) → None ≡ generate_line (texts plain) (texts others)
+no_generate [] others h = refl
+no_generate (a ∷ []) others h = refl
+no_generate (a ∷ b ∷ []) others h = refl
+no_generate (a ∷ b ∷ c ∷ []) others h = refl
+no_generate (a ∷ b ∷ c ∷ d ∷ []) others h = absurd (h refl)
+no_generate (a ∷ b ∷ c ∷ d ∷ e ∷ rest) others h = refl
+
+-- but for its numbers a line of `generate` is one of `write`
+pub generate_is : (dataset key : Option (List ℕ)) (n writes count : Option ℕ) → numbered (write_of dataset key count) n writes ≡ generate_of dataset key n writes count
+generate_is (Some d) (Some k) (Some n) (Some writes) (Some count) = refl
+generate_is (Some d) (Some k) (Some n) (Some writes) None = refl
+generate_is (Some d) (Some k) (Some n) None (Some count) = refl
+generate_is (Some d) (Some k) (Some n) None None = refl
+generate_is (Some d) (Some k) None writes (Some count) = refl
+generate_is (Some d) (Some k) None writes None = refl
+generate_is (Some d) None n writes count = refl
+generate_is None key n writes count = refl

@@ -93,7 +93,7 @@ module _ (x y z : ℕ) (v w u : List ℕ) (hx : (x == 45) ≡ false) (hy : (y ==
   unfolding clap_on_literals
   box_three = simp (hx, hy, hz) refl
 
-no_dash : (x : ℕ) (v : List ℕ) → IsTrue (is_plain (x ∷ v)) → (x == 45) ≡ false
+pub no_dash : (x : ℕ) (v : List ℕ) → IsTrue (is_plain (x ∷ v)) → (x == 45) ≡ false
 no_dash x v h = not_true (x == 45) (and_parts (nat_le 1 (length (x ∷ v))) _ h).1
   where
     not_true : (b : Bool) → not b ≡ true → b ≡ false

@@ -16,6 +16,10 @@ option_rule name = record (new_rule name) { long = Some name; action = Some Set 
 abbrev pub cutout_app : App
 cutout_app = with_rule (with_rule (with_rule (new_app (codes "cutout")) (plain_rule (codes "dataset"))) (plain_rule (codes "key"))) (plain_rule (codes "box"))
 
+-- `serve DATASET --port=P --connections=N`
+abbrev pub serve_app : App
+serve_app = with_rule (with_rule (with_rule (new_app (codes "serve")) (plain_rule (codes "dataset"))) (option_rule (codes "port"))) (option_rule (codes "connections"))
+
 -- `write DATASET KEY [--workers=N]`
 abbrev pub write_app : App
 write_app = with_rule (with_rule (with_rule (new_app (codes "write")) (plain_rule (codes "dataset"))) (plain_rule (codes "key"))) (option_rule (codes "workers"))

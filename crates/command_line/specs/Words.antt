@@ -1,7 +1,8 @@
 -- The command line.
-use Rattle.std.specs.Prelude.{ℕ, ◌≤◌, ◌&&◌, ◌||◌, ◌==◌, not, Bool, List, [], ◌∷◌, length, drop, filter, slice_index, nat_eq, nat_le, Option, Some, None, option_and_then, if◌then◌else◌, codes}
+use Rattle.std.specs.Prelude.{ℕ, ◌^◌, ◌<◌, ◌≤◌, ◌&&◌, ◌||◌, ◌==◌, not, Bool, List, [], ◌∷◌, length, drop, filter, slice_index, nat_eq, nat_le, nat_lt, Option, Some, None, option_and_then, if◌then◌else◌, codes}
 use Rattle.std.specs.Char.{is_ascii_digit}
 use Rattle.std.specs.List.{list_all, starts_with}
+use Rattle.std.specs.Option.{option_or}
 use Rattle.std.specs.Result.{result_ok}
 use Rattle.std.specs.Str.{bytes_eq}
 use Rattle.std.specs.Str.Parse.{digits_value}
@@ -9,7 +10,7 @@ use Rattle.vol_base.specs.BoxText.{box_numbers, parsed}
 use Rattle.vol_base.specs.Names.{is_name}
 use Rattle.vol_base.specs.declared.boxes.Box3.{Box3}
 use Rattle.command_line.specs.declared.commands.Command.{Command}
-use Rattle.command_line.specs.declared.commands.Command.TheVariants.{Cutout, Write}
+use Rattle.command_line.specs.declared.commands.Command.TheVariants.{Cutout, Generate, Serve, Write}
 
 -- a plain word isn't empty and doesn't begin with `-`
 abbrev pub is_plain : List ℕ → Bool
@@ -36,6 +37,13 @@ is_number word = list_all is_ascii_digit word && (nat_le 1 (length word) && nat_
 
 abbrev pub number : List ℕ → Option ℕ
 number word = if is_number word then Some (digits_value 10 word) else None
+
+-- NUMBER: a number below 2^31; WRITES: one of at most 4,096
+abbrev pub seed : List ℕ → Option ℕ
+seed word = option_and_then (λ n. if nat_lt n (2 ^ 31) then Some n else None) (number word)
+
+abbrev pub write_count : List ℕ → Option ℕ
+write_count word = option_and_then (λ n. if nat_le n 4096 then Some n else None) (number word)
 
 -- what follows `--name=` in a word that begins so
 abbrev pub value_after : List ℕ → List ℕ → Option (List ℕ)
@@ -73,14 +81,66 @@ abbrev pub write_line : List (List ℕ) → List (List ℕ) → Option Command
 write_line (dataset ∷ key ∷ []) others = write_of (short_name dataset) (short_name key) (workers others)
 write_line plain others = None
 
+-- `generate DATASET KEY NUMBER WRITES [--workers=N]`, by its plain words and the others
+abbrev pub generate_of : Option (List ℕ) → Option (List ℕ) → Option ℕ → Option ℕ → Option ℕ → Option Command
+generate_of (Some dataset) (Some key) (Some n) (Some writes) (Some count) = Some (Generate dataset key n writes count)
+generate_of (Some dataset) (Some key) (Some n) (Some writes) None = None
+generate_of (Some dataset) (Some key) (Some n) None count = None
+generate_of (Some dataset) (Some key) None writes count = None
+generate_of (Some dataset) None n writes count = None
+generate_of None key n writes count = None
+
+abbrev pub generate_line : List (List ℕ) → List (List ℕ) → Option Command
+generate_line (dataset ∷ key ∷ n ∷ writes ∷ []) others =
+    generate_of (short_name dataset) (short_name key) (seed n) (write_count writes) (workers others)
+generate_line plain others = None
+
+-- a command `write` with the two numbers of `generate`
+abbrev pub numbered : Option Command → Option ℕ → Option ℕ → Option Command
+numbered (Some (Write dataset key count)) (Some n) (Some writes) = Some (Generate dataset key n writes count)
+numbered found n writes = None
+
+-- P of `--port=P`: 0 to 65535
+abbrev pub port_number : List ℕ → Option ℕ
+port_number value = option_and_then (λ n. if nat_le n 65535 then Some n else None) (number value)
+
+-- N of `--connections=N`: 1 to 65536
+abbrev pub connection_count : List ℕ → Option ℕ
+connection_count value = option_and_then (λ n. if nat_le 1 n && nat_le n 65536 then Some n else None) (number value)
+
+-- what one of two words has behind an option
+abbrev pub either_value : List ℕ → List ℕ → List ℕ → Option (List ℕ)
+either_value option a b = option_or (value_after option a) (value_after option b)
+
+-- `serve DATASET --port=P --connections=N`, by its plain words and the others: both options, in either order
+abbrev pub serve_of : Option (List ℕ) → Option ℕ → Option ℕ → Option Command
+serve_of (Some dataset) (Some port) (Some count) = Some (Serve dataset port count)
+serve_of (Some dataset) (Some port) None = None
+serve_of (Some dataset) None count = None
+serve_of None port count = None
+
+abbrev pub serve_options : List ℕ → List ℕ → List ℕ → Option Command
+serve_options dataset a b =
+    serve_of (short_name dataset) (option_and_then port_number (either_value (codes "--port=") a b))
+    (option_and_then connection_count (either_value (codes "--connections=") a b))
+
+abbrev pub serve_line : List (List ℕ) → List (List ℕ) → Option Command
+serve_line (dataset ∷ []) (a ∷ b ∷ []) = serve_options dataset a b
+serve_line plain others = None
+
 -- the command that the words spell, the command's name first
 abbrev pub line : List (List ℕ) → Option Command
 line [] = None
 line (command ∷ words) = if bytes_eq command (codes "cutout") then cutout_line (plain_words words) (other_words words)
-    else if bytes_eq command (codes "write") then write_line (plain_words words) (other_words words) else None
+    else if bytes_eq command (codes "write") then write_line (plain_words words) (other_words words)
+    else if bytes_eq command (codes "generate") then generate_line (plain_words words) (other_words words)
+    else if bytes_eq command (codes "serve") then serve_line (plain_words words) (other_words words) else None
 
--- a command's names have at most 200 bytes
-abbrev pub HasShortNames : Option Command → Type 0
-HasShortNames None = Unit {0}
-HasShortNames (Some (Cutout dataset key part)) = (length dataset ≤ 200) × (length key ≤ 200)
-HasShortNames (Some (Write dataset key count)) = (length dataset ≤ 200) × (length key ≤ 200)
+-- a command's names have at most 200 bytes, and its numbers are in their range
+abbrev pub KeepsLimits : Option Command → Type 0
+KeepsLimits None = Unit {0}
+KeepsLimits (Some (Cutout dataset key part)) = (length dataset ≤ 200) × (length key ≤ 200)
+KeepsLimits (Some (Write dataset key count)) = (length dataset ≤ 200) × (length key ≤ 200)
+KeepsLimits (Some (Generate dataset key n writes count)) =
+    (length dataset ≤ 200) × (length key ≤ 200) × (n < 2 ^ 31) × (writes ≤ 4096)
+KeepsLimits (Some (Serve dataset port count)) = (length dataset ≤ 200) × (1 ≤ count)

@@ -16,4 +16,20 @@ pub enum Command {
         key: Name,
         workers: u32,
     },
+    /// `generate DATASET KEY NUMBER WRITES [--workers=N]`: at most 4,096 writes that are made from a number
+    /// below 2^31, into an empty scale, by 1 to 16 workers.
+    Generate {
+        dataset: Name,
+        key: Name,
+        number: u32,
+        writes: u32,
+        workers: u32,
+    },
+    /// `serve DATASET --port=P --connections=N`: its objects by byte ranges, to 1 to 65,536 peers one after the
+    /// other, at a port of the machine, or a free one for 0.
+    Serve {
+        dataset: Name,
+        port: u16,
+        connections: u32,
+    },
 }

@@ -3,6 +3,7 @@
 
 mod commands;
 mod parsers;
+mod serving;
 mod words;
 
 pub use commands::Command;

@@ -1,7 +1,7 @@
 //! The commands as `clap` knows them: each takes its plain words, and then its options.
 ghost use Rattle.std.specs.Prelude.{◌≡◌, IfOk, IsSomeAnd, true, false, map};
 ghost use Rattle.clap.specs.Words.{App, app_of, found_of, matches_of, rows_of, rule_of, takes};
-ghost use Rattle.command_line.specs.Parsers.{cutout_app, option_rule, plain_rule, write_app};
+ghost use Rattle.command_line.specs.Parsers.{cutout_app, option_rule, plain_rule, serve_app, write_app};
 
 use clap::error::ErrorKind;
 use clap::{Arg, ArgAction, ArgMatches, Command};
@@ -47,6 +47,19 @@ pub(crate) fn write_parser<'a>(alloc: Global) -> Result<Command<'a>, AllocError>
         .arg(dataset)?
         .arg(key)?
         .arg(workers)
+}
+
+/// `serve DATASET --port=P --connections=N`.
+pub(crate) fn serve_parser<'a>(alloc: Global) -> Result<Command<'a>, AllocError>
+    ensures { IfOk result (λ parser. app_of parser ≡ serve_app) }
+{
+    let dataset = plain_argument(alloc, "dataset");
+    let port = option_argument(alloc, "port");
+    let connections = option_argument(alloc, "connections");
+    Command::new(alloc, "serve")
+        .arg(dataset)?
+        .arg(port)?
+        .arg(connections)
 }
 
 /// What a command finds in words that it takes, the command's name first. It fails for want of memory alone.

@@ -4,10 +4,11 @@ ghost use Rattle.std.specs.Char.{is_ascii_digit};
 ghost use Rattle.std.specs.List.{list_all};
 ghost use Rattle.std.specs.Option.{option_map_or};
 ghost use Rattle.clap.specs.Words.{first_value, found_of};
-ghost use Rattle.command_line.specs.Words.{HasShortNames, box_of, is_number, is_plain, cutout_line, cutout_of, line, number, other_words, plain_words, short_name, value_after, worker_count, workers, write_line, write_of};
+ghost use Rattle.command_line.specs.Words.{KeepsLimits, box_of, is_number, is_plain, cutout_line, cutout_of, generate_line, generate_of, line, number, numbered, other_words, plain_words, seed, short_name, value_after, worker_count, workers, write_count, write_line, write_of};
 
 use crate::commands::Command;
 use crate::parsers::{cutout_parser, parse, write_parser};
+use crate::serving::read_serve;
 use clap::ArgMatches;
 use std::alloc::{AllocError, Global};
 use vol_base::{Box3, Name, OutOfMemory};
@@ -42,8 +43,8 @@ fn sort_words<'a>(alloc: Global, words: &'a [String]) -> Result<Sorted<'a>, Allo
     Ok(Sorted { plain, others })
 }
 
-// A name of at most 200 bytes.
-fn read_name(word: &str) -> Option<Name>
+/// A name of at most 200 bytes.
+pub(crate) fn read_name(word: &str) -> Option<Name>
     ensures { result ≡ short_name word.now }
 {
     if word.len() <= 200 {
@@ -85,7 +86,8 @@ fn is_number_word(word: &[u8]) -> bool
     are_digits(word) && has_one_to_ten(word) && is_shortest(word)
 }
 
-fn read_number(word: &str) -> Option<u64>
+/// A number of at most ten digits, with no 0 in front of another digit.
+pub(crate) fn read_number(word: &str) -> Option<u64>
     ensures { result ≡ number word.now }
 {
     if is_number_word(word.as_bytes()) {
@@ -266,6 +268,87 @@ fn read_write(alloc: Global, plain: &[&str], others: &[&str]) -> Result<Option<C
     }
 }
 
+// NUMBER.
+fn read_seed(word: &str) -> Option<u32>
+    ensures { result ≡ seed word.now }
+{
+    match read_number(word) {
+        Some(number) if number < 1 << 31 => Some(number as u32),
+        _ => None,
+    }
+}
+
+// WRITES.
+fn read_write_count(word: &str) -> Option<u32>
+    ensures { result ≡ write_count word.now }
+{
+    match read_number(word) {
+        Some(count) if count <= 4096 => Some(count as u32),
+        _ => None,
+    }
+}
+
+// The command `generate`, whose arguments are those of `write` and two numbers.
+fn add_numbers(found: Option<Command>, number: &str, writes: &str) -> Option<Command>
+    ensures { result ≡ numbered found (seed number.now) (write_count writes.now) }
+{
+    let Some(
+        Command::Write {
+            dataset,
+            key,
+            workers,
+        },
+    ) = found
+    else {
+        return None;
+    };
+    match (read_seed(number), read_write_count(writes)) {
+        (Some(number), Some(writes)) => Some(Command::Generate {
+            dataset,
+            key,
+            number,
+            writes,
+            workers,
+        }),
+        _ => None,
+    }
+}
+
+// The command of four plain words and of all others. But for its numbers a line of `generate` is one of `write`.
+#[tactic(auto, using(crate::proofs::LineSteps::generate_is))]
+fn read_numbered(
+    alloc: Global,
+    dataset: &str,
+    key: &str,
+    number: &str,
+    writes: &str,
+    others: &[&str],
+) -> Result<Option<Command>, AllocError>
+    requires dataset { IsTrue (is_plain dataset.now) }
+    requires key { IsTrue (is_plain key.now) }
+    ensures { IfOk result (λ command. command ≡ generate_of (short_name dataset.now) (short_name key.now) (seed number.now) (write_count writes.now) (workers (map (λ word. word.now) others.now))) }
+{
+    let found = read_write_others(alloc, dataset, key, others)?;
+    Ok(add_numbers(found, number, writes))
+}
+
+// `generate DATASET KEY NUMBER WRITES [--workers=N]`.
+fn read_generate(
+    alloc: Global,
+    plain: &[&str],
+    others: &[&str],
+) -> Result<Option<Command>, AllocError>
+    requires { IsTrue (list_all is_plain (map (λ word. word.now) plain.now)) }
+    ensures { IfOk result (λ command. command ≡ generate_line (map (λ word. word.now) plain.now) (map (λ word. word.now) others.now)) }
+{
+    match plain {
+        [dataset, key, number, writes] => {
+            read_numbered(alloc, dataset, key, number, writes, others)
+        }
+        _ => Ok(None),
+    }
+}
+
 // The command of this name, by the words after it.
 fn read_command(
     alloc: Global,
@@ -278,27 +361,29 @@ fn read_command(
     match command {
         "cutout" => read_cutout(alloc, &sorted.plain, &sorted.others),
         "write" => read_write(alloc, &sorted.plain, &sorted.others),
+        "generate" => read_generate(alloc, &sorted.plain, &sorted.others),
+        "serve" => read_serve(alloc, &sorted.plain, &sorted.others),
         _ => Ok(None),
     }
 }
 
-// Knows that the names of the command that words spell are short.
-fn tell_short(words: &[String], found: &Option<Command>)
+// Knows that the command that words spell keeps its limits.
+fn tell_limits(words: &[String], found: &Option<Command>)
     requires { found.now ≡ line (map string_bytes words.now) }
-    ensures { HasShortNames found.now }
+    ensures { KeepsLimits found.now }
 {}
 
 /// The command that the words spell, or None exactly where they spell none.
 pub fn read_words(alloc: Global, words: &[String]) -> Result<Option<Command>, OutOfMemory>
     ensures line { IfOk result (λ command. command ≡ line (map string_bytes words.now)) }
-    ensures short { IfOk result HasShortNames }
+    ensures limits { IfOk result KeepsLimits }
 {
     let [command, arguments @ ..] = words else {
         return Ok(None);
     };
     match read_command(alloc, command.as_str(), arguments) {
         Ok(found) => {
-            tell_short(words, &found);
+            tell_limits(words, &found);
             Ok(found)
         }
         Err(_) => Err(OutOfMemory),
@@ -315,6 +400,8 @@ mod tests {
         Nothing,
         Cutout,
         Write(u32),
+        Generate(u32, u32, u32),
+        Serve(u16, u32),
     }
 
     // What a line spells, whose words stand apart by one blank each.
@@ -327,6 +414,21 @@ mod tests {
             None => Ok(Spelled::Nothing),
             Some(Command::Cutout { .. }) => Ok(Spelled::Cutout),
             Some(Command::Write { workers, .. }) => Ok(Spelled::Write(workers)),
+            Some(
+                Command::Generate {
+                    number,
+                    writes,
+                    workers,
+                    ..
+                },
+            ) => Ok(Spelled::Generate(number, writes, workers)),
+            Some(
+                Command::Serve {
+                    port,
+                    connections,
+                    ..
+                },
+            ) => Ok(Spelled::Serve(port, connections)),
         }
     }
 
@@ -364,6 +466,55 @@ mod tests {
             ("write d s x", Spelled::Nothing),
             ("write d  s", Spelled::Nothing),
             ("write d", Spelled::Nothing),
+            ("generate d s 7 200", Spelled::Generate(7, 200, 1)),
+            ("generate d s 0 0", Spelled::Generate(0, 0, 1)),
+            (
+                "generate d s 2147483647 4096 --workers=3",
+                Spelled::Generate(2147483647, 4096, 3),
+            ),
+            (
+                "generate --workers=16 d s 7 200",
+                Spelled::Generate(7, 200, 16),
+            ),
+            ("generate d s 2147483648 1", Spelled::Nothing),
+            ("generate d s 1 4097", Spelled::Nothing),
+            ("generate d s 01 1", Spelled::Nothing),
+            ("generate d s 1 -1", Spelled::Nothing),
+            ("generate d s 1", Spelled::Nothing),
+            ("generate d s 1 2 3", Spelled::Nothing),
+            ("generate d ../s 1 2", Spelled::Nothing),
+            ("generate d s 1 2 --workers=17", Spelled::Nothing),
+            ("generate d s 1 2 --port=1", Spelled::Nothing),
+            ("generate d s 1 2 --workers=1 --workers=1", Spelled::Nothing),
+            ("serve d --port=80 --connections=1", Spelled::Serve(80, 1)),
+            (
+                "serve --connections=65536 d --port=0",
+                Spelled::Serve(0, 65536),
+            ),
+            (
+                "serve d --port=65535 --connections=2",
+                Spelled::Serve(65535, 2),
+            ),
+            ("serve d --port=65536 --connections=2", Spelled::Nothing),
+            ("serve d --port=1 --connections=0", Spelled::Nothing),
+            ("serve d --port=1 --connections=65537", Spelled::Nothing),
+            ("serve d --port=1", Spelled::Nothing),
+            ("serve d --connections=1", Spelled::Nothing),
+            ("serve d --port=1 --port=1", Spelled::Nothing),
+            ("serve d --connections=1 --connections=1", Spelled::Nothing),
+            ("serve d --port= --connections=1", Spelled::Nothing),
+            ("serve d --port=1 --connections=", Spelled::Nothing),
+            (
+                "serve d --port=1 --connections=1 --port=1",
+                Spelled::Nothing,
+            ),
+            (
+                "serve d --port=1 --connections=1 --workers=1",
+                Spelled::Nothing,
+            ),
+            ("serve d s --port=1 --connections=1", Spelled::Nothing),
+            ("serve --port=1 --connections=1", Spelled::Nothing),
+            ("serve d --Port=1 --connections=1", Spelled::Nothing),
             ("help", Spelled::Nothing),
             ("--workers=1 write d s", Spelled::Nothing),
             ("", Spelled::Nothing),

@@ -17,6 +17,7 @@ use Rattle.vol_spec.specs.declared.encoding.Encoding.{Encoding}
 use Rattle.vol_spec.specs.declared.encoding.Encoding.TheVariants.{Raw, Seg}
 use Rattle.vol_spec.specs.declared.scale.Scale.{Scale}
 use Rattle.vol_spec.proofs.Plain.{limit-raw}
+use Rattle.vol_spec.specs.Writable.{IsWritable}
 use Rattle.chunk_grid.proofs.GridSteps.{cell_box-short}
 use Rattle.segment_cells.specs.Decoding.{HoldsValues}
 use Rattle.segment_cells.proofs.SegSteps.{in_chunk, padded_in_cell, width_is}
@@ -61,7 +62,7 @@ module _ (s : Scale) (cell block : List ℕ) (seg : s.encoding ≡ Seg block) wh
   pub seg_first : (n : ℕ) → n ≡ encoded_limit (sizes_in s cell) → n ≤ limit_of s.encoding s.width s.channels s.size s.chunk
   seg_first n is = let p = padded_in_cell s cell block seg in omega (arith, is, p, most)
 
-  pub seg_small : (n : ℕ) → n ≤ encoded_limit (sizes_in s cell) → padded_of s.encoding s.channels s.size s.chunk ≤ 2 ^ 22 → n ≤ 2 ^ 27
+  pub seg_small : (n : ℕ) → n ≤ encoded_limit (sizes_in s cell) → IsWritable s → n ≤ 2 ^ 27
   seg_small n h can = let p = padded_in_cell s cell block seg in omega (arith, h, p, can, s.channels_ok)
 
   -- values that are read by the chunk's own places are those of its voxels

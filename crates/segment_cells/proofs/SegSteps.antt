@@ -20,6 +20,7 @@ use Rattle.vol_spec.specs.declared.encoding.Encoding.{Encoding}
 use Rattle.vol_spec.specs.declared.encoding.Encoding.TheVariants.{Seg}
 use Rattle.vol_spec.specs.declared.scale.Scale.{Scale}
 use Rattle.vol_spec.proofs.RawSteps.{place_of}
+use Rattle.vol_spec.specs.Writable.{IsWritable}
 use Rattle.chunk_grid.proofs.GridSteps.{cell_box-IsSome, cell_box-short}
 use Rattle.segment_blocks.specs.Shape.{IsShape, padded}
 use Rattle.segment_blocks.proofs.Back.{length_seg}
@@ -87,7 +88,7 @@ module _ (s : Scale) (cell block : List ℕ) (seg : s.encoding ≡ Seg block) wh
 
   -- what can be written
   abbrev Writable : Type 0
-  Writable = padded_of s.encoding s.channels s.size s.chunk ≤ 2 ^ 22
+  Writable = IsWritable s
 
   all_padded : Writable → padded (sizes_in s cell) * s.channels ≤ 2 ^ 22
   all_padded can = let p = padded_is (sizes_in s cell) in omega (arith, p, padded_in_cell, can)

@@ -3,8 +3,9 @@ ghost use Rattle.std.specs.Prelude.{◌≡◌, ◌≤◌, ◌^◌, length, take,
 ghost use Rattle.std.specs.Result.{result_err};
 ghost use Rattle.vol_spec.specs.Encodings.{chunk_fault, encoded, raw_size};
 ghost use Rattle.vol_spec.specs.Grid.{IsCell};
-ghost use Rattle.vol_spec.specs.Limits.{limit_of, padded_of};
+ghost use Rattle.vol_spec.specs.Limits.{limit_of};
 ghost use Rattle.vol_spec.specs.declared.encoding.Encoding.TheVariants.{Seg};
+ghost use Rattle.vol_spec.specs.Writable.{IsWritable};
 ghost use Rattle.segment_cells.specs.Decoding.{HoldsValues};
 ghost use Rattle.segment_cells.specs.Serving.{ServesScale};
 
@@ -58,7 +59,7 @@ pub fn encode_cell(
 ) -> usize
     requires block { scale.now.encoding ≡ Seg block }
     requires cell { IsCell scale.now cell }
-    requires writable { padded_of scale.now.encoding scale.now.channels scale.now.size scale.now.chunk ≤ 2 ^ 22 }
+    requires writable { IsWritable scale.now }
     requires len { length values.now ≡ raw_size scale.now cell }
     requires scratch { ServesScale scale.now scratch.old }
     requires room { limit_of scale.now.encoding scale.now.width scale.now.channels scale.now.size scale.now.chunk ≤ length out.old }

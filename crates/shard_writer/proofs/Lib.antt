@@ -1,3 +1,4 @@
+pub mod AheadSteps
 pub mod CellLens
 pub mod CountSteps
 pub mod EncodedSteps

@@ -1,9 +1,10 @@
 //! A job's chunk, in the bytes that are stored.
 ghost use Rattle.std.specs.Prelude.{◌≡◌, ◌≤◌, ◌<◌, ◌^◌, IfOk, IsSome, length, take};
 ghost use Rattle.vol_spec.specs.Encodings.{raw_size};
-ghost use Rattle.vol_spec.specs.Limits.{first_bytes, limit_of, padded_of};
+ghost use Rattle.vol_spec.specs.Limits.{first_bytes, limit_of};
 ghost use Rattle.vol_spec.specs.StoredCells.{cell_of};
 ghost use Rattle.vol_spec.specs.declared.encoding.Encoding.TheVariants.{Raw, Seg};
+ghost use Rattle.vol_spec.specs.Writable.{IsWritable};
 ghost use Rattle.shard_writer.specs.Plain.{bytes_in, chunk_ready};
 ghost use Rattle.shard_writer.specs.Serving.{AreSegments, FitSegments, ServesFrames};
 
@@ -86,7 +87,7 @@ fn encode_values<C: Chunks>(
     segments: &mut Segments,
     chunk: &mut [u8],
 ) -> usize
-    requires writable { padded_of scale.now.encoding scale.now.channels scale.now.size scale.now.chunk ≤ 2 ^ 22 }
+    requires writable { IsWritable scale.now }
     requires scale { (C.work chunks.now).scale ≡ scale.now }
     requires job { job < length (C.work chunks.now).cells }
     requires ready { IsSome (C.ready chunks.now job) }
@@ -115,7 +116,7 @@ pub(crate) fn encode_job<C: Chunks>(
     job: u64,
     frames: &mut Frames,
 ) -> usize
-    requires writable { padded_of scale.now.encoding scale.now.channels scale.now.size scale.now.chunk ≤ 2 ^ 22 }
+    requires writable { IsWritable scale.now }
     requires scale { (C.work chunks.now).scale ≡ scale.now }
     requires job { job < length (C.work chunks.now).cells }
     requires ready { IsSome (C.ready chunks.now job) }

@@ -6,14 +6,16 @@ ghost use Rattle.vol_base.specs.Causes.{HasStoreCause};
 ghost use Rattle.vol_spec.specs.CellNames.{cell_name};
 ghost use Rattle.vol_spec.specs.Encodings.{raw_size};
 ghost use Rattle.vol_spec.specs.Grid.{IsCell};
-ghost use Rattle.vol_spec.specs.Limits.{first_bytes, padded_of};
+ghost use Rattle.vol_spec.specs.Limits.{first_bytes};
 ghost use Rattle.vol_spec.specs.StoredCells.{cell_of, put_in};
+ghost use Rattle.vol_spec.specs.Writable.{IsWritable};
 ghost use Rattle.shard_writer.specs.Plain.{bytes_in, chunk_ready, objects_from};
-ghost use Rattle.shard_writer.specs.Serving.{ServesFrames};
+ghost use Rattle.shard_writer.specs.Serving.{AreChunks, ServesFrames};
 ghost use Rattle.shard_writer.specs.Writing.{Drops, PutsFront, joint_len};
 
+use crate::ahead::find_chunk;
 use crate::encoder::encode_job;
-use crate::frames::Frames;
+use crate::frames::{Encoded, Frames};
 use crate::steps::find_job;
 use chunk_grid::{byte_len, cell_box, object_name};
 use vol_base::{Name, Store, StoreRefusal};
@@ -60,21 +62,35 @@ pub(crate) fn fill_job<C: Chunks>(chunks: &C, job: u64, raw: &mut [u8])
     chunks.fill(job, raw);
 }
 
-// Writes the object of a job that is prepared, by way of frames for the scale's chunks; answers how many
-// bytes it has.
+// Puts the object of a chunk; answers how many bytes it has.
+fn put_chunk<S: Store>(store: &mut S, name: &Name, chunk: &[u8]) -> Result<u64, StoreRefusal>
+    ensures put { OnOk result (S.objects store.new ≡ option_map (λ m. fin.insert m name.now chunk.now) (S.objects store.old)) }
+    ensures bytes { IfOk result (λ len. len ≡ length chunk.now) }
+    ensures kept { OnErr result (S.objects store.new ≡ S.objects store.old) }
+    ensures draft { S.draft store.new ≡ None }
+    ensures cause { HasStoreCause (S.faults store.old) (S.faults store.new) result }
+{
+    put_object(store, name, chunk)?;
+    Ok(chunk.len() as u64)
+}
+
+// Writes the object of a job that is prepared, whose chunk was encoded ahead, or else by way of frames for
+// the scale's chunks; answers how many bytes it has.
 fn write_job<S: Store, C: Chunks>(
     store: &mut S,
     dataset: &Name,
     scale: &Scale,
     chunks: &C,
     job: u64,
+    encoded: &Encoded,
     frames: &mut Frames,
 ) -> Result<u64, StoreRefusal>
     requires dataset { length dataset.now ≤ 200 }
     requires scale { (C.work chunks.now).scale ≡ scale.now }
     requires job { job < length (C.work chunks.now).cells }
     requires ready { IsSome (C.ready chunks.now job) }
-    requires writable { padded_of scale.now.encoding scale.now.channels scale.now.size scale.now.chunk ≤ 2 ^ 22 }
+    requires writable { IsWritable scale.now }
+    requires encoded { AreChunks (chunk_ready (C.work chunks.now) (C.ready chunks.now)) encoded.now.first encoded.now.list.items }
     requires frames { ServesFrames scale.now frames.old }
     ensures put { OnOk result (S.objects store.new ≡ option_map (λ m. fin.insert m (cell_name dataset.now scale.now (cell_of (C.work chunks.now).cells job)) (chunk_ready (C.work chunks.now) (C.ready chunks.now) job)) (S.objects store.old)) }
     ensures bytes { IfOk result (λ len. len ≡ length (chunk_ready (C.work chunks.now) (C.ready chunks.now) job)) }
@@ -85,13 +101,17 @@ fn write_job<S: Store, C: Chunks>(
     ensures cause { HasStoreCause (S.faults store.old) (S.faults store.new) result }
 {
     let name = object_name(dataset, scale, find_cell(chunks, job));
-    let len = encode_job(chunks, scale, job, frames);
-    put_object(store, &name, &frames.chunk[..len])?;
-    Ok(len as u64)
+    match find_chunk(encoded, job) {
+        Some(chunk) => put_chunk(store, &name, chunk),
+        None => {
+            let len = encode_job(chunks, scale, job, frames);
+            put_chunk(store, &name, &frames.chunk[..len])
+        }
+    }
 }
 
-/// Writes the objects of the jobs from one number up to, not with, another, which are prepared, by way of
-/// frames for the scale's chunks; answers how many bytes they have together.
+/// Writes the objects of the jobs from one number up to, not with, another, which are prepared: from chunks
+/// that were encoded ahead, or else by way of frames for the scale's chunks; answers how many bytes they have together.
 pub(crate) fn write_jobs<S: Store, C: Chunks>(
     store: &mut S,
     dataset: &Name,
@@ -99,6 +119,7 @@ pub(crate) fn write_jobs<S: Store, C: Chunks>(
     chunks: &C,
     from: u64,
     to: u64,
+    encoded: &Encoded,
     frames: &mut Frames,
 ) -> Result<u64, StoreRefusal>
     requires dataset { length dataset.now ≤ 200 }
@@ -107,7 +128,8 @@ pub(crate) fn write_jobs<S: Store, C: Chunks>(
     requires within { to ≤ length (C.work chunks.now).cells }
     requires few { to ≤ 2 ^ 22 }
     requires ready { (job : ℕ) → from ≤ job → job < to → IsSome (C.ready chunks.now job) }
-    requires writable { padded_of scale.now.encoding scale.now.channels scale.now.size scale.now.chunk ≤ 2 ^ 22 }
+    requires writable { IsWritable scale.now }
+    requires encoded { AreChunks (chunk_ready (C.work chunks.now) (C.ready chunks.now)) encoded.now.first encoded.now.list.items }
     requires frames { ServesFrames scale.now frames.old }
     ensures put { OnOk result (S.objects store.new ≡ option_map (λ m. put_in m (objects_from dataset.now scale.now (C.work chunks.now).cells (chunk_ready (C.work chunks.now) (C.ready chunks.now)) from (to - from))) (S.objects store.old)) }
     ensures bytes { IfOk result (λ len. len ≡ joint_len (objects_from dataset.now scale.now (C.work chunks.now).cells (chunk_ready (C.work chunks.now) (C.ready chunks.now)) from (to - from))) }
@@ -119,7 +141,7 @@ pub(crate) fn write_jobs<S: Store, C: Chunks>(
 {
     let mut bytes = 0;
     for job in from..to {
-        bytes += write_job(store, dataset, scale, chunks, job, frames)?;
+        bytes += write_job(store, dataset, scale, chunks, job, encoded, frames)?;
     }
     Ok(bytes)
 }

@@ -1,6 +1,7 @@
 //! The objects of a scale, written from its chunks.
 #![tactic(auto)]
 
+mod ahead;
 mod encoder;
 mod frames;
 mod jobs;

@@ -1,8 +1,9 @@
 //! A scale's objects.
 ghost use Rattle.std.specs.Prelude.{◌≡◌, ◌≤◌, ◌^◌, None, IfOk, IfSome, OnOk, OnErr, length};
-ghost use Rattle.vol_spec.specs.Limits.{padded_of};
 ghost use Rattle.shard_writer.specs.Writing.{Drops, HasWriteCause, KnowsLens, NeverDamaged, PutsJobs, PutsSome, WritesAll, first_of_jobs, joint_len, told_objects};
+ghost use Rattle.vol_spec.specs.Writable.{IsWritable};
 
+use crate::ahead::Crew;
 use crate::sharded::write_sharded;
 use crate::windows::write_plain;
 use crate::written::{WriteFault, Written};
@@ -25,22 +26,24 @@ use write_plan::Chunks;
 /// shard is being written: that one is then not among the objects, and the store drops it at its next
 /// `begin`.
 ///
-/// `rt` is for so many workers, and `gate` is told what they do; so far one worker does the work, and the
-/// gate isn't called.
+/// One worker encodes each chunk as it is stored. Of several, each encodes a part of each window in a thread
+/// of its own, with memory for one chunk besides, and the window's chunks are kept until they are stored, in
+/// order. Where there is no memory for that, the window's chunks are encoded as one worker does it, so this is
+/// no refusal. `gate` isn't called.
 pub fn write_scale<R, S: Store, C: Chunks + Sync, G: Gate + Sync>(
-    _rt: &R,
+    rt: &R,
     alloc: Global,
     store: &mut S,
     dataset: &Name,
     scale: &Scale,
     chunks: &mut C,
-    _workers: u32,
+    workers: u32,
     _gate: &G,
 ) -> Result<Written, WriteFault>
 where
     R: Threads + Wait + Sync,
     requires dataset { length dataset.now ≤ 200 }
-    requires writable { padded_of scale.now.encoding scale.now.channels scale.now.size scale.now.chunk ≤ 2 ^ 22 }
+    requires writable { IsWritable scale.now }
     requires scale { (C.work chunks.old).scale ≡ scale.now }
     requires few { length (C.work chunks.old).cells ≤ 2 ^ 22 }
     requires apart { IfSome (S.objects store.old) (λ _. C.apart chunks.old dataset.now scale.now) }
@@ -56,8 +59,9 @@ where
     ensures unsharded { scale.now.sharding ≡ None → Drops (S.draft store.old) (S.draft store.new) }
     ensures cause { HasWriteCause (S.faults store.old) (S.faults store.new) result }
 {
+    let crew = Crew { rt, alloc, workers };
     match &scale.sharding {
-        Some(sharding) => write_sharded(alloc, store, dataset, scale, sharding, chunks),
-        None => write_plain(alloc, store, dataset, scale, chunks),
+        Some(sharding) => write_sharded(&crew, store, dataset, scale, sharding, chunks),
+        None => write_plain(&crew, store, dataset, scale, chunks),
     }
 }

@@ -1,11 +1,12 @@
 //! A sharded scale: each shard is one object, written job by job.
 ghost use Rattle.std.specs.Prelude.{◌≡◌, ◌+◌, ◌-◌, ◌*◌, ◌<◌, ◌≤◌, ◌^◌, ℕ, [], Some, None, IfOk, IfSome, OnOk, OnErr, length, map, vec_capacity};
-ghost use Rattle.vol_spec.specs.Limits.{padded_of};
 ghost use Rattle.vol_spec.specs.StoredCells.{put_in};
+ghost use Rattle.vol_spec.specs.Writable.{IsWritable};
 ghost use Rattle.shard_writer.specs.Serving.{ServesFrames};
 ghost use Rattle.shard_writer.specs.ShardRuns.{AreOrdered, IsSameRun, jobs_in, shards_between};
 ghost use Rattle.shard_writer.specs.Writing.{Drops, HasWriteCause, KnowsLens, NeverDamaged, PutsFront, PutsJobs, PutsSome, WritesAll, first_of_jobs, joint_len, stored_by, told_chunk, told_objects};
 
+use crate::ahead::{Crew, no_chunks};
 use crate::encoder::{reserve_frames, zeros};
 use crate::frames::Frames;
 use crate::runs::longest_run;
@@ -17,7 +18,7 @@ use crate::written::{WriteFault, Written};
 use minishard::Row;
 use shard_index::base_len;
 use shard_parts::{end_if, finish_if};
-use std::alloc::Global;
+use std::thread::Threads;
 use vol_base::{Name, Store};
 use vol_spec::{Scale, Sharding};
 use write_plan::{Chunks, window};
@@ -27,7 +28,8 @@ const PIECE: usize = 1 << 16;
 
 // Writes the shards of all jobs, by way of frames for the scale's chunks and a buffer for zeros and
 // indexes. There is room for the rows of each minishard.
-fn write_shards<S: Store, C: Chunks>(
+fn write_shards<R: Threads + Sync, S: Store, C: Chunks + Sync>(
+    crew: &Crew<R>,
     store: &mut S,
     dataset: &Name,
     scale: &Scale,
@@ -43,7 +45,7 @@ fn write_shards<S: Store, C: Chunks>(
     requires ordered { AreOrdered sharding.now (length (C.work chunks.old).cells) (jobs_in (C.work chunks.old)) }
     requires few { length (C.work chunks.old).cells ≤ 2 ^ 22 }
     requires apart { IfSome (S.objects store.old) (λ _. C.apart chunks.old dataset.now scale.now) }
-    requires writable { padded_of scale.now.encoding scale.now.channels scale.now.size scale.now.chunk ≤ 2 ^ 22 }
+    requires writable { IsWritable scale.now }
     requires frames { ServesFrames scale.now frames.old }
     requires piece { 8 ≤ length piece.old }
     requires rows { length rows.old.items ≡ 0 }
@@ -62,13 +64,24 @@ fn write_shards<S: Store, C: Chunks>(
     let count = count_jobs(chunks);
     let base = base_len(sharding);
     let window = window(scale);
+    let mut encoded = no_chunks(crew.alloc);
     let mut ready = 0;
     let mut begun = 0;
     let mut at = 0;
     let mut objects = 0;
     let mut bytes = 0;
     for job in 0..count {
-        ready = prepare_next(store, chunks, job, ready, count, window)?;
+        ready = prepare_next(
+            crew,
+            store,
+            scale,
+            chunks,
+            job,
+            ready,
+            count,
+            window,
+            &mut encoded,
+        )?;
         let own = find_job(chunks, job);
         let fresh = is_fresh(begun, job);
         open_shard(
@@ -80,7 +93,7 @@ fn write_shards<S: Store, C: Chunks>(
             fresh,
             piece,
         )?;
-        let len = append_job(store, scale, chunks, job, frames)?;
+        let len = append_job(store, scale, chunks, job, &encoded, frames)?;
         push_row(rows, own.id, at, len)?;
         let ends = ends_minishard(chunks, job, count);
         let next = end_if(store, ends, own.place.minishard, rows, at + len, piece)?;
@@ -100,8 +113,8 @@ fn write_shards<S: Store, C: Chunks>(
 
 /// Writes the shards of all jobs of a sharded scale, in their order. There is room for the rows of each
 /// minishard before the first shard is begun: so no memory is wanted while one is being written.
-pub(crate) fn write_sharded<S: Store, C: Chunks>(
-    alloc: Global,
+pub(crate) fn write_sharded<R: Threads + Sync, S: Store, C: Chunks + Sync>(
+    crew: &Crew<R>,
     store: &mut S,
     dataset: &Name,
     scale: &Scale,
@@ -110,7 +123,7 @@ pub(crate) fn write_sharded<S: Store, C: Chunks>(
 ) -> Result<Written, WriteFault>
     requires dataset { length dataset.now ≤ 200 }
     requires sharded { scale.now.sharding ≡ Some sharding.now }
-    requires writable { padded_of scale.now.encoding scale.now.channels scale.now.size scale.now.chunk ≤ 2 ^ 22 }
+    requires writable { IsWritable scale.now }
     requires scale { (C.work chunks.old).scale ≡ scale.now }
     requires few { length (C.work chunks.old).cells ≤ 2 ^ 22 }
     requires apart { IfSome (S.objects store.old) (λ _. C.apart chunks.old dataset.now scale.now) }
@@ -126,10 +139,11 @@ pub(crate) fn write_sharded<S: Store, C: Chunks>(
     ensures cause { HasWriteCause (S.faults store.old) (S.faults store.new) result }
 {
     let most = longest_run(chunks, count_jobs(chunks));
-    let mut rows = Vec::with_capacity(alloc, most)?;
-    let mut frames = reserve_frames(alloc, scale)?;
-    let mut piece = zeros(alloc, PIECE)?;
+    let mut rows = Vec::with_capacity(crew.alloc, most)?;
+    let mut frames = reserve_frames(crew.alloc, scale)?;
+    let mut piece = zeros(crew.alloc, PIECE)?;
     write_shards(
+        crew,
         store,
         dataset,
         scale,

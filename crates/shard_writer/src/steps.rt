@@ -6,23 +6,25 @@ ghost use Rattle.vol_base.specs.Causes.{HasStoreCause};
 ghost use Rattle.vol_base.specs.Outside.{appended};
 ghost use Rattle.vol_base.specs.declared.faults.Fault.{Fault};
 ghost use Rattle.vol_spec.specs.BoxValues.{first_some};
-ghost use Rattle.vol_spec.specs.Limits.{padded_of};
 ghost use Rattle.vol_spec.specs.ShardNames.{shard_name as shard_name_of};
 ghost use Rattle.vol_spec.specs.Shards.{shard_bytes};
 ghost use Rattle.shard_parts.specs.Parts.{draft_of};
 ghost use Rattle.vol_spec.specs.declared.encoding.Encoding.TheVariants.{Raw};
+ghost use Rattle.vol_spec.specs.Writable.{IsWritable};
 ghost use Rattle.shard_writer.specs.Plain.{chunk_ready};
-ghost use Rattle.shard_writer.specs.Serving.{ServesFrames};
+ghost use Rattle.shard_writer.specs.Serving.{AreChunks, ServesFrames};
 ghost use Rattle.shard_writer.specs.ShardRuns.{ends_minishard as ends_minishard_at, ends_shard as ends_shard_at, jobs_in};
 ghost use Rattle.shard_writer.specs.Writing.{job_len};
 ghost use Rattle.write_plan.specs.Jobs.{HasPrepareCause, Prepares, window_of};
 
+use crate::ahead::{Crew, encode_ahead, find_chunk};
 use crate::encoder::encode_job;
-use crate::frames::Frames;
+use crate::frames::{Encoded, Frames};
 use minishard::Row;
 use shard_index::shard_name;
 use shard_parts::begin_if;
 use std::alloc::AllocError;
+use std::thread::Threads;
 use vol_base::{Name, Store, StoreRefusal};
 use vol_spec::{Scale, Sharding};
 use write_plan::{Chunks, Job, PrepareFault};
@@ -100,20 +102,35 @@ pub(crate) fn open_shard<S: Store>(
     begin_if(store, fresh, &name, sharding.minishard_bits, piece)
 }
 
-/// Appends the chunk of a job that is prepared, by way of frames for the scale's chunks; answers how
-/// many bytes it has.
+// Appends a chunk; answers how many bytes it has.
+fn append_chunk<S: Store>(store: &mut S, chunk: &[u8]) -> Result<u64, StoreRefusal>
+    requires { IsSome (S.draft store.old) }
+    ensures appended { OnOk result (S.draft store.new ≡ option_map (λ d. appended d chunk.now) (S.draft store.old)) }
+    ensures len { IfOk result (λ len. len ≡ length chunk.now) }
+    ensures refused { OnErr result (S.draft store.new ≡ None) }
+    ensures objects { S.objects store.new ≡ S.objects store.old }
+    ensures cause { HasStoreCause (S.faults store.old) (S.faults store.new) result }
+{
+    store.append(chunk)?;
+    Ok(chunk.len() as u64)
+}
+
+/// Appends the chunk of a job that is prepared, which was encoded ahead, or else by way of frames for the
+/// scale's chunks; answers how many bytes it has.
 pub(crate) fn append_job<S: Store, C: Chunks>(
     store: &mut S,
     scale: &Scale,
     chunks: &C,
     job: u64,
+    encoded: &Encoded,
     frames: &mut Frames,
 ) -> Result<u64, StoreRefusal>
     requires some { IsSome (S.draft store.old) }
     requires scale { (C.work chunks.now).scale ≡ scale.now }
     requires job { job < length (C.work chunks.now).cells }
     requires ready { IsSome (C.ready chunks.now job) }
-    requires writable { padded_of scale.now.encoding scale.now.channels scale.now.size scale.now.chunk ≤ 2 ^ 22 }
+    requires writable { IsWritable scale.now }
+    requires encoded { AreChunks (chunk_ready (C.work chunks.now) (C.ready chunks.now)) encoded.now.first encoded.now.list.items }
     requires frames { ServesFrames scale.now frames.old }
     ensures appended { OnOk result (S.draft store.new ≡ option_map (λ d. appended d (chunk_ready (C.work chunks.now) (C.ready chunks.now) job)) (S.draft store.old)) }
     ensures len { IfOk result (λ len. len ≡ length (chunk_ready (C.work chunks.now) (C.ready chunks.now) job)) }
@@ -124,9 +141,13 @@ pub(crate) fn append_job<S: Store, C: Chunks>(
     ensures objects { S.objects store.new ≡ S.objects store.old }
     ensures cause { HasStoreCause (S.faults store.old) (S.faults store.new) result }
 {
-    let len = encode_job(chunks, scale, job, frames);
-    store.append(&frames.chunk[..len])?;
-    Ok(len as u64)
+    match find_chunk(encoded, job) {
+        Some(chunk) => append_chunk(store, chunk),
+        None => {
+            let len = encode_job(chunks, scale, job, frames);
+            append_chunk(store, &frames.chunk[..len])
+        }
+    }
 }
 
 /// Notes a row.
@@ -144,14 +165,18 @@ pub(crate) fn push_row(
     Ok(())
 }
 
-/// Prepares the jobs of the next window where none is prepared; answers up to which job they are.
-pub(crate) fn prepare_next<S: Store, C: Chunks>(
+/// Prepares the jobs of the next window where none is prepared, and lets a crew encode them; answers up to
+/// which job they are.
+pub(crate) fn prepare_next<R: Threads + Sync, S: Store, C: Chunks + Sync>(
+    crew: &Crew<R>,
     store: &mut S,
+    scale: &Scale,
     chunks: &mut C,
     job: u64,
     ready: u64,
     count: u64,
     window: u64,
+    encoded: &mut Encoded,
 ) -> Result<u64, PrepareFault>
     requires count { count ≡ length (C.work chunks.old).cells }
     requires window { window ≡ window_of (C.work chunks.old).scale }
@@ -160,8 +185,12 @@ pub(crate) fn prepare_next<S: Store, C: Chunks>(
     requires within { ready ≤ count }
     requires few { count ≤ 2 ^ 22 }
     requires some { (j : ℕ) → job ≤ j → j < ready → IsSome (C.ready chunks.old j) }
+    requires scale { (C.work chunks.old).scale ≡ scale.now }
+    requires writable { IsWritable scale.now }
+    requires encoded { AreChunks (chunk_ready (C.work chunks.old) (C.ready chunks.old)) encoded.old.first encoded.old.list.items }
     ensures next { IfOk result (λ to. (job < to) × (to ≤ count)) }
     ensures some { IfOk result (λ to. (j : ℕ) → job ≤ j → j < to → IsSome (C.ready chunks.new j)) }
+    ensures encoded { OnOk result (AreChunks (chunk_ready (C.work chunks.new) (C.ready chunks.new)) encoded.new.first encoded.new.list.items) }
     ensures raw { IfOk result (λ to. IfSome (S.objects store.old) (λ now. (raw : ℕ → List ℕ) → ((j : ℕ) → job ≤ j → j < count → (C.work chunks.old).raw now j ≡ raw j) → ((j : ℕ) → job ≤ j → j < ready → C.ready chunks.old j ≡ Some (raw j)) → (j : ℕ) → job ≤ j → j < to → C.ready chunks.new j ≡ Some (raw j))) }
     ensures sound { IfOk result (λ to. IfSome (S.objects store.old) (λ now. (fault : ℕ → Option (List ℕ × Fault)) → ((j : ℕ) → job ≤ j → j < count → (C.work chunks.old).fault now j ≡ fault j) → first_some (map fault (range_with_len 0 ready)) ≡ None → first_some (map fault (range_with_len 0 to)) ≡ None)) }
     ensures faulty { IfErr result (λ e. IfSome (S.objects store.old) (λ now. (fault : ℕ → Option (List ℕ × Fault)) → ((j : ℕ) → job ≤ j → j < count → (C.work chunks.old).fault now j ≡ fault j) → first_some (map fault (range_with_len 0 ready)) ≡ None → Prepares (Err e) (first_some (map fault (range_with_len 0 count))))) }
@@ -174,9 +203,13 @@ pub(crate) fn prepare_next<S: Store, C: Chunks>(
     if job < ready {
         return Ok(ready);
     }
+    encoded.list.clear();
     let to = count.min(job + window);
     match chunks.prepare(store, job, to) {
-        Ok(()) => Ok(to),
+        Ok(()) => {
+            *encoded = encode_ahead(crew, scale, chunks, job, to);
+            Ok(to)
+        }
         Err(fault) => Err(fault),
     }
 }

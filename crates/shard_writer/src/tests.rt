@@ -46,10 +46,29 @@ fn plan_of(alloc: Global, scale: &Scale, writes: &[(Box3, &[u8])]) -> Result<Pla
 }
 
 // Writing some writes into a store one of whose calls fails answers this, and leaves so many of these objects:
-// those in front.
+// those in front. So it is for any number of workers.
 fn check_scale<R: Threads + Wait + Abort + Sync>(
     rt: &R,
     alloc: Global,
+    scale: &Scale,
+    writes: &[(Box3, &[u8])],
+    failing: u64,
+    wanted: Result<Written, WriteFault>,
+    objects: &[(&[u8], &[u8])],
+    stand: u64,
+) -> Result<(), Fail> {
+    for workers in [1, 3, 16] {
+        check_workers(
+            rt, alloc, workers, scale, writes, failing, wanted, objects, stand,
+        )?;
+    }
+    Ok(())
+}
+
+fn check_workers<R: Threads + Wait + Abort + Sync>(
+    rt: &R,
+    alloc: Global,
+    workers: u32,
     scale: &Scale,
     writes: &[(Box3, &[u8])],
     failing: u64,
@@ -63,7 +82,7 @@ fn check_scale<R: Threads + Wait + Abort + Sync>(
     assert!(rt; plan.jobs().len() <= 1 << 22);
     assert!(rt; scale.can_encode());
     let answer = write_scale(
-        rt, alloc, &mut store, &dataset, scale, &mut plan, 1, &FreeGate,
+        rt, alloc, &mut store, &dataset, scale, &mut plan, workers, &FreeGate,
     );
     assert_eq!(rt; answer, wanted);
     for (number, (text, bytes)) in objects.iter().enumerate() {
@@ -324,14 +343,20 @@ fn leaves_whole_shards_at_each_failing_call(rt: HostRuntime) -> Result<(), Fail>
     Ok(())
 }
 
-// A shard of one minishard, whose chunks of a byte each have the ids 0, 1, 2, ..
-fn print_shard(alloc: Global, values: &[u8]) -> Result<Vec<u8>, AllocError> {
+// A shard of one minishard, whose so many chunks of one size have the ids 0, 1, 2, ..
+fn print_shard(
+    alloc: Global,
+    chunks: &[u8],
+    count: usize,
+    size: u64,
+) -> Result<Vec<u8>, AllocError> {
     let mut bytes = Vec::new(alloc);
-    bytes.extend_from_slice(&values.len().to_le_bytes())?;
-    bytes.extend_from_slice(&values.len().wrapping_mul(25).to_le_bytes())?;
-    bytes.extend_from_slice(values)?;
-    for (number, others) in [(0u64, 1u64), (0, 0), (1, 1)] {
-        for row in 0..values.len() {
+    let end = chunks.len().wrapping_add(count.wrapping_mul(24));
+    bytes.extend_from_slice(&chunks.len().to_le_bytes())?;
+    bytes.extend_from_slice(&end.to_le_bytes())?;
+    bytes.extend_from_slice(chunks)?;
+    for (number, others) in [(0, 1), (0, 0), (size, size)] {
+        for row in 0..count {
             let stored = if row == 0 { number } else { others };
             bytes.extend_from_slice(&stored.to_le_bytes())?;
         }
@@ -351,7 +376,7 @@ fn writes_a_minishard_over_windows(rt: HostRuntime) -> Result<(), Fail> {
     values[255] = 2;
     values[256] = 3;
     values[599] = 4;
-    let shard = print_shard(alloc, &values)?;
+    let shard = print_shard(alloc, &values, 600, 1)?;
     let all = (part([0; 3], size), values.as_slice());
     let one = [(ZERO, shard.as_slice())];
     let wanted = Ok(Written {
@@ -429,4 +454,58 @@ fn writes_segmentations(rt: HostRuntime) -> Result<(), Fail> {
     });
     check_scale(&rt, alloc, &single, &[all], 9, wanted, &one, 1)?;
     check_scale(&rt, alloc, &single, &[all], 8, fault, &one, 0)
+}
+
+// A segmentation of 300 voxels in cells of one voxel each.
+fn in_single_blocks(key: Name) -> Scale
+    requires { length key ≤ 200 }
+{
+    Scale {
+        key,
+        width: 4,
+        channels: 1,
+        size: [300, 1, 1],
+        offset: [0, 0, 0],
+        chunk: [1, 1, 1],
+        encoding: Encoding::Seg { block: [1, 1, 1] },
+        sharding: None,
+    }
+}
+
+// The chunk of one label.
+fn one_label(label: u32) -> [u8; 16] {
+    let mut bytes = ONE_LABEL;
+    bytes[12..].copy_from_slice(&label.to_le_bytes());
+    bytes
+}
+
+#[test]
+fn writes_segmentations_over_windows(rt: HostRuntime) -> Result<(), Fail> {
+    let alloc = rt.alloc();
+    // More cells than are prepared at once.
+    let plain = in_single_blocks(short_name(b"s").expect(&rt, "a key"));
+    let mut values = Vec::new(alloc);
+    let mut chunks = Vec::new(alloc);
+    for label in 0..300u32 {
+        values.extend_from_slice(&label.to_le_bytes())?;
+        chunks.extend_from_slice(&one_label(label))?;
+    }
+    let all = (part([0; 3], plain.size), values.as_slice());
+    let (first, middle, last) = (one_label(0), one_label(256), one_label(299));
+    let some = [
+        (b"d/s/0-1_0-1_0-1".as_slice(), first.as_slice()),
+        (b"d/s/256-257_0-1_0-1".as_slice(), middle.as_slice()),
+        (b"d/s/299-300_0-1_0-1".as_slice(), last.as_slice()),
+    ];
+    let wanted = Ok(written(300, 4_800));
+    check_scale(&rt, alloc, &plain, &[all], 900, wanted, &some, 3)?;
+    let single = in_shards(&rt, &plain, 0, 0);
+    let shard = print_shard(alloc, &chunks, 300, 16)?;
+    let one = [(ZERO, shard.as_slice())];
+    let wanted = Ok(Written {
+        objects: 1,
+        cells: 300,
+        bytes: 12_016,
+    });
+    check_scale(&rt, alloc, &single, &[all], 900, wanted, &one, 1)
 }

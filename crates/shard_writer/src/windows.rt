@@ -1,26 +1,28 @@
 //! An unsharded scale: each chunk is one object, written window by window.
 ghost use Rattle.std.specs.Prelude.{◌≡◌, ◌-◌, ◌*◌, ◌≤◌, ◌<◌, ◌^◌, None, Some, IfOk, IfSome, OnOk, OnErr, length};
-ghost use Rattle.vol_spec.specs.Limits.{padded_of};
 ghost use Rattle.vol_spec.specs.StoredCells.{put_in};
 ghost use Rattle.vol_spec.specs.declared.encoding.Encoding.TheVariants.{Raw};
+ghost use Rattle.vol_spec.specs.Writable.{IsWritable};
 ghost use Rattle.shard_writer.specs.Plain.{bytes_from, objects_from};
 ghost use Rattle.shard_writer.specs.Serving.{ServesFrames};
 ghost use Rattle.shard_writer.specs.Writing.{Drops, HasWriteCause, KnowsLens, NeverDamaged, PutsFront, PutsJobs, PutsSome, WritesAll, first_of_jobs, joint_len, stored_by, told_objects};
 ghost use Rattle.write_plan.specs.Jobs.{jobs_fault, window_of};
 
+use crate::ahead::{Crew, encode_ahead};
 use crate::encoder::reserve_frames;
 use crate::frames::Frames;
 use crate::jobs::write_jobs;
 use crate::steps::count_jobs;
 use crate::written::{WriteFault, Written};
-use std::alloc::Global;
+use std::thread::Threads;
 use vol_base::{Name, Store};
 use vol_spec::Scale;
 use write_plan::{Chunks, window};
 
-// Prepares the jobs from one number up to, not with, another, and writes their objects, by way of frames
-// for the scale's chunks; answers how many bytes they have together.
-fn write_window<S: Store, C: Chunks>(
+// Prepares the jobs from one number up to, not with, another, lets a crew encode them, and writes their
+// objects, by way of frames for the scale's chunks where they weren't; answers how many bytes they have together.
+fn write_window<R: Threads + Sync, S: Store, C: Chunks + Sync>(
+    crew: &Crew<R>,
     store: &mut S,
     dataset: &Name,
     scale: &Scale,
@@ -35,7 +37,7 @@ fn write_window<S: Store, C: Chunks>(
     requires within { to ≤ length (C.work chunks.old).cells }
     requires window { to - from ≤ window_of scale.now }
     requires few { to ≤ 2 ^ 22 }
-    requires writable { padded_of scale.now.encoding scale.now.channels scale.now.size scale.now.chunk ≤ 2 ^ 22 }
+    requires writable { IsWritable scale.now }
     requires frames { ServesFrames scale.now frames.old }
     ensures put { OnOk result (IfSome (S.objects store.old) (λ m. S.objects store.new ≡ Some (put_in m (objects_from dataset.now scale.now (C.work chunks.old).cells (stored_by (C.work chunks.old) m) from (to - from))))) }
     ensures answer { IfSome (S.objects store.old) (λ m. WritesAll result (jobs_fault (C.work chunks.old) m from (to - from))) }
@@ -50,13 +52,15 @@ fn write_window<S: Store, C: Chunks>(
     ensures cause { HasWriteCause (S.faults store.old) (S.faults store.new) result }
 {
     chunks.prepare(store, from, to)?;
-    let bytes = write_jobs(store, dataset, scale, chunks, from, to, frames)?;
+    let encoded = encode_ahead(crew, scale, chunks, from, to);
+    let bytes = write_jobs(store, dataset, scale, chunks, from, to, &encoded, frames)?;
     Ok(bytes)
 }
 
 // Writes the objects of all jobs, by way of frames for the scale's chunks; answers how many bytes they
 // have together.
-fn write_windows<S: Store, C: Chunks>(
+fn write_windows<R: Threads + Sync, S: Store, C: Chunks + Sync>(
+    crew: &Crew<R>,
     store: &mut S,
     dataset: &Name,
     scale: &Scale,
@@ -70,7 +74,7 @@ fn write_windows<S: Store, C: Chunks>(
     requires count { count ≡ length (C.work chunks.old).cells }
     requires few { count ≤ 2 ^ 22 }
     requires apart { IfSome (S.objects store.old) (λ _. C.apart chunks.old dataset.now scale.now) }
-    requires writable { padded_of scale.now.encoding scale.now.channels scale.now.size scale.now.chunk ≤ 2 ^ 22 }
+    requires writable { IsWritable scale.now }
     requires frames { ServesFrames scale.now frames.old }
     ensures put { OnOk result (IfSome (S.objects store.old) (λ m. S.objects store.new ≡ Some (put_in m (objects_from dataset.now scale.now (C.work chunks.old).cells (stored_by (C.work chunks.old) m) 0 count)))) }
     ensures answer { IfSome (S.objects store.old) (λ m. WritesAll result (jobs_fault (C.work chunks.old) m 0 count)) }
@@ -86,15 +90,15 @@ fn write_windows<S: Store, C: Chunks>(
     let mut bytes = 0;
     while from < count {
         let to = count.min(from + window);
-        bytes += write_window(store, dataset, scale, chunks, from, to, frames)?;
+        bytes += write_window(crew, store, dataset, scale, chunks, from, to, frames)?;
         from = to;
     }
     Ok(bytes)
 }
 
 /// Writes the objects of all jobs of an unsharded scale, in their order.
-pub(crate) fn write_plain<S: Store, C: Chunks>(
-    alloc: Global,
+pub(crate) fn write_plain<R: Threads + Sync, S: Store, C: Chunks + Sync>(
+    crew: &Crew<R>,
     store: &mut S,
     dataset: &Name,
     scale: &Scale,
@@ -102,7 +106,7 @@ pub(crate) fn write_plain<S: Store, C: Chunks>(
 ) -> Result<Written, WriteFault>
     requires dataset { length dataset.now ≤ 200 }
     requires unsharded { scale.now.sharding ≡ None }
-    requires writable { padded_of scale.now.encoding scale.now.channels scale.now.size scale.now.chunk ≤ 2 ^ 22 }
+    requires writable { IsWritable scale.now }
     requires scale { (C.work chunks.old).scale ≡ scale.now }
     requires few { length (C.work chunks.old).cells ≤ 2 ^ 22 }
     requires apart { IfSome (S.objects store.old) (λ _. C.apart chunks.old dataset.now scale.now) }
@@ -116,9 +120,9 @@ pub(crate) fn write_plain<S: Store, C: Chunks>(
     ensures draft { Drops (S.draft store.old) (S.draft store.new) }
     ensures cause { HasWriteCause (S.faults store.old) (S.faults store.new) result }
 {
-    let mut frames = reserve_frames(alloc, scale)?;
+    let mut frames = reserve_frames(crew.alloc, scale)?;
     let count = count_jobs(chunks);
-    let bytes = write_windows(store, dataset, scale, chunks, count, &mut frames)?;
+    let bytes = write_windows(crew, store, dataset, scale, chunks, count, &mut frames)?;
     Ok(Written {
         objects: count,
         cells: count,

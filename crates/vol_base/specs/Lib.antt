@@ -9,4 +9,5 @@ pub mod Grids
 pub mod Memory
 pub mod Names
 pub mod Outside
+pub mod Peers
 pub mod Stored

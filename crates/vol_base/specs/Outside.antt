@@ -1,5 +1,5 @@
 -- What a source and a store mean, and a feed.
-use Rattle.std.specs.Prelude.{◌≡◌, ◌<◌, ◌≤◌, IsSome, IfSome, ℕ, ◌+◌, ◌-◌, ◌^◌, min, Bool, List, [], ◌++◌, length, take, drop, Option, Some, None, nat_eq, ◌&&◌, ◌==◌, slice_index}
+use Rattle.std.specs.Prelude.{◌≡◌, ◌<◌, ◌≤◌, IsSome, IfSome, ℕ, ◌+◌, ◌-◌, ◌^◌, min, Bool, List, [], ◌∷◌, ◌++◌, length, take, drop, Option, Some, None, nat_eq, ◌&&◌, ◌==◌, slice_index}
 use Rattle.std.specs.Option.{is_some, option_map}
 use Rattle.std.specs.List.{list_any, starts_with}
 use Rattle.std.specs.FinMap as map
@@ -50,6 +50,15 @@ pub record IsCourse (stream left sent : Option (List ℕ)) : Type 0 where
   pub left_told : is_some left ≡ is_some stream
   pub sent_told : is_some sent ≡ is_some stream
   pub end : IfSome stream (λ whole. IfSome left (IsEndOf whole))
+
+-- an end that was closed: its stream, what was sent, and its count of faults
+abbrev pub Ended : Type 0
+Ended = List ℕ × List ℕ × ℕ
+
+-- a door that gave more ends than it has noted notes an end that is told
+abbrev pub Notes : Option (List Ended) → ℕ → Option (List ℕ) → Option (List ℕ) → ℕ → Option (List Ended) → Type 0
+Notes served accepted stream sent faults noted =
+    IfSome served (λ list. length list < accepted → IfSome stream (λ s. IfSome sent (λ o. noted ≡ Some (list ++ (s, o, faults) ∷ []))))
 
 -- a read from a place of an object, into these bytes
 pub record Reads (object : Option (List ℕ)) (at : ℕ) (old new : List ℕ) (answer : Got) : Type 0 where

@@ -42,7 +42,7 @@ impl Model for MemoryFeed {
 }
 
 // Puts the front of some bytes in front of a buffer, as far as there is room.
-fn give_front(left: &[u8], most: usize, out: &mut [u8]) -> usize
+pub(crate) fn give_front(left: &[u8], most: usize, out: &mut [u8]) -> usize
     ensures count { result ≡ min most (min (length left.now) (length out.old)) }
     ensures bytes { take result out.new ≡ take result left.now }
 {

@@ -3,9 +3,11 @@
 
 mod boxes;
 mod calls;
+mod door;
 mod faults;
 mod feed;
 mod grid;
+mod link;
 mod memory;
 mod name;
 mod outlet;
@@ -14,9 +16,11 @@ mod outside;
 mod tests;
 
 pub use boxes::{Box3, BoxFault};
+pub use door::MemoryDoor;
 pub use faults::{ChunkFault, Fault, IndexFault, ShardFault};
 pub use feed::MemoryFeed;
 pub use grid::Grid;
+pub use link::MemoryLink;
 pub use memory::MemoryStore;
 pub use name::Name;
 pub use outlet::MemoryOutlet;

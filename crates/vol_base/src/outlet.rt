@@ -41,7 +41,7 @@ impl Model for MemoryOutlet {
 }
 
 // Takes the front of a piece, as far as there is room, into room that was reserved.
-fn take_front(bytes: &mut Vec<u8>, piece: &[u8], most: usize) -> usize
+pub(crate) fn take_front(bytes: &mut Vec<u8>, piece: &[u8], most: usize) -> usize
     requires { length bytes.old.items + min most (length piece.now) ≤ vec_capacity bytes.old }
     ensures count { result ≡ min most (length piece.now) }
     ensures bytes { bytes.new.items ≡ bytes.old.items ++ take (min most (length piece.now)) piece.now }

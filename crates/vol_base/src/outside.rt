@@ -7,7 +7,7 @@ ghost use Rattle.std.specs.Prelude.{◌≡◌, ◌+◌, ◌<◌, ◌≤◌, ◌^
 ghost use Rattle.std.specs.Option.{option_map};
 ghost use Rattle.std.specs.FinMap as map;
 ghost use Rattle.vol_base.specs.Causes.{HasCause, HasStoreCause, IsCount};
-ghost use Rattle.vol_base.specs.Outside.{Objects, Draft, HaveBytes, IsCourse, IsTold, Gives, KeepsRest, OnlyReads, Reads, asked_after, any_under, begun, appended, patched, finished};
+ghost use Rattle.vol_base.specs.Outside.{Objects, Draft, Ended, Notes, HaveBytes, IsCourse, IsTold, Gives, KeepsRest, OnlyReads, Reads, asked_after, any_under, begun, appended, patched, finished};
 
 use crate::Name;
 
@@ -217,7 +217,7 @@ pub trait Door {
 
     /// The ends that were closed, in order, where they are told: the stream, the sent bytes and
     /// the count of faults of each.
-    ghost served: { Self → Option (List (List ℕ × List ℕ × ℕ)) };
+    ghost served: { Self → Option (List Ended) };
 
     /// How often a call failed. It stands still at 2^64 - 1.
     ghost faults: { Self → ℕ };
@@ -243,15 +243,19 @@ pub trait Door {
         ensures served { served self.new ≡ served self.old }
         ensures cause { HasCause (faults self.old) (faults self.new) result };
 
-    /// Drops a connection.
+    /// Drops a connection, and notes it where this door gave more ends than it has noted: so of the ends that it
+    /// gave, each once. To note an end of some other door would take memory that isn't there.
     fn close(&mut self, end: Self::End)
-        ensures served { IfSome (served self.old) (λ list. IfSome (Self.End.stream end) (λ stream. IfSome (Self.End.sent end) (λ sent. served self.new ≡ Some (list ++ (stream, sent, Self.End.faults end) ∷ [])))) }
+        ensures served { Notes (served self.old) (accepted self.old) (Self.End.stream end) (Self.End.sent end) (Self.End.faults end) (served self.new) }
         ensures accepted { accepted self.new ≡ accepted self.old }
         ensures bound { bound self.new ≡ bound self.old }
         ensures faults { faults self.new ≡ faults self.old };
 
     /// The count of faults is at most 2^64 - 1.
     ghost counts: { (s : Self) → IsCount (faults s) };
+
+    /// No more ends are noted than were given.
+    ghost notes: { (s : Self) → IfSome (served s) (λ list. length list ≤ accepted s) };
 }
 
 /// What a worker just did.

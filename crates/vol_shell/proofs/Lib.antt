@@ -1,2 +1,3 @@
+pub mod DrainSteps
 pub mod Gained
 pub mod KnownSteps

@@ -1,5 +1,6 @@
--- What a call leaves of its outlets.
+-- What a call leaves of its outlets, and of a reader.
 use Rattle.std.specs.Prelude.{◌≡◌, ℕ, ◌<◌, ◌≤◌, List, ◌++◌, length, take, Option}
+use Rattle.std.specs.Io.KnownBytes.{Consumes}
 use Rattle.std.specs.Option.{option_map}
 use Rattle.vol_base.specs.Causes.{Rose}
 
@@ -17,3 +18,9 @@ pub record Says (old new : Option (List ℕ)) (before now : ℕ) (bytes : List �
   pub within : count ≤ length bytes
   pub gained : Gains old new (take count bytes)
   pub cut_short : count < length bytes → Rose before now
+
+-- a reader lost at most so many of the bytes that it had left, where it tells these
+pub record LosesAtMost (most : ℕ) (old new : Option (List ℕ)) : Type 0 where
+  pub bytes : List ℕ
+  pub lost : Consumes old new bytes
+  pub few : length bytes ≤ most

@@ -46,6 +46,15 @@ voxels_line voxels = texts (codes "padded voxels " ∷ decimal voxels ∷ codes 
 abbrev pub written_line : ℕ → ℕ → List ℕ
 written_line objects cells = texts (codes "objects " ∷ decimal objects ∷ codes " cells " ∷ decimal cells ∷ line_feed ∷ [])
 
+-- what `generate` prints: of how many writes, how many objects of how many bytes together, and the sum of the values
+abbrev pub generated_line : ℕ → ℕ → ℕ → ℕ → List ℕ
+generated_line writes objects bytes sum =
+    texts (codes "writes " ∷ decimal writes ∷ codes " objects " ∷ decimal objects ∷ codes " bytes " ∷ decimal bytes ∷ codes " sum " ∷ decimal sum ∷ line_feed ∷ [])
+
+-- what a server prints: the port where it listens
+abbrev pub listening_line : ℕ → List ℕ
+listening_line port = texts (codes "listening " ∷ decimal port ∷ line_feed ∷ [])
+
 -- the lines that are always the same
 abbrev pub usage_line : List ℕ
 usage_line = texts (codes "usage" ∷ line_feed ∷ [])

@@ -1,6 +1,6 @@
 //! The lines that the tool prints.
 ghost use Rattle.std.specs.Prelude.{◌≡◌, IfOk, string_bytes};
-ghost use Rattle.vol_shell.specs.Lines.{cells_line, damaged_line, door_line, feed_line, folder_line, info_line, large_line, memory_line, output_line, outside_line, store_line, stream_line, usage_line, voxels_line, written_line};
+ghost use Rattle.vol_shell.specs.Lines.{cells_line, damaged_line, door_line, feed_line, folder_line, generated_line, info_line, large_line, listening_line, memory_line, output_line, outside_line, store_line, stream_line, usage_line, voxels_line, written_line};
 
 use std::alloc::{AllocError, Global};
 use vol_base::{Box3, Fault, Name};
@@ -98,4 +98,25 @@ pub fn write_written_line(alloc: Global, objects: u64, cells: u64) -> Result<Str
     ensures { IfOk result (λ line. string_bytes line ≡ written_line objects cells) }
 {
     format!(in alloc; "objects {objects} cells {cells}\n")
+}
+
+/// What `generate` prints: how many writes there were, how many objects were put, how many bytes these have together,
+/// and the sum of the values.
+pub fn write_generated_line(
+    alloc: Global,
+    writes: u32,
+    objects: u64,
+    bytes: u64,
+    sum: u64,
+) -> Result<String, AllocError>
+    ensures { IfOk result (λ line. string_bytes line ≡ generated_line writes objects bytes sum) }
+{
+    format!(in alloc; "writes {writes} objects {objects} bytes {bytes} sum {sum}\n")
+}
+
+/// What a server prints: the port where it listens.
+pub fn write_listening_line(alloc: Global, port: u16) -> Result<String, AllocError>
+    ensures { IfOk result (λ line. string_bytes line ≡ listening_line port) }
+{
+    format!(in alloc; "listening {port}\n")
 }

@@ -1,4 +1,4 @@
-//! The real feeds and outlets, and what stands for the streams that no command uses yet.
+//! The real feeds and outlets, and what stands for a door where none is wanted.
 ghost use Rattle.std.specs.Prelude.{◌<◌, ◌≤◌, length, IfOk, IsErr};
 ghost use Rattle.std.specs.Io.KnownBytes.{ReadConsumes, WriteAppends};
 ghost use Rattle.vol_base.specs.Causes.{HasCause, counted, is_count};
@@ -30,7 +30,7 @@ impl<W> StdOutlet<W> {
 // Writes some bytes of a piece, at least one. What a signal broke off is tried again, and a writer
 // that takes no byte fails.
 #[tactic(auto, using(crate::proofs::KnownSteps::kept, crate::proofs::KnownSteps::kept_twice, crate::proofs::KnownSteps::kept_and_grown, crate::proofs::KnownSteps::grown_by_none))]
-fn write_some<W: Write>(inner: &mut W, piece: &[u8]) -> Result<usize, Failed>
+pub(crate) fn write_some<W: Write>(inner: &mut W, piece: &[u8]) -> Result<usize, Failed>
     requires { 0 < length piece.now }
     ensures some { IfOk result (λ n. (0 < n) × (n ≤ length piece.now)) }
     ensures bytes { WriteAppends (W.contents inner.old) (W.contents inner.new) result piece.now }
@@ -90,7 +90,7 @@ impl<R> StdFeed<R> {
 
 // Reads some bytes, and none only at the end. What a signal broke off is tried again.
 #[tactic(auto, using(crate::proofs::KnownSteps::kept, crate::proofs::KnownSteps::kept_twice))]
-fn read_some<R: Read>(inner: &mut R, out: &mut [u8]) -> Result<usize, Failed>
+pub(crate) fn read_some<R: Read>(inner: &mut R, out: &mut [u8]) -> Result<usize, Failed>
     ensures within { IfOk result (λ n. n ≤ length out.old) }
     ensures bytes { ReadConsumes (R.remaining inner.old) (R.remaining inner.new) result out.new }
 {
@@ -212,6 +212,8 @@ impl Door for NoDoor {
     ghost faults = { counted };
 
     ghost counts = { is_count };
+
+    ghost notes = { λ _. tt };
 
     fn listen(&mut self, _port: u16) -> Result<u16, Failed>
         ensures fails { IsErr result }

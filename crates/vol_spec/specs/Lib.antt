@@ -2,6 +2,7 @@ pub mod BoxValues
 pub mod CellNames
 pub mod Chunks
 pub mod Codes
+pub mod Copies
 pub mod Costs
 pub mod Cut
 pub mod Encodings
@@ -29,3 +30,4 @@ pub mod StoredLists
 pub mod StoredShards
 pub mod Types
 pub mod Verdicts
+pub mod Writable

@@ -21,7 +21,7 @@ pub never : {T E : Type 0} (r : Result T E) → IsOkAnd r (λ _. ⊥) → ⊥
 never (Ok x) h = h
 never (Err e) h = h
 
-nothing_behind : (xs : List ℕ) → xs ++ [] ≡ xs
+pub nothing_behind : {A : Type 0} (xs : List A) → xs ++ [] ≡ xs
 nothing_behind [] = refl
 nothing_behind (x ∷ xs) = ap (λ ys. x ∷ ys) (nothing_behind xs)
 

@@ -2,9 +2,13 @@ pub mod AnswerSteps
 pub mod AskSteps
 pub mod Choices
 pub mod CutoutSteps
+pub mod DrawnSteps
+pub mod GenerateSteps
 pub mod InfoSteps
 pub mod MemorySteps
 pub mod PlanSteps
 pub mod ReportSteps
+pub mod ServeSteps
 pub mod StreamSteps
+pub mod SumSteps
 pub mod WriteSteps

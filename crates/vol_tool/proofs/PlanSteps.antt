@@ -12,7 +12,7 @@ use Rattle.vol_spec.specs.StoredLists.{stored_list}
 use Rattle.vol_spec.specs.Types.{Name, Writes}
 use Rattle.vol_spec.specs.declared.scale.Scale.{Scale}
 use Rattle.shard_writer.proofs.PlannedSteps.{planned_len, planned_objects}
-use Rattle.shard_writer.specs.Writing.{job_objects, PutsFront, PutsJobs, PutsSome, told_objects}
+use Rattle.shard_writer.specs.Writing.{job_objects, joint_len, KnowsLens, PutsFront, PutsJobs, PutsSome, told_objects}
 use Rattle.shard_writer.specs.declared.written.Written.{Written}
 use Rattle.write_plan.specs.Plans.{pairs, Planned, planned_cells, work_of}
 use Rattle.write_plan.specs.declared.plan.PlanRefusal.{PlanRefusal}
@@ -67,13 +67,18 @@ few_jobs plan s e few =
 
 -- what putting a plan's objects answers
 pub put_done : (written : Written) (o now : Option Objects) (plan : Planned) (dataset : Name) (s : Scale) → plan.scale ≡ s → pairs s plan.writes ≤ 2 ^ 22
-    → written.objects ≡ length (told_objects dataset (work_of plan) o) → written.cells ≡ length (planned_cells plan) → PutsJobs dataset (work_of plan) o now
+    → written.objects ≡ length (told_objects dataset (work_of plan) o) → written.cells ≡ length (planned_cells plan)
+    → (KnowsLens (work_of plan) o → written.bytes ≡ joint_len (told_objects dataset (work_of plan) o)) → PutsJobs dataset (work_of plan) o now
     → IfSome o (λ m. PutsWrites (Ok written) m now dataset s plan.writes)
-put_done written None now plan dataset s e few objects cells put = tt
-put_done written (Some m) now plan dataset s e few objects cells put = (
+put_done written None now plan dataset s e few objects cells bytes put = tt
+put_done written (Some m) now plan dataset s e few objects cells bytes put = (
   put ∙ ap (λ xs. Some (put_in m xs)) (plan_objects plan m dataset s e),
   few,
-  record { objects = objects ∙ ap length (plan_objects plan m dataset s e); cells = cells ∙ planned_count plan s e },
+  record {
+    objects = objects ∙ ap length (plan_objects plan m dataset s e);
+    cells = cells ∙ planned_count plan s e;
+    bytes = bytes tt ∙ ap joint_len (plan_objects plan m dataset s e);
+  },
 )
 
 front_done : (m : Objects) (now : Option Objects) (plan : Planned) (dataset : Name) (s : Scale) → plan.scale ≡ s → PutsSome dataset (work_of plan) (Some m) now

@@ -1,6 +1,5 @@
 -- What writing a stream answers.
 use Rattle.std.proofs.Common.{◌≡◌, ℕ, zero, suc, List, [], ◌∷◌, ◌++◌, length, Option, Some, None, IfSome, Result, Ok, Err, refl, subst, ap, inl, inr, ◌∙◌, ◌≤◌, ◌^◌, arith, sym}
-use Rattle.std.specs.Option.{option_map}
 use Rattle.std.specs.Prelude.{◌&&◌, ◌==◌, All, Bool, true, false, IfErr, codes, slice_index}
 use Rattle.vol_base.specs.Outside.{any_under, Draft, is_under, Objects}
 use Rattle.vol_base.specs.Bytes.{AreBytes}
@@ -17,10 +16,12 @@ use Rattle.chunk_laws.specs.Told.{LeavesOutside, ReadsBack}
 use Rattle.shard_writer.specs.declared.written.Written.{Written}
 use Rattle.write_plan.specs.Plans.{pairs}
 use Rattle.write_plan.specs.Stream.{writes_of}
+use Rattle.write_plan.specs.declared.fault.PlanFault.{PlanFault}
 use Rattle.vol_tool.proofs.Choices.{ok_is}
 use Rattle.vol_tool.proofs.PlanSteps.{few_cells}
-use Rattle.vol_tool.specs.Scales.{info_name, IsWritable, scale_from, stored_scale}
-use Rattle.vol_tool.specs.Storing.{AllReadBack, Counts, FrontPut, HasStored, KeepsPlan, PutsWrites, WritesAll, WritesScale}
+use Rattle.vol_spec.specs.Writable.{IsWritable}
+use Rattle.vol_tool.specs.Scales.{info_name, scale_from, stored_scale}
+use Rattle.vol_tool.specs.Storing.{AllReadBack, Counts, FrontPut, HasStored, KeepsPlan, Listing, PutsWrites, WritesAll, WritesScale}
 use Rattle.vol_tool.specs.declared.refusal.NoScale.{NoScale as NoScaleType}
 use Rattle.vol_tool.specs.declared.refusal.WriteRefusal.{WriteRefusal}
 use Rattle.vol_tool.specs.declared.refusal.WriteRefusal.TheVariants.{NoScale, TooManyVoxels, NotEmpty, Stream, TooManyCells, StoreFault, FeedFault, OutFault, NoMemory}
@@ -63,56 +64,62 @@ all_back m now dataset s writes laws limit small empty few put =
     let can : AreWritable m dataset s writes = record { few = few_met s writes few; writable = limit; bytes = small; empty = empty } in
     subst (λ o. AllReadBack o dataset s writes) (sym put) (λ b inside. laws.back m writes b can inside)
 
--- writes that were read and written
-stream_written : (result : Result Written WriteRefusal) (m : Objects) (now before after : Option Objects) (draft left_draft : Option Draft) (bytes : Bytes) (left : Option Bytes) (dataset key : Name) (s : Scale) (writes : Writes)
-    → Laws dataset s → IsWritable s → All (λ w. AreBytes w.1) writes → any_under m (folder_of dataset s) ≡ false → left ≡ Some [] → writes_of bytes s ≡ Ok writes
-    → IfErr result (λ r. KeepsPlan r before after draft left_draft) → PutsWrites result m now dataset s writes → WritesScale result m now bytes left dataset key s
-stream_written (Ok written) m now before after draft left_draft bytes left dataset key s writes laws limit small empty end read kept put =
-    ok_is (writes_of bytes s) writes (λ ws. HasStored m now left dataset key s ws × AllReadBack now dataset s ws × Counts written dataset s ws) read (
-      record { writable = limit; empty = empty; few = put.1; end = end; put = put.0; same = scale_kept m dataset key s (chunks_of s zeros writes) (laws.outside m (chunks_of s zeros writes)) },
+-- writes that were listed and written
+list_written : (result : Result Written WriteRefusal) (m : Objects) (now before after : Option Objects) (draft left_draft : Option Draft) (list : Result Writes PlanFault) (dataset key : Name) (s : Scale) (writes : Writes)
+    → Laws dataset s → IsWritable s → All (λ w. AreBytes w.1) writes → any_under m (folder_of dataset s) ≡ false → list ≡ Ok writes
+    → IfErr result (λ r. KeepsPlan r before after draft left_draft) → PutsWrites result m now dataset s writes → WritesScale result m now list dataset key s
+list_written (Ok written) m now before after draft left_draft list dataset key s writes laws limit small empty read kept put =
+    ok_is list writes (λ ws. HasStored m now dataset key s ws × AllReadBack now dataset s ws × Counts written dataset s ws) read (
+      record { writable = limit; empty = empty; bytes = small; few = put.1; put = put.0; same = scale_kept m dataset key s (chunks_of s zeros writes) (laws.outside m (chunks_of s zeros writes)) },
       all_back m now dataset s writes laws limit small empty put.1 put.0,
       put.2,
     )
-stream_written (Err (TooManyCells cells)) m now before after draft left_draft bytes left dataset key s writes laws limit small empty end read kept put = ok_is (writes_of bytes s) writes _ read put
-stream_written (Err StoreFault) m now before after draft left_draft bytes left dataset key s writes laws limit small empty end read kept put = inr (limit, empty, ok_is (writes_of bytes s) writes _ read put)
-stream_written (Err NoMemory) m now before after draft left_draft bytes left dataset key s writes laws limit small empty end read kept (inl same) = inl same
-stream_written (Err NoMemory) m now before after draft left_draft bytes left dataset key s writes laws limit small empty end read kept (inr put) = inr (limit, empty, ok_is (writes_of bytes s) writes _ read put)
-stream_written (Err (TooManyVoxels voxels)) m now before after draft left_draft bytes left dataset key s writes laws limit small empty end read kept put = tt
-stream_written (Err NotEmpty) m now before after draft left_draft bytes left dataset key s writes laws limit small empty end read kept put = tt
-stream_written (Err (Stream fault)) m now before after draft left_draft bytes left dataset key s writes laws limit small empty end read kept put = absurd put
-stream_written (Err FeedFault) m now before after draft left_draft bytes left dataset key s writes laws limit small empty end read kept put = tt
-stream_written (Err (NoScale why)) m now before after draft left_draft bytes left dataset key s writes laws limit small empty end read kept put = absurd put
-stream_written (Err OutFault) m now before after draft left_draft bytes left dataset key s writes laws limit small empty end read kept put = absurd put
+list_written (Err (TooManyCells cells)) m now before after draft left_draft list dataset key s writes laws limit small empty read kept put = ok_is list writes _ read put
+list_written (Err StoreFault) m now before after draft left_draft list dataset key s writes laws limit small empty read kept put = inr ((limit, empty), ok_is list writes _ read put)
+list_written (Err NoMemory) m now before after draft left_draft list dataset key s writes laws limit small empty read kept (inl same) = inl same
+list_written (Err NoMemory) m now before after draft left_draft list dataset key s writes laws limit small empty read kept (inr put) = inr ((limit, empty), ok_is list writes _ read put)
+list_written (Err (TooManyVoxels voxels)) m now before after draft left_draft list dataset key s writes laws limit small empty read kept put = tt
+list_written (Err NotEmpty) m now before after draft left_draft list dataset key s writes laws limit small empty read kept put = tt
+list_written (Err (Stream fault)) m now before after draft left_draft list dataset key s writes laws limit small empty read kept put = absurd put
+list_written (Err FeedFault) m now before after draft left_draft list dataset key s writes laws limit small empty read kept put = tt
+list_written (Err (NoScale why)) m now before after draft left_draft list dataset key s writes laws limit small empty read kept put = absurd put
+list_written (Err OutFault) m now before after draft left_draft list dataset key s writes laws limit small empty read kept put = absurd put
 
 -- the same where objects and the feed may be untold
-pub stream_told : (result : Result Written WriteRefusal) (told same now : Option Objects) (draft left_draft : Option Draft) (fed left : Option Bytes) (dataset key : Name) (s : Scale) (writes : Writes) (folder : Name) (found : Bool)
-    → Laws dataset s → IsWritable s → All (λ w. AreBytes w.1) writes → same ≡ told → folder ≡ folder_of dataset s → found ≡ false → IfSome told (λ m. found ≡ any_under m folder) → left ≡ option_map (λ _. []) fed
-    → IfSome fed (λ bytes. writes_of bytes s ≡ Ok writes) → IfErr result (λ r. KeepsPlan r same now draft left_draft) → IfSome same (λ m. PutsWrites result m now dataset s writes)
-    → IfSome told (λ m. IfSome fed (λ bytes. WritesScale result m now bytes left dataset key s))
-stream_told result None same now draft left_draft fed left dataset key s writes folder found laws limit small kept named none empty end read keeps put = tt
-stream_told result (Some m) same now draft left_draft None left dataset key s writes folder found laws limit small kept named none empty end read keeps put = tt
-stream_told result (Some m) same now draft left_draft (Some bytes) left dataset key s writes folder found laws limit small kept named none empty end read keeps put =
-    stream_written result m now same now draft left_draft bytes left dataset key s writes laws limit small (ap (any_under m) (sym named) ∙ sym empty ∙ none) end read keeps (subst (λ o. IfSome o (λ m. PutsWrites result m now dataset s writes)) kept put)
+pub list_told : (result : Result Written WriteRefusal) (told now : Option Objects) (draft left_draft : Option Draft) (fed : Option Bytes) (dataset key : Name) (s : Scale) (writes : Writes)
+    → Laws dataset s → IsWritable s → All (λ w. AreBytes w.1) writes → IfSome told (λ m. any_under m (folder_of dataset s) ≡ false)
+    → IfSome fed (λ bytes. writes_of bytes s ≡ Ok writes) → IfErr result (λ r. KeepsPlan r told now draft left_draft) → IfSome told (λ m. PutsWrites result m now dataset s writes)
+    → IfSome told (λ m. IfSome fed (λ bytes. WritesScale result m now (writes_of bytes s) dataset key s))
+list_told result None now draft left_draft fed dataset key s writes laws limit small empty read keeps put = tt
+list_told result (Some m) now draft left_draft None dataset key s writes laws limit small empty read keeps put = tt
+list_told result (Some m) now draft left_draft (Some bytes) dataset key s writes laws limit small empty read keeps put =
+    list_written result m now (Some m) now draft left_draft (writes_of bytes s) dataset key s writes laws limit small empty read keeps put
+
+-- the folder of a scale, as it was found
+pub folder_found : (told : Option Objects) (folder dataset : Name) (s : Scale) (found wanted : Bool) → folder ≡ folder_of dataset s → found ≡ wanted → IfSome told (λ m. found ≡ any_under m folder)
+    → IfSome told (λ m. any_under m (folder_of dataset s) ≡ wanted)
+folder_found None folder dataset s found wanted named is h = tt
+folder_found (Some m) folder dataset s found wanted named is h = ap (any_under m) (sym named) ∙ sym h ∙ is
 
 -- what writing a scale answers is what writing a key answers, where the key has the scale
-key_writes : (result : Result Written WriteRefusal) (told : Result Scale NoScaleType) (m : Objects) (now : Option Objects) (bytes : Bytes) (left : Option Bytes) (dataset key : Name) (s : Scale)
-    → told ≡ Ok s → WritesScale result m now bytes left dataset key s → WritesAll result told m now bytes left dataset key
-key_writes (Ok written) told m now bytes left dataset key s is writes = ok_is told s (λ s. WritesScale (Ok written) m now bytes left dataset key s) is writes
-key_writes (Err (TooManyVoxels voxels)) told m now bytes left dataset key s is writes = ok_is told s (λ s. WritesScale (Err (TooManyVoxels voxels)) m now bytes left dataset key s) is writes
-key_writes (Err NotEmpty) told m now bytes left dataset key s is writes = ok_is told s (λ s. WritesScale (Err NotEmpty) m now bytes left dataset key s) is writes
-key_writes (Err (Stream fault)) told m now bytes left dataset key s is writes = ok_is told s (λ s. WritesScale (Err (Stream fault)) m now bytes left dataset key s) is writes
-key_writes (Err (TooManyCells cells)) told m now bytes left dataset key s is writes = ok_is told s (λ s. WritesScale (Err (TooManyCells cells)) m now bytes left dataset key s) is writes
-key_writes (Err FeedFault) told m now bytes left dataset key s is writes = ok_is told s (λ s. WritesScale (Err FeedFault) m now bytes left dataset key s) is writes
-key_writes (Err StoreFault) told m now bytes left dataset key s is (inl same) = inl same
-key_writes (Err StoreFault) told m now bytes left dataset key s is (inr put) = inr (ok_is told s (FrontPut m now bytes dataset) is put)
-key_writes (Err NoMemory) told m now bytes left dataset key s is (inl same) = inl same
-key_writes (Err NoMemory) told m now bytes left dataset key s is (inr put) = inr (ok_is told s (FrontPut m now bytes dataset) is put)
-key_writes (Err (NoScale why)) told m now bytes left dataset key s is writes = tt
-key_writes (Err OutFault) told m now bytes left dataset key s is writes = absurd writes
+key_writes : (result : Result Written WriteRefusal) (told : Result Scale NoScaleType) (m : Objects) (now : Option Objects) (list : Listing) (dataset key : Name) (s : Scale)
+    → told ≡ Ok s → WritesScale result m now (list s) dataset key s → WritesAll result told m now list dataset key
+key_writes (Ok written) told m now list dataset key s is writes = ok_is told s (λ s. WritesScale (Ok written) m now (list s) dataset key s) is writes
+key_writes (Err (TooManyVoxels voxels)) told m now list dataset key s is writes = ok_is told s (λ s. WritesScale (Err (TooManyVoxels voxels)) m now (list s) dataset key s) is writes
+key_writes (Err NotEmpty) told m now list dataset key s is writes = ok_is told s (λ s. WritesScale (Err NotEmpty) m now (list s) dataset key s) is writes
+key_writes (Err (Stream fault)) told m now list dataset key s is writes = ok_is told s (λ s. WritesScale (Err (Stream fault)) m now (list s) dataset key s) is writes
+key_writes (Err (TooManyCells cells)) told m now list dataset key s is writes = ok_is told s (λ s. WritesScale (Err (TooManyCells cells)) m now (list s) dataset key s) is writes
+key_writes (Err FeedFault) told m now list dataset key s is writes = ok_is told s (λ s. WritesScale (Err FeedFault) m now (list s) dataset key s) is writes
+key_writes (Err StoreFault) told m now list dataset key s is (inl same) = inl same
+key_writes (Err StoreFault) told m now list dataset key s is (inr put) = inr (ok_is told s (λ s. FrontPut m now (list s) dataset s) is put)
+key_writes (Err NoMemory) told m now list dataset key s is (inl same) = inl same
+key_writes (Err NoMemory) told m now list dataset key s is (inr put) = inr (ok_is told s (λ s. FrontPut m now (list s) dataset s) is put)
+key_writes (Err (NoScale why)) told m now list dataset key s is writes = tt
+key_writes (Err OutFault) told m now list dataset key s is writes = absurd writes
 
-pub key_told : (result : Result Written WriteRefusal) (o same now : Option Objects) (fed left : Option Bytes) (dataset key : Name) (s : Scale) → same ≡ o → IfSome o (λ m. stored_scale m dataset key ≡ Ok s)
-    → IfSome same (λ m. IfSome fed (λ bytes. WritesScale result m now bytes left dataset key s)) → IfSome o (λ m. IfSome fed (λ bytes. WritesAll result (stored_scale m dataset key) m now bytes left dataset key))
-key_told result None same now fed left dataset key s e is writes = tt
-key_told result (Some m) same now None left dataset key s e is writes = tt
-key_told result (Some m) same now (Some bytes) left dataset key s e is writes =
-    key_writes result (stored_scale m dataset key) m now bytes left dataset key s is (subst (λ o. IfSome o (λ m. WritesScale result m now bytes left dataset key s)) e writes)
+pub key_told : (result : Result Written WriteRefusal) (o same now : Option Objects) (fed : Option Bytes) (dataset key : Name) (s : Scale) → same ≡ o → IfSome o (λ m. stored_scale m dataset key ≡ Ok s)
+    → IfSome same (λ m. IfSome fed (λ bytes. WritesScale result m now (writes_of bytes s) dataset key s)) → IfSome o (λ m. IfSome fed (λ bytes. WritesAll result (stored_scale m dataset key) m now (writes_of bytes) dataset key))
+key_told result None same now fed dataset key s e is writes = tt
+key_told result (Some m) same now None dataset key s e is writes = tt
+key_told result (Some m) same now (Some bytes) dataset key s e is writes =
+    key_writes result (stored_scale m dataset key) m now (writes_of bytes) dataset key s is (subst (λ o. IfSome o (λ m. WritesScale result m now (writes_of bytes s) dataset key s)) e writes)

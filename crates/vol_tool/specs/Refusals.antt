@@ -7,6 +7,8 @@ use Rattle.vol_shell.specs.Lines.{cells_line, damaged_line, feed_line, folder_li
 use Rattle.vol_spec.specs.Types.{Bytes, Name}
 use Rattle.vol_tool.specs.declared.refusal.CutoutRefusal.{CutoutRefusal}
 use Rattle.vol_tool.specs.declared.refusal.CutoutRefusal.TheVariants as cutout
+use Rattle.vol_tool.specs.declared.refusal.GenerateRefusal.{GenerateRefusal}
+use Rattle.vol_tool.specs.declared.refusal.GenerateRefusal.TheVariants.{Write, Cutout}
 use Rattle.vol_tool.specs.declared.refusal.NoScale.{NoScale}
 use Rattle.vol_tool.specs.declared.refusal.NoScale.TheVariants.{Absent, Refused}
 use Rattle.vol_tool.specs.declared.refusal.ScaleRefusal.{ScaleRefusal}
@@ -92,3 +94,12 @@ write_line dataset write.StoreFault = store_line
 write_line dataset write.FeedFault = feed_line
 write_line dataset write.OutFault = output_line
 write_line dataset write.NoMemory = memory_line
+
+-- a list that is made from a number is refused as a write is, or as a cutout of the whole scale is
+abbrev pub generate_status : GenerateRefusal → Status
+generate_status (Write refusal) = write_status refusal
+generate_status (Cutout refusal) = cutout_status refusal
+
+abbrev pub generate_line : Name → GenerateRefusal → Bytes
+generate_line dataset (Write refusal) = write_line dataset refusal
+generate_line dataset (Cutout refusal) = cutout_line dataset refusal

@@ -3,11 +3,14 @@ use Rattle.std.specs.Prelude.{◌≡◌, ◌⊎◌, false, [], Option, None, Som
 use Rattle.std.specs.Option.{option_map}
 use Rattle.vol_base.specs.Causes.{Rose}
 use Rattle.command_line.specs.declared.commands.Command.{Command}
-use Rattle.command_line.specs.declared.commands.Command.TheVariants.{Cutout, Write}
+use Rattle.command_line.specs.declared.commands.Command.TheVariants.{Cutout, Generate, Serve, Write}
 use Rattle.shard_writer.specs.Writing.{Drops}
+use Rattle.write_plan.specs.Stream.{writes_of}
 use Rattle.vol_shell.specs.Lines.{memory_line, usage_line}
 use Rattle.vol_tool.specs.Cutouts.{AsksFor, CanCut, CutoutLeaves, CutoutShows}
+use Rattle.vol_tool.specs.Generating.{CanGenerate, drawn, GenerateLeaves, GenerateShows}
 use Rattle.vol_tool.specs.Seen.{Faults, IsLater, LeavesStore, Outlets, outlets, Seen, Silent, Tells}
+use Rattle.vol_tool.specs.Servings.{AcceptsEnds, ServeLeaves, ServeShows}
 use Rattle.vol_tool.specs.Storing.{CanWrite, puts, WriteJudges, WriteLeaves, WriteShows, WrittenBack}
 use Rattle.vol_tool.specs.declared.status.Status.{Status}
 use Rattle.vol_tool.specs.declared.status.Status.TheVariants.{Ok, Usage, InfoRefused, StoreFault, FeedFault, OutFault, NoMemory, DoorFault}
@@ -20,6 +23,10 @@ Answers (Some (Cutout dataset key part)) status before after =
 Answers (Some (Write dataset key workers)) status before after =
     IfSome before.objects (λ m. WriteJudges status m dataset key before.left after.left (outlets before after)
     × IfSome before.left (λ bytes. WriteShows status m after.objects bytes after.left dataset key (outlets before after)))
+Answers (Some (Generate dataset key number count workers)) status before after =
+    IfSome before.objects (λ m. GenerateShows status m after.objects number count dataset key (outlets before after))
+Answers (Some (Serve dataset port connections)) status before after =
+    IfSome before.objects (λ m. ServeShows status m dataset before.door after.door before.faults.store after.faults.store)
 
 -- it succeeds, or wants memory
 abbrev pub EndsWell : Status → Type 0
@@ -32,17 +39,25 @@ Succeeds (Some (Cutout dataset key part)) status before after =
     IfSome before.objects (λ m. CanCut m dataset key part
     → ¬ Rose before.faults.store after.faults.store → ¬ Rose before.faults.out after.faults.out → EndsWell status)
 Succeeds (Some (Write dataset key workers)) status before after =
-    IfSome before.objects (λ m. IfSome before.left (λ bytes. CanWrite m bytes dataset key
+    IfSome before.objects (λ m. IfSome before.left (λ bytes. CanWrite m (writes_of bytes) dataset key
     → ¬ Rose before.faults.store after.faults.store → ¬ Rose before.faults.feed after.faults.feed
     → ¬ Rose before.faults.out after.faults.out → EndsWell status))
+Succeeds (Some (Generate dataset key number count workers)) status before after =
+    IfSome before.objects (λ m. CanGenerate m number count dataset key
+    → ¬ Rose before.faults.store after.faults.store → ¬ Rose before.faults.out after.faults.out → EndsWell status)
+Succeeds (Some (Serve dataset port connections)) status before after =
+    ¬ Rose before.faults.door after.faults.door → ¬ Rose before.faults.out after.faults.out → EndsWell status
 
--- After a write that succeeds, each box inside the scale reads back: no cell of it has a fault, and its cutout is
+-- After a writing command that succeeds, each box inside the scale reads back: no cell of it has a fault, and its cutout is
 -- exactly the bytes of the last write at each voxel and channel, none missing.
 abbrev pub Headline : Option Command → Status → Seen → Seen → Type 0
 Headline None status before after = Unit {0}
 Headline (Some (Cutout dataset key part)) status before after = Unit {0}
 Headline (Some (Write dataset key workers)) status before after =
-    status ≡ Ok → IfSome before.objects (λ m. IfSome before.left (λ bytes. WrittenBack m after.objects bytes dataset key))
+    status ≡ Ok → IfSome before.objects (λ m. IfSome before.left (λ bytes. WrittenBack m after.objects (writes_of bytes) dataset key))
+Headline (Some (Generate dataset key number count workers)) status before after =
+    status ≡ Ok → IfSome before.objects (λ m. WrittenBack m after.objects (drawn number count) dataset key)
+Headline (Some (Serve dataset port connections)) status before after = Unit {0}
 
 -- what words that are no command line leave
 abbrev pub UsageLeaves : Status → Outlets → Type 0
@@ -55,6 +70,8 @@ abbrev pub Leaves : Option Command → Status → Seen → Seen → Type 0
 Leaves None status before after = UsageLeaves status (outlets before after)
 Leaves (Some (Cutout dataset key part)) status before after = CutoutLeaves status dataset part (outlets before after)
 Leaves (Some (Write dataset key workers)) status before after = WriteLeaves status dataset (outlets before after)
+Leaves (Some (Generate dataset key number count workers)) status before after = GenerateLeaves status dataset count (outlets before after)
+Leaves (Some (Serve dataset port connections)) status before after = ServeLeaves status after.door.bound (outlets before after)
 
 -- What stays of the store, the feed and the door.
 abbrev pub Keeps : Option Command → Status → Seen → Seen → Type 0
@@ -69,6 +86,13 @@ Keeps (Some (Write dataset key workers)) status before after =
     Drops before.draft after.draft × (puts status ≡ false → LeavesStore before after)
     × (status ≡ Ok → after.left ≡ option_map (λ _. []) before.left) × (status ≡ InfoRefused → after.left ≡ before.left)
     × (after.door ≡ before.door)
+-- the same of a list that is made from a number, and the feed isn't read
+Keeps (Some (Generate dataset key number count workers)) status before after =
+    Drops before.draft after.draft × (puts status ≡ false → LeavesStore before after)
+    × (after.left ≡ before.left) × (after.door ≡ before.door)
+-- no more ends are taken from the door than were asked for
+Keeps (Some (Serve dataset port connections)) status before after =
+    LeavesStore before after × (after.left ≡ before.left) × AcceptsEnds status connections before.door after.door
 
 -- no count falls, a fault comes only where its count rose, and at success nothing was told, so nothing failed to be
 pub record IsCaused (status : Status) (before after : Faults) : Type 0 where
@@ -87,3 +111,6 @@ Causes None status before after =
 Causes (Some (Cutout dataset key part)) status before after =
     IsCaused status before after × (after.feed ≡ before.feed) × (after.door ≡ before.door)
 Causes (Some (Write dataset key workers)) status before after = IsCaused status before after × (after.door ≡ before.door)
+Causes (Some (Generate dataset key number count workers)) status before after =
+    IsCaused status before after × (after.feed ≡ before.feed) × (after.door ≡ before.door)
+Causes (Some (Serve dataset port connections)) status before after = IsCaused status before after × (after.feed ≡ before.feed)

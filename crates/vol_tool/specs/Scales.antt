@@ -1,11 +1,10 @@
 -- The scale of a key, as objects have it.
-use Rattle.std.specs.Prelude.{◌≡◌, ℕ, ◌≤◌, ◌^◌, Option, Some, None, Result, Ok, Err, codes}
+use Rattle.std.specs.Prelude.{◌≡◌, Option, Some, None, Result, Ok, Err, codes}
 use Rattle.std.specs.FinMap as fin
 use Rattle.vol_base.specs.Outside.{Objects}
 use Rattle.info_doc.specs.declared.fault.InfoFault.{InfoFault}
 use Rattle.info_doc.specs.Info.{scale_in}
 use Rattle.vol_spec.specs.CellNames.{joined}
-use Rattle.vol_spec.specs.Limits.{padded_of}
 use Rattle.vol_spec.specs.Types.{Bytes, Name}
 use Rattle.vol_spec.specs.declared.scale.Scale.{Scale}
 use Rattle.vol_tool.specs.declared.refusal.NoScale.{NoScale}
@@ -29,14 +28,6 @@ scale_from (Some bytes) key = judged_info (scale_in bytes key)
 -- the scale of a key that the objects have under a data set, or why there is none
 unfoldable pub stored_scale : Objects → Name → Name → Result Scale NoScale
 stored_scale objects dataset key = scale_from (fin.get objects (info_name dataset)) key
-
--- the padded voxels of a scale's first cell times the channels, 0 where chunks are raw
-abbrev pub padded : Scale → ℕ
-padded s = padded_of s.encoding s.channels s.size s.chunk
-
--- a scale that keeps the writing limit: others can be read, and not written (this project's limit)
-abbrev pub IsWritable : Scale → Type 0
-IsWritable s = padded s ≤ 2 ^ 22
 
 -- what reading a scale answers
 abbrev pub ReadsScale : Result Scale ScaleRefusal → Result Scale NoScale → Type 0

@@ -22,6 +22,10 @@ pub record Doorway : Type 0 where
   pub accepted : ℕ
   pub served : Option Ends
 
+-- the same by what a door tells
+abbrev pub doorway : {D : Type 0} → (D → Option ℕ) → (D → ℕ) → (D → Option Ends) → D → Doorway
+doorway bound accepted served d = record { bound = bound d; accepted = accepted d; served = served d }
+
 -- the objects and the one being written, how many bytes were asked for, what is left of the feed, and what was written
 -- to the two outlets, where they are told; the door, and how often each part failed
 pub record Seen : Type 0 where
@@ -45,7 +49,7 @@ view objects draft asked store_faults left feed_faults out out_faults err err_fa
   left = left f;
   out = out o;
   err = err e;
-  door = record { bound = bound d; accepted = accepted d; served = served d };
+  door = doorway bound accepted served d;
   faults = record { store = store_faults s; feed = feed_faults f; out = out_faults o; err = err_faults e; door = door_faults d };
 }
 

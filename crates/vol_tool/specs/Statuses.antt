@@ -2,9 +2,11 @@
 use Rattle.std.specs.Prelude.{◌≡◌, ◌⊎◌, ℕ, Option, Some, None, IfSome, refl}
 use Rattle.vol_shell.specs.Lines.{door_line, feed_line, memory_line, output_line, store_line, usage_line}
 use Rattle.vol_spec.specs.Types.{Bytes, Name}
-use Rattle.vol_tool.specs.Refusals.{cutout_line, cutout_status, write_line, write_status}
+use Rattle.vol_tool.specs.Refusals.{cutout_line, cutout_status, generate_line, generate_status, write_line, write_status}
 use Rattle.vol_tool.specs.declared.refusal.CutoutRefusal.{CutoutRefusal}
 use Rattle.vol_tool.specs.declared.refusal.CutoutRefusal.TheVariants as cutout
+use Rattle.vol_tool.specs.declared.refusal.GenerateRefusal.{GenerateRefusal}
+use Rattle.vol_tool.specs.declared.refusal.GenerateRefusal.TheVariants.{Write, Cutout}
 use Rattle.vol_tool.specs.declared.refusal.WriteRefusal.{WriteRefusal}
 use Rattle.vol_tool.specs.declared.refusal.WriteRefusal.TheVariants as write
 use Rattle.vol_tool.specs.declared.status.Status.{Status}
@@ -60,3 +62,7 @@ write_fixed dataset write.StoreFault = refl
 write_fixed dataset write.FeedFault = refl
 write_fixed dataset write.OutFault = refl
 write_fixed dataset write.NoMemory = refl
+
+pub generate_fixed : (dataset : Name) (refusal : GenerateRefusal) → IfSome (fixed_line (generate_status refusal)) (λ text. generate_line dataset refusal ≡ text)
+generate_fixed dataset (Write refusal) = write_fixed dataset refusal
+generate_fixed dataset (Cutout refusal) = cutout_fixed dataset refusal

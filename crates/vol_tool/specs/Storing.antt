@@ -1,7 +1,9 @@
--- What `write` answers over the objects that a store tells and the stream that a feed tells.
-use Rattle.std.specs.Prelude.{◌≡◌, ◌⊎◌, Bool, true, false, ℕ, ◌≤◌, ◌<◌, ◌^◌, [], length, Option, Some, Result, Ok, Err, ⊤, IsOkAnd, IsErrAnd, IsSomeAnd}
+-- What a command that writes a list of writes answers over the objects that a store tells: `write`, whose list stands in the stream that
+-- a feed tells, and in part `generate`.
+use Rattle.std.specs.Prelude.{◌≡◌, ◌⊎◌, All, Bool, true, false, ℕ, ◌≤◌, ◌<◌, ◌^◌, [], length, Option, Some, Result, Ok, Err, ⊤, IsOkAnd, IsErrAnd, IsSomeAnd}
 use Rattle.std.specs.Option.{option_map}
 use Rattle.vol_base.specs.declared.boxes.Box3.{Box3}
+use Rattle.vol_base.specs.Bytes.{AreBytes}
 use Rattle.vol_base.specs.Outside.{any_under, Draft, Objects, OnlyReads}
 use Rattle.vol_spec.specs.CellNames.{folder_of}
 use Rattle.vol_spec.specs.Grid.{Inside}
@@ -11,7 +13,7 @@ use Rattle.vol_spec.specs.StoredLists.{stored_list}
 use Rattle.vol_spec.specs.Types.{Bytes, Name, Writes}
 use Rattle.vol_spec.specs.declared.scale.Scale.{Scale}
 use Rattle.chunk_laws.specs.Told.{ReadsBack}
-use Rattle.shard_writer.specs.Writing.{PutsFront}
+use Rattle.shard_writer.specs.Writing.{joint_len, PutsFront}
 use Rattle.shard_writer.specs.declared.written.Written.{Written}
 use Rattle.write_plan.specs.Plans.{pairs}
 use Rattle.write_plan.specs.Stream.{writes_of}
@@ -20,7 +22,8 @@ use Rattle.vol_shell.specs.Effects.{Gains, GainsFront}
 use Rattle.vol_shell.specs.Lines.{cells_line, feed_line, folder_line, info_line, memory_line, output_line, store_line, stream_line, voxels_line, written_line}
 use Rattle.vol_tool.specs.Cutouts.{TellsNoScale}
 use Rattle.vol_tool.specs.Refusals.{info_text}
-use Rattle.vol_tool.specs.Scales.{IsWritable, padded, stored_scale}
+use Rattle.vol_spec.specs.Writable.{IsWritable, padded}
+use Rattle.vol_tool.specs.Scales.{stored_scale}
 use Rattle.vol_tool.specs.Seen.{Outlets, Silent, Tells}
 use Rattle.vol_tool.specs.declared.refusal.NoScale.{NoScale}
 use Rattle.vol_tool.specs.declared.refusal.WriteRefusal.{WriteRefusal}
@@ -28,13 +31,25 @@ use Rattle.vol_tool.specs.declared.refusal.WriteRefusal.TheVariants as refused
 use Rattle.vol_tool.specs.declared.status.Status.{Status}
 use Rattle.vol_tool.specs.declared.status.Status.TheVariants.{Ok as Done, Usage, InfoRefused, RequestRefused, Damaged, StoreFault, FeedFault, OutFault, NoMemory, DoorFault}
 
--- what stands after a write: the scale kept the writing limit, its folder was empty, the feed was read to its end, the objects of the writes
--- were put in and nothing else was changed, so the scale is as before
-pub record HasStored (m : Objects) (now : Option Objects) (left : Option Bytes) (dataset key : Name) (s : Scale) (writes : Writes) : Type 0 where
+-- the writes into a scale, or the first thing that is wrong with them
+abbrev pub Listing : Type 0
+Listing = Scale → Result Writes PlanFault
+
+-- the scale keeps the writing limit, and its folder is empty
+abbrev pub IsReady : Objects → Name → Scale → Type 0
+IsReady m dataset s = IsWritable s × (any_under m (folder_of dataset s) ≡ false)
+
+-- or its folder isn't
+abbrev pub IsFull : Objects → Name → Scale → Type 0
+IsFull m dataset s = IsWritable s × (any_under m (folder_of dataset s) ≡ true)
+
+-- what stands after a write: the scale kept the writing limit, its folder was empty, the values are bytes, the objects of the writes were
+-- put in and nothing else was changed, so the scale is as before
+pub record HasStored (m : Objects) (now : Option Objects) (dataset key : Name) (s : Scale) (writes : Writes) : Type 0 where
   pub writable : IsWritable s
   pub empty : any_under m (folder_of dataset s) ≡ false
+  pub bytes : All (λ write. AreBytes write.1) writes
   pub few : pairs s writes ≤ 2 ^ 22
-  pub end : left ≡ Some []
   pub put : now ≡ Some (put_in m (stored_list dataset s (chunks_of s zeros writes)))
   pub same : stored_scale (put_in m (stored_list dataset s (chunks_of s zeros writes))) dataset key ≡ stored_scale m dataset key
 
@@ -43,19 +58,20 @@ pub record HasStored (m : Objects) (now : Option Objects) (left : Option Bytes) 
 abbrev pub AllReadBack : Option Objects → Name → Scale → Writes → Type 0
 AllReadBack objects dataset s writes = IsSomeAnd objects (λ now. (b : Box3) → Inside s b → ReadsBack now dataset s writes b)
 
-abbrev pub WrittenBack : Objects → Option Objects → Bytes → Name → Name → Type 0
-WrittenBack m now bytes dataset key = IsOkAnd (stored_scale m dataset key) (λ s. IsOkAnd (writes_of bytes s) (AllReadBack now dataset s))
+abbrev pub WrittenBack : Objects → Option Objects → Listing → Name → Name → Type 0
+WrittenBack m now list dataset key = IsOkAnd (stored_scale m dataset key) (λ s. IsOkAnd (list s) (AllReadBack now dataset s))
 
 -- a front of the objects of writes that can be stored: the limit was kept, the folder was empty, and there are not too many cells
-abbrev pub FrontPut : Objects → Option Objects → Bytes → Name → Scale → Type 0
-FrontPut m now bytes dataset s =
-    IsWritable s × (any_under m (folder_of dataset s) ≡ false)
-    × IsOkAnd (writes_of bytes s) (λ writes. (pairs s writes ≤ 2 ^ 22) × PutsFront (stored_list dataset s (chunks_of s zeros writes)) m now)
+abbrev pub FrontPut : Objects → Option Objects → Result Writes PlanFault → Name → Scale → Type 0
+FrontPut m now list dataset s =
+    IsReady m dataset s
+    × IsOkAnd list (λ writes. (pairs s writes ≤ 2 ^ 22) × PutsFront (stored_list dataset s (chunks_of s zeros writes)) m now)
 
--- a number of objects that is that of the objects of the writes, and one of cells that is that of the cells that they meet
+-- numbers of objects and of bytes that are those of the objects of the writes, and one of cells that is that of the cells that they meet
 pub record Counts (written : Written) (dataset : Name) (s : Scale) (writes : Writes) : Type 0 where
   pub objects : written.objects ≡ length (stored_list dataset s (chunks_of s zeros writes))
   pub cells : written.cells ≡ length (met_cells s writes)
+  pub bytes : written.bytes ≡ joint_len (stored_list dataset s (chunks_of s zeros writes))
 
 -- what writing the objects of writes answers, and what stands after it
 abbrev pub PutsWrites : Result Written WriteRefusal → Objects → Option Objects → Name → Scale → Writes → Type 0
@@ -77,36 +93,36 @@ abbrev pub JudgesLimit : Result ⊤ WriteRefusal → Scale → Type 0
 JudgesLimit (Ok done) s = IsWritable s
 JudgesLimit (Err refusal) s = (refusal ≡ refused.TooManyVoxels (padded s)) × (2 ^ 22 < padded s)
 
--- what writing a scale answers over objects and a feed that are told, and what stands after it
-abbrev pub WritesScale : Result Written WriteRefusal → Objects → Option Objects → Bytes → Option Bytes → Name → Name → Scale → Type 0
-WritesScale (Ok written) m now bytes left dataset key s =
-    IsOkAnd (writes_of bytes s) (λ writes. HasStored m now left dataset key s writes × AllReadBack now dataset s writes × Counts written dataset s writes)
-WritesScale (Err (refused.NoScale why)) m now bytes left dataset key s = ⊥
-WritesScale (Err (refused.TooManyVoxels voxels)) m now bytes left dataset key s = Unit {0}
-WritesScale (Err refused.NotEmpty) m now bytes left dataset key s = Unit {0}
-WritesScale (Err (refused.Stream fault)) m now bytes left dataset key s = writes_of bytes s ≡ Err fault
-WritesScale (Err (refused.TooManyCells cells)) m now bytes left dataset key s = IsOkAnd (writes_of bytes s) (λ writes. (cells ≡ pairs s writes) × (2 ^ 22 < pairs s writes))
-WritesScale (Err refused.StoreFault) m now bytes left dataset key s = (now ≡ Some m) ⊎ FrontPut m now bytes dataset s
-WritesScale (Err refused.NoMemory) m now bytes left dataset key s = (now ≡ Some m) ⊎ FrontPut m now bytes dataset s
-WritesScale (Err refused.FeedFault) m now bytes left dataset key s = Unit {0}
-WritesScale (Err refused.OutFault) m now bytes left dataset key s = ⊥
+-- what writing a scale answers, and what stands after it
+abbrev pub WritesScale : Result Written WriteRefusal → Objects → Option Objects → Result Writes PlanFault → Name → Name → Scale → Type 0
+WritesScale (Ok written) m now list dataset key s =
+    IsOkAnd list (λ writes. HasStored m now dataset key s writes × AllReadBack now dataset s writes × Counts written dataset s writes)
+WritesScale (Err (refused.NoScale why)) m now list dataset key s = ⊥
+WritesScale (Err (refused.TooManyVoxels voxels)) m now list dataset key s = Unit {0}
+WritesScale (Err refused.NotEmpty) m now list dataset key s = Unit {0}
+WritesScale (Err (refused.Stream fault)) m now list dataset key s = list ≡ Err fault
+WritesScale (Err (refused.TooManyCells cells)) m now list dataset key s = IsOkAnd list (λ writes. (cells ≡ pairs s writes) × (2 ^ 22 < pairs s writes))
+WritesScale (Err refused.StoreFault) m now list dataset key s = (now ≡ Some m) ⊎ FrontPut m now list dataset s
+WritesScale (Err refused.NoMemory) m now list dataset key s = (now ≡ Some m) ⊎ FrontPut m now list dataset s
+WritesScale (Err refused.FeedFault) m now list dataset key s = Unit {0}
+WritesScale (Err refused.OutFault) m now list dataset key s = ⊥
 
 -- what `write` answers over them, before it prints
-abbrev pub WritesAll : Result Written WriteRefusal → Result Scale NoScale → Objects → Option Objects → Bytes → Option Bytes → Name → Name → Type 0
-WritesAll (Err (refused.NoScale why)) told m now bytes left dataset key = Unit {0}
-WritesAll (Err refused.StoreFault) told m now bytes left dataset key = (now ≡ Some m) ⊎ IsOkAnd told (FrontPut m now bytes dataset)
-WritesAll (Err refused.NoMemory) told m now bytes left dataset key = (now ≡ Some m) ⊎ IsOkAnd told (FrontPut m now bytes dataset)
-WritesAll result told m now bytes left dataset key = IsOkAnd told (λ s. WritesScale result m now bytes left dataset key s)
+abbrev pub WritesAll : Result Written WriteRefusal → Result Scale NoScale → Objects → Option Objects → Listing → Name → Name → Type 0
+WritesAll (Err (refused.NoScale why)) told m now list dataset key = Unit {0}
+WritesAll (Err refused.StoreFault) told m now list dataset key = (now ≡ Some m) ⊎ IsOkAnd told (λ s. FrontPut m now (list s) dataset s)
+WritesAll (Err refused.NoMemory) told m now list dataset key = (now ≡ Some m) ⊎ IsOkAnd told (λ s. FrontPut m now (list s) dataset s)
+WritesAll result told m now list dataset key = IsOkAnd told (λ s. WritesScale result m now (list s) dataset key s)
 
 -- what it answers over objects alone, the feed told or not: the scale is judged first, then the writing limit, then the folder, and the
 -- feed is read only then
 abbrev pub Judges : Result Written WriteRefusal → Result Scale NoScale → Objects → Name → Type 0
 Judges (Err (refused.NoScale why)) told m dataset = told ≡ Err why
 Judges (Err (refused.TooManyVoxels voxels)) told m dataset = IsOkAnd told (λ s. (voxels ≡ padded s) × (2 ^ 22 < padded s))
-Judges (Err refused.NotEmpty) told m dataset = IsOkAnd told (λ s. IsWritable s × (any_under m (folder_of dataset s) ≡ true))
+Judges (Err refused.NotEmpty) told m dataset = IsOkAnd told (IsFull m dataset)
 Judges (Err refused.StoreFault) told m dataset = Unit {0}
 Judges (Err refused.NoMemory) told m dataset = Unit {0}
-Judges result told m dataset = IsOkAnd told (λ s. IsWritable s × (any_under m (folder_of dataset s) ≡ false))
+Judges result told m dataset = IsOkAnd told (IsReady m dataset)
 
 -- what it leaves where nothing is told: the feed isn't read where the scale, the limit or the folder is refused, and is read to its end by a
 -- write that succeeds; and nothing is put, and what was being written stays, but where the objects of a plan were begun
@@ -130,9 +146,10 @@ KeepsPlan refused.NoMemory old new before now = Unit {0}
 KeepsPlan (refused.TooManyCells cells) old new before now = OnlyReads old new before now
 KeepsPlan other old new before now = ⊥
 
--- the statuses of a write after which some object may have been put
+-- the statuses after which some object may have been put
 abbrev pub puts : Status → Bool
 puts Done = true
+puts Damaged = true
 puts StoreFault = true
 puts OutFault = true
 puts NoMemory = true
@@ -142,10 +159,10 @@ puts other = false
 abbrev pub count_line : Name → Scale → Writes → Bytes
 count_line dataset s writes = written_line (length (stored_list dataset s (chunks_of s zeros writes))) (length (met_cells s writes))
 
--- a scale that is refused before the feed is read, with its line: it passes the writing limit, whatever its folder has, or else its folder
--- isn't empty
-abbrev pub RefusesScale : Objects → Name → Scale → Option Bytes → Option Bytes → Outlets → Type 0
-RefusesScale m dataset s old new o =
+-- where a scale passes the writing limit, whatever its folder has, or else its folder isn't empty, the feed isn't read, and that is told; it
+-- says nothing of a scale that is ready
+abbrev pub TellsIfUnready : Objects → Name → Scale → Option Bytes → Option Bytes → Outlets → Type 0
+TellsIfUnready m dataset s old new o =
     (2 ^ 22 < padded s → (new ≡ old) × Tells o (voxels_line (padded s)))
     × (IsWritable s → any_under m (folder_of dataset s) ≡ true → (new ≡ old) × Tells o folder_line)
 
@@ -153,40 +170,50 @@ RefusesScale m dataset s old new o =
 -- read, of which this is left before and after the call
 abbrev pub WriteJudges : Status → Objects → Name → Name → Option Bytes → Option Bytes → Outlets → Type 0
 WriteJudges InfoRefused m dataset key old new o = IsErrAnd (stored_scale m dataset key) (λ why. Tells o (info_line dataset (info_text why)))
-WriteJudges RequestRefused m dataset key old new o = IsOkAnd (stored_scale m dataset key) (λ s. RefusesScale m dataset s old new o)
+WriteJudges RequestRefused m dataset key old new o = IsOkAnd (stored_scale m dataset key) (λ s. TellsIfUnready m dataset s old new o)
 WriteJudges StoreFault m dataset key old new o = Unit {0}
 WriteJudges NoMemory m dataset key old new o = Unit {0}
 WriteJudges Usage m dataset key old new o = ⊥
 WriteJudges Damaged m dataset key old new o = ⊥
 WriteJudges DoorFault m dataset key old new o = ⊥
 WriteJudges other m dataset key old new o =
-    IsOkAnd (stored_scale m dataset key) (λ s. IsWritable s × (any_under m (folder_of dataset s) ≡ false))
+    IsOkAnd (stored_scale m dataset key) (IsReady m dataset)
 
--- why a stream can't be written, with the line: it has a fault, or its writes meet too many cells
-abbrev pub RefusesStream : Bytes → Scale → Outlets → Type 0
-RefusesStream bytes s o =
-    IsErrAnd (writes_of bytes s) (λ fault. Tells o (stream_line fault))
-    ⊎ IsOkAnd (writes_of bytes s) (λ writes. (2 ^ 22 < pairs s writes) × Tells o (cells_line (pairs s writes)))
+-- why a list can't be written, with the line: it has a fault, or its writes meet too many cells
+abbrev pub RefusesList : Result Writes PlanFault → Scale → Outlets → Type 0
+RefusesList list s o =
+    IsErrAnd list (λ fault. Tells o (stream_line fault))
+    ⊎ IsOkAnd list (λ writes. (2 ^ 22 < pairs s writes) × Tells o (cells_line (pairs s writes)))
+
+-- all of a list is stored, and its line printed, or a front of the line
+abbrev pub StoresList : (Bytes → Type 0) → Objects → Option Objects → Listing → Name → Name → (Scale → Writes → Bytes) → Type 0
+StoresList Gained m now list dataset key line =
+    IsOkAnd (stored_scale m dataset key) (λ s. IsOkAnd (list s) (λ writes. HasStored m now dataset key s writes × Gained (line s writes)))
+
+-- what each status says of a list that is written: at success all of it is stored, and a line is printed that hangs on the scale and the
+-- writes; where the store fails or memory runs out, a front of its objects may stand
+abbrev pub ListShows : Status → Objects → Option Objects → Listing → Name → Name → (Scale → Writes → Bytes) → Outlets → Type 0
+ListShows Done m now list dataset key line o = StoresList (Gains o.out_old o.out_new) m now list dataset key line
+ListShows OutFault m now list dataset key line o = StoresList (GainsFront o.out_old o.out_new) m now list dataset key line
+ListShows RequestRefused m now list dataset key line o = IsOkAnd (stored_scale m dataset key) (λ s. IsReady m dataset s → RefusesList (list s) s o)
+ListShows StoreFault m now list dataset key line o = (now ≡ Some m) ⊎ IsOkAnd (stored_scale m dataset key) (λ s. FrontPut m now (list s) dataset s)
+ListShows NoMemory m now list dataset key line o = (now ≡ Some m) ⊎ IsOkAnd (stored_scale m dataset key) (λ s. FrontPut m now (list s) dataset s)
+ListShows other m now list dataset key line o = Unit {0}
+
+-- where all objects of a stream stand, nothing is left of it
+abbrev pub ReadsToEnd : Status → Option Bytes → Type 0
+ReadsToEnd Done left = left ≡ Some []
+ReadsToEnd OutFault left = left ≡ Some []
+ReadsToEnd other left = Unit {0}
 
 -- and over a feed that is told too
 abbrev pub WriteShows : Status → Objects → Option Objects → Bytes → Option Bytes → Name → Name → Outlets → Type 0
-WriteShows Done m now bytes left dataset key o =
-    IsOkAnd (stored_scale m dataset key) (λ s. IsOkAnd (writes_of bytes s) (λ writes.
-    HasStored m now left dataset key s writes × Gains o.out_old o.out_new (count_line dataset s writes)))
-WriteShows OutFault m now bytes left dataset key o =
-    IsOkAnd (stored_scale m dataset key) (λ s. IsOkAnd (writes_of bytes s) (λ writes.
-    HasStored m now left dataset key s writes × GainsFront o.out_old o.out_new (count_line dataset s writes)))
-WriteShows RequestRefused m now bytes left dataset key o =
-    IsOkAnd (stored_scale m dataset key) (λ s. IsWritable s → any_under m (folder_of dataset s) ≡ false → RefusesStream bytes s o)
-WriteShows StoreFault m now bytes left dataset key o = (now ≡ Some m) ⊎ IsOkAnd (stored_scale m dataset key) (FrontPut m now bytes dataset)
-WriteShows NoMemory m now bytes left dataset key o = (now ≡ Some m) ⊎ IsOkAnd (stored_scale m dataset key) (FrontPut m now bytes dataset)
-WriteShows other m now bytes left dataset key o = Unit {0}
+WriteShows status m now bytes left dataset key o = ReadsToEnd status left × ListShows status m now (writes_of bytes) dataset key (count_line dataset) o
 
--- the scale is there and keeps the writing limit, its folder is empty, and the stream can be written
-abbrev pub CanWrite : Objects → Bytes → Name → Name → Type 0
-CanWrite m bytes dataset key =
-    IsOkAnd (stored_scale m dataset key) (λ s. IsWritable s × (any_under m (folder_of dataset s) ≡ false)
-    × IsOkAnd (writes_of bytes s) (λ writes. pairs s writes ≤ 2 ^ 22))
+-- the scale is there and ready, and the list can be written
+abbrev pub CanWrite : Objects → Listing → Name → Name → Type 0
+CanWrite m list dataset key =
+    IsOkAnd (stored_scale m dataset key) (λ s. IsReady m dataset s × IsOkAnd (list s) (λ writes. pairs s writes ≤ 2 ^ 22))
 
 -- the line of too many padded voxels, of a folder that isn't empty, of some fault of a stream, or of too many cells
 abbrev pub TellsRequest : Outlets → Type 0

@@ -21,8 +21,8 @@ use vol_shell::write_all;
 /// A cutout has at most so many bytes.
 const MOST_BYTES: u128 = 1 << 30;
 
-// The number of bytes of a part that can be cut out, or why it can't.
-fn judge_part(scale: &Scale, part: &Box3) -> Result<usize, CutoutRefusal>
+/// The number of bytes of a part that can be cut out, or why it can't.
+pub(crate) fn judge_part(scale: &Scale, part: &Box3) -> Result<usize, CutoutRefusal>
     ensures { JudgesPart result scale.now part.now }
 {
     if !inside(scale, part) {
@@ -38,8 +38,8 @@ fn judge_part(scale: &Scale, part: &Box3) -> Result<usize, CutoutRefusal>
     Ok(bytes as usize)
 }
 
-// Reads the values of a part.
-fn read_values<S: Source>(
+/// Reads the values of a part.
+pub(crate) fn read_values<S: Source>(
     store: &mut S,
     reader: &mut Reader,
     part: &Box3,

@@ -4,10 +4,13 @@
 
 mod buffers;
 mod cut_out;
+mod generate;
 mod info;
 mod refusal;
 mod report;
+mod serving;
 mod status;
+mod sums;
 #[cfg(test)]
 mod tests;
 mod top;
@@ -21,7 +24,7 @@ use std::process::ExitCode;
 use std::{env, io};
 use top::run;
 use vol_base::FreeGate;
-use vol_shell::{DirStore, NoDoor, StdFeed, StdOutlet};
+use vol_shell::{DirStore, StdFeed, StdOutlet, TcpDoor};
 
 // The words after the program's name. It fails as a whole where the system doesn't give each of them as
 // text, or where there is no memory for them.
@@ -50,7 +53,7 @@ fn main(rt: HostRuntime) -> ExitCode {
         &mut StdFeed::new(rt.stdin()),
         &mut StdOutlet::new(rt.stdout()),
         &mut err,
-        &mut NoDoor::new(),
+        &mut TcpDoor::new(rt),
         &FreeGate,
     );
     ExitCode::from(status)

@@ -1,5 +1,6 @@
 //! Why a command was refused.
 
+use crate::status::Status;
 use info_doc::InfoFault;
 use std::alloc::AllocError;
 use vol_base::{Box3, Fault, OutOfMemory};
@@ -55,6 +56,37 @@ pub(crate) enum WriteRefusal {
     FeedFault,
     OutFault,
     NoMemory,
+}
+
+/// Why `generate` was refused: as a write is, or as a cutout of the whole scale is.
+#[derive(Clone, Copy, Debug, PartialEq, Eq)]
+pub(crate) enum GenerateRefusal {
+    Write(WriteRefusal),
+    Cutout(CutoutRefusal),
+}
+
+/// Why `serve` was refused.
+#[derive(Clone, Copy, Debug, PartialEq, Eq)]
+pub(crate) enum ServeRefusal {
+    OutFault,
+    NoMemory,
+    DoorFault,
+}
+
+impl ServeRefusal {
+    ghost use Rattle.std.specs.Prelude.{◌≡◌};
+    ghost use Rattle.vol_tool.specs.Servings.{serve_status};
+
+    /// The status that it ends the command with.
+    pub(crate) fn status(&self) -> Status
+        ensures { result ≡ serve_status self.now }
+    {
+        match self {
+            ServeRefusal::OutFault => Status::OutFault,
+            ServeRefusal::NoMemory => Status::NoMemory,
+            ServeRefusal::DoorFault => Status::DoorFault,
+        }
+    }
 }
 
 impl From<AllocError> for ScaleRefusal {

@@ -2,11 +2,11 @@
 ghost use Rattle.std.specs.Prelude.{◌≡◌, ◌≢◌, ◌≤◌, List, ℕ, None, IfOk, IfSome};
 ghost use Rattle.vol_shell.specs.Effects.{Says};
 ghost use Rattle.vol_shell.specs.Lines.{folder_line, info_line};
-ghost use Rattle.vol_tool.specs.Refusals.{cutout_line, cutout_status, info_text, write_line as line_of_write, write_status};
-ghost use Rattle.vol_tool.specs.Statuses.{cutout_fixed, fixed_line, Reports, write_fixed};
+ghost use Rattle.vol_tool.specs.Refusals.{cutout_line, cutout_status, generate_line, generate_status, info_text, write_line as line_of_write, write_status};
+ghost use Rattle.vol_tool.specs.Statuses.{cutout_fixed, fixed_line, generate_fixed, Reports, write_fixed};
 ghost use Rattle.vol_tool.specs.declared.status.Status.{Status};
 
-use crate::refusal::{CutoutRefusal, NoScale, WriteRefusal};
+use crate::refusal::{CutoutRefusal, GenerateRefusal, NoScale, WriteRefusal};
 use crate::status::Status;
 use std::alloc::{AllocError, Global};
 use vol_base::{Name, Outlet};
@@ -127,6 +127,28 @@ impl Refusal for WriteRefusal {
             | WriteRefusal::FeedFault
             | WriteRefusal::OutFault
             | WriteRefusal::NoMemory => unreachable!(),
+        }
+    }
+}
+
+impl Refusal for GenerateRefusal {
+    ghost ends = { generate_status };
+
+    ghost line = { generate_line };
+
+    ghost fixed = { generate_fixed };
+
+    fn status(&self) -> Status {
+        match self {
+            GenerateRefusal::Write(refusal) => refusal.status(),
+            GenerateRefusal::Cutout(refusal) => refusal.status(),
+        }
+    }
+
+    fn write_line(&self, alloc: Global, dataset: &Name) -> Result<Vec<u8>, AllocError> {
+        match self {
+            GenerateRefusal::Write(refusal) => refusal.write_line(alloc, dataset),
+            GenerateRefusal::Cutout(refusal) => refusal.write_line(alloc, dataset),
         }
     }
 }

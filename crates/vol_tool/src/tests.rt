@@ -1,8 +1,10 @@
 //! Calls of the tool over stand-ins in memory. What each answers was worked out by hand.
 
 mod damages;
+mod generate;
 mod plain;
 mod segments;
+mod serving;
 mod shards;
 mod writes;
 

@@ -1,17 +1,22 @@
 //! The top call.
-ghost use Rattle.std.specs.Prelude.{◌≡◌, ◌≤◌, ◌⊎◌, None, Some, IfSome, ℕ, List, map, string_bytes, length, [], false};
+ghost use Rattle.std.specs.Prelude.{◌≡◌, ◌≤◌, ◌<◌, ◌^◌, ◌⊎◌, None, Some, IfSome, ℕ, List, map, string_bytes, length, [], false};
 ghost use Rattle.std.specs.Option.{option_map};
 ghost use Rattle.vol_base.specs.Causes.{Rose};
 ghost use Rattle.vol_base.specs.Outside.{Objects, OnlyReads};
 ghost use Rattle.command_line.specs.Words.{line};
 ghost use Rattle.shard_writer.specs.Writing.{Drops};
+ghost use Rattle.write_plan.specs.Stream.{writes_of};
 ghost use Rattle.vol_tool.specs.Cutouts.{AsksFor, CanCut, CutoutLeaves, CutoutShows};
+ghost use Rattle.vol_tool.specs.Generating.{CanGenerate, drawn, GenerateLeaves, GenerateShows};
 ghost use Rattle.vol_tool.specs.Runs.{Answers, Causes, Headline, Keeps, Leaves, Succeeds};
-ghost use Rattle.vol_tool.specs.Seen.{outlets_of, Seen, view};
+ghost use Rattle.vol_tool.specs.Seen.{doorway, outlets_of, Seen, view};
+ghost use Rattle.vol_tool.specs.Servings.{AcceptsEnds, ServeLeaves, ServeShows};
 ghost use Rattle.vol_tool.specs.Storing.{CanWrite, puts, WriteJudges, WriteLeaves, WriteShows, WrittenBack};
 
 use crate::cut_out::cut_out;
+use crate::generate::{generate_objects, print_summary};
 use crate::report::{report, tell};
+use crate::serving::serve;
 use crate::status::Status;
 use crate::write::{print_written, write_objects};
 use command_line::{Command, read_words};
@@ -79,11 +84,11 @@ where
     ensures leaves { WriteLeaves result dataset.now
         (outlets_of O.written O.faults E.written E.faults out.old out.new err.old err.new) }
     ensures usage { result ≡ Status.Usage → ⊥ }
-    ensures complete { (m : Objects) (bytes : List ℕ) → S.objects store.old ≡ Some m → F.left feed.old ≡ Some bytes → CanWrite m bytes dataset.now key.now
+    ensures complete { (m : Objects) (bytes : List ℕ) → S.objects store.old ≡ Some m → F.left feed.old ≡ Some bytes → CanWrite m (writes_of bytes) dataset.now key.now
         → (Rose (S.faults store.old) (S.faults store.new) → ⊥) → (Rose (F.faults feed.old) (F.faults feed.new) → ⊥) → (Rose (O.faults out.old) (O.faults out.new) → ⊥)
         → (result ≡ Status.Ok) ⊎ (result ≡ Status.NoMemory) }
     ensures back { result ≡ Status.Ok → IfSome (S.objects store.old) (λ m. IfSome (F.left feed.old) (λ bytes.
-        WrittenBack m (S.objects store.new) bytes dataset.now key.now)) }
+        WrittenBack m (S.objects store.new) (writes_of bytes) dataset.now key.now)) }
     ensures end { result ≡ Status.Ok → F.left feed.new ≡ option_map (λ _. []) (F.left feed.old) }
     ensures unread { result ≡ Status.InfoRefused → F.left feed.new ≡ F.left feed.old }
     ensures draft { Drops (S.draft store.old) (S.draft store.new) }
@@ -107,6 +112,94 @@ where
     }
 }
 
+// The command `generate`.
+fn run_generate<R, S: Store, O: Outlet, E: Outlet, G: Gate + Sync>(
+    rt: &R,
+    alloc: Global,
+    store: &mut S,
+    out: &mut O,
+    err: &mut E,
+    dataset: &Name,
+    key: &Name,
+    number: u32,
+    count: u32,
+    workers: u32,
+    gate: &G,
+) -> Status
+where
+    R: Threads + Wait + Sync,
+    requires dataset { length dataset.now ≤ 200 }
+    requires key { length key.now ≤ 200 }
+    requires number { number < 2 ^ 31 }
+    requires count { count ≤ 4096 }
+    ensures shows { IfSome (S.objects store.old) (λ m. GenerateShows result m (S.objects store.new) number count dataset.now key.now
+        (outlets_of O.written O.faults E.written E.faults out.old out.new err.old err.new)) }
+    ensures leaves { GenerateLeaves result dataset.now count
+        (outlets_of O.written O.faults E.written E.faults out.old out.new err.old err.new) }
+    ensures complete { (m : Objects) → S.objects store.old ≡ Some m → CanGenerate m number count dataset.now key.now
+        → (Rose (S.faults store.old) (S.faults store.new) → ⊥) → (Rose (O.faults out.old) (O.faults out.new) → ⊥)
+        → (result ≡ Status.Ok) ⊎ (result ≡ Status.NoMemory) }
+    ensures back { result ≡ Status.Ok → IfSome (S.objects store.old) (λ m. WrittenBack m (S.objects store.new) (drawn number count) dataset.now key.now) }
+    ensures draft { Drops (S.draft store.old) (S.draft store.new) }
+    ensures kept { puts result ≡ false → OnlyReads (S.objects store.old) (S.objects store.new) (S.draft store.old) (S.draft store.new) }
+    ensures store_later { S.faults store.old ≤ S.faults store.new }
+    ensures out_later { O.faults out.old ≤ O.faults out.new }
+    ensures err_later { E.faults err.old ≤ E.faults err.new }
+    ensures quiet { result ≡ Status.Ok → E.faults err.new ≡ E.faults err.old }
+    ensures store_fault { result ≡ Status.StoreFault → Rose (S.faults store.old) (S.faults store.new) }
+    ensures out_fault { result ≡ Status.OutFault → Rose (O.faults out.old) (O.faults out.new) }
+{
+    let summary = match generate_objects(
+        rt, alloc, store, dataset, key, number, count, workers, gate,
+    ) {
+        Ok(summary) => summary,
+        Err(refusal) => return report(alloc, err, dataset, &refusal),
+    };
+    match print_summary(alloc, out, count, &summary) {
+        Ok(()) => Status::Ok,
+        Err(refusal) => report(alloc, err, dataset, &refusal),
+    }
+}
+
+// The command `serve`.
+fn run_serve<S: Store, O: Outlet, E: Outlet, D: Door>(
+    alloc: Global,
+    store: &mut S,
+    out: &mut O,
+    err: &mut E,
+    door: &mut D,
+    dataset: &Name,
+    port: u16,
+    connections: u32,
+) -> Status
+    requires unbound { D.bound door.old ≡ None }
+    requires some { 1 ≤ connections }
+    ensures shows { IfSome (S.objects store.old) (λ m. ServeShows result m dataset.now (doorway D.bound D.accepted D.served door.old)
+        (doorway D.bound D.accepted D.served door.new) (S.faults store.old) (S.faults store.new)) }
+    ensures leaves { ServeLeaves result (D.bound door.new)
+        (outlets_of O.written O.faults E.written E.faults out.old out.new err.old err.new) }
+    ensures given { AcceptsEnds result connections (doorway D.bound D.accepted D.served door.old) (doorway D.bound D.accepted D.served door.new) }
+    ensures complete { (Rose (D.faults door.old) (D.faults door.new) → ⊥) → (Rose (O.faults out.old) (O.faults out.new) → ⊥)
+        → (result ≡ Status.Ok) ⊎ (result ≡ Status.NoMemory) }
+    ensures kept { OnlyReads (S.objects store.old) (S.objects store.new) (S.draft store.old) (S.draft store.new) }
+    ensures store_later { S.faults store.old ≤ S.faults store.new }
+    ensures out_later { O.faults out.old ≤ O.faults out.new }
+    ensures err_later { E.faults err.old ≤ E.faults err.new }
+    ensures door_later { D.faults door.old ≤ D.faults door.new }
+    ensures quiet { result ≡ Status.Ok → E.faults err.new ≡ E.faults err.old }
+    ensures out_fault { result ≡ Status.OutFault → Rose (O.faults out.old) (O.faults out.new) }
+    ensures door_fault { result ≡ Status.DoorFault → Rose (D.faults door.old) (D.faults door.new) }
+{
+    match serve(alloc, store, out, door, dataset, port, connections) {
+        Ok(()) => Status::Ok,
+        Err(refusal) => {
+            let status = refusal.status();
+            tell(err, status);
+            status
+        }
+    }
+}
+
 /// A name for the outside as a whole.
 pub struct Outside;
 
@@ -120,7 +213,7 @@ impl<S: Store, F: Feed, O: Outlet, E: Outlet, D: Door> Viewed<S, F, O, E, D> for
 }
 
 /// Runs the command that the words spell (those after the program's name) over a store, a feed, an output, an
-/// error output and a door. `rt` is for workers and `gate` is told what they do; no command has workers yet.
+/// error output and a door. `rt` is for the workers of commands that write, and `gate` isn't called.
 pub fn run<R, S: Store, F: Feed, O: Outlet, E: Outlet, D: Door, G: Gate + Sync>(
     rt: &R,
     alloc: Global,
@@ -129,42 +222,42 @@ pub fn run<R, S: Store, F: Feed, O: Outlet, E: Outlet, D: Door, G: Gate + Sync>(
     feed: &mut F,
     out: &mut O,
     err: &mut E,
-    _door: &mut D,
+    door: &mut D,
     gate: &G,
 ) -> Status
 where
     R: Threads + Wait + Sync,
-    requires { D.bound _door.old ≡ None }
+    requires { D.bound door.old ≡ None }
     // What each status says over the objects, and over the feed, where they are told.
     ensures answers { let at = ⟦<Outside as Viewed<S, F, O, E, D>>⟧.at in
         Answers (line (map string_bytes words.now)) result
-        (at store.old feed.old out.old err.old _door.old)
-        (at store.new feed.new out.new err.new _door.new) }
+        (at store.old feed.old out.old err.old door.old)
+        (at store.new feed.new out.new err.new door.new) }
     // Where nothing stands against a command and nothing that it uses fails, it succeeds or wants memory.
     ensures succeeds { let at = ⟦<Outside as Viewed<S, F, O, E, D>>⟧.at in
         Succeeds (line (map string_bytes words.now)) result
-        (at store.old feed.old out.old err.old _door.old)
-        (at store.new feed.new out.new err.new _door.new) }
+        (at store.old feed.old out.old err.old door.old)
+        (at store.new feed.new out.new err.new door.new) }
     // After a write each box inside the scale reads back: the last write at each voxel and channel.
     ensures headline { let at = ⟦<Outside as Viewed<S, F, O, E, D>>⟧.at in
         Headline (line (map string_bytes words.now)) result
-        (at store.old feed.old out.old err.old _door.old)
-        (at store.new feed.new out.new err.new _door.new) }
+        (at store.old feed.old out.old err.old door.old)
+        (at store.new feed.new out.new err.new door.new) }
     // What the two outlets gained, told or not.
     ensures leaves { let at = ⟦<Outside as Viewed<S, F, O, E, D>>⟧.at in
         Leaves (line (map string_bytes words.now)) result
-        (at store.old feed.old out.old err.old _door.old)
-        (at store.new feed.new out.new err.new _door.new) }
+        (at store.old feed.old out.old err.old door.old)
+        (at store.new feed.new out.new err.new door.new) }
     // What stays of the store, the feed and the door.
     ensures keeps { let at = ⟦<Outside as Viewed<S, F, O, E, D>>⟧.at in
         Keeps (line (map string_bytes words.now)) result
-        (at store.old feed.old out.old err.old _door.old)
-        (at store.new feed.new out.new err.new _door.new) }
+        (at store.old feed.old out.old err.old door.old)
+        (at store.new feed.new out.new err.new door.new) }
     // Why a command failed.
     ensures causes { let at = ⟦<Outside as Viewed<S, F, O, E, D>>⟧.at in
         Causes (line (map string_bytes words.now)) result
-        (at store.old feed.old out.old err.old _door.old).faults
-        (at store.new feed.new out.new err.new _door.new).faults }
+        (at store.old feed.old out.old err.old door.old).faults
+        (at store.new feed.new out.new err.new door.new).faults }
 {
     match read_words(alloc, words) {
         Err(_) => {
@@ -191,5 +284,29 @@ where
                 rt, alloc, store, feed, out, err, &dataset, &key, workers, gate,
             )
         }
+        Ok(
+            Some(
+                Command::Generate {
+                    dataset,
+                    key,
+                    number,
+                    writes,
+                    workers,
+                },
+            ),
+        ) => {
+            run_generate(
+                rt, alloc, store, out, err, &dataset, &key, number, writes, workers, gate,
+            )
+        }
+        Ok(
+            Some(
+                Command::Serve {
+                    dataset,
+                    port,
+                    connections,
+                },
+            ),
+        ) => run_serve(alloc, store, out, err, door, &dataset, port, connections),
     }
 }

@@ -1,12 +1,15 @@
-//! The command `write`.
-ghost use Rattle.std.specs.Prelude.{◌≡◌, ◌≤◌, ◌^◌, ℕ, List, All, length, IfErr, IfSome};
+//! Writing a list of writes, and the command `write`.
+ghost use Rattle.std.specs.Prelude.{◌≡◌, ◌≤◌, ◌^◌, ℕ, List, All, false, length, IfErr, IfSome};
 ghost use Rattle.vol_base.specs.Causes.{Rose};
+ghost use Rattle.vol_base.specs.Outside.{any_under};
 ghost use Rattle.vol_spec.specs.CellNames.{folder_of};
+ghost use Rattle.vol_spec.specs.Writable.{IsWritable};
 ghost use Rattle.write_plan.specs.Plans.{pairs};
+ghost use Rattle.write_plan.specs.Stream.{writes_of};
 ghost use Rattle.write_plan.specs.WriteLists.{IsWriteOf};
 ghost use Rattle.shard_writer.specs.Writing.{Drops};
 ghost use Rattle.vol_shell.specs.Lines.{written_line};
-ghost use Rattle.vol_tool.specs.Scales.{IsWritable, stored_scale};
+ghost use Rattle.vol_tool.specs.Scales.{stored_scale};
 ghost use Rattle.vol_tool.specs.Storing.{Judges, JudgesLimit, KeepsFeed, KeepsPlan, KeepsStore, Prints, PutsWrites, WritesAll, WritesScale};
 
 use crate::info::read_scale;
@@ -21,8 +24,8 @@ use vol_base::{Feed, Gate, Name, Outlet, Store};
 use vol_shell::{write_all, write_written_line};
 use write_plan::{Plan, Writes, read_writes};
 
-// Refuses a scale that passes the writing limit.
-fn judge_limit(scale: &Scale) -> Result<(), WriteRefusal>
+/// Refuses a scale that passes the writing limit.
+pub(crate) fn judge_limit(scale: &Scale) -> Result<(), WriteRefusal>
     ensures { JudgesLimit result scale.now }
 {
     if scale.can_encode() {
@@ -32,8 +35,8 @@ fn judge_limit(scale: &Scale) -> Result<(), WriteRefusal>
     }
 }
 
-// The folder of a scale.
-fn find_folder(dataset: &Name, scale: &Scale) -> Name
+/// The folder of a scale.
+pub(crate) fn find_folder(dataset: &Name, scale: &Scale) -> Name
     requires { length dataset.now ≤ 200 }
     ensures { result ≡ folder_of dataset.now scale.now }
 {
@@ -97,6 +100,37 @@ where
     put_plan(rt, alloc, store, dataset, scale, &mut plan, workers, gate)
 }
 
+/// Writes the list that a stream has into a scale that is ready: it keeps the writing limit, and its folder is empty.
+pub(crate) fn write_list<R, S: Store, F: Feed, G: Gate + Sync>(
+    rt: &R,
+    alloc: Global,
+    store: &mut S,
+    feed: &mut F,
+    dataset: &Name,
+    scale: &Scale,
+    workers: u32,
+    gate: &G,
+) -> Result<Written, WriteRefusal>
+where
+    R: Threads + Wait + Sync,
+    requires dataset { length dataset.now ≤ 200 }
+    requires writable { IsWritable scale.now }
+    requires empty { IfSome (S.objects store.old) (λ m. any_under m (folder_of dataset.now scale.now) ≡ false) }
+    ensures judges { IfSome (S.objects store.old) (λ m. Judges result (Ok scale.now) m dataset.now) }
+    ensures writes { (key : List ℕ) → IfSome (S.objects store.old) (λ m. IfSome (F.left feed.old) (λ bytes. WritesScale result m (S.objects store.new) (writes_of bytes scale.now) dataset.now key scale.now)) }
+    ensures feed { KeepsFeed result (F.left feed.old) (F.left feed.new) }
+    ensures draft { Drops (S.draft store.old) (S.draft store.new) }
+    ensures kept { IfErr result (λ refusal. KeepsStore refusal (S.objects store.old) (S.objects store.new) (S.draft store.old) (S.draft store.new)) }
+    ensures later { S.faults store.old ≤ S.faults store.new }
+    ensures feed_later { F.faults feed.old ≤ F.faults feed.new }
+    ensures store_fault { result ≡ Err WriteRefusal.StoreFault → Rose (S.faults store.old) (S.faults store.new) }
+    ensures feed_fault { result ≡ Err WriteRefusal.FeedFault → Rose (F.faults feed.old) (F.faults feed.new) }
+{
+    let writes = read_writes(alloc, feed, scale)?;
+    tell_chunks(dataset, scale);
+    write_planned(rt, alloc, store, dataset, scale, writes, workers, gate)
+}
+
 // Writes a stream into a scale that keeps the writing limit and whose folder is empty.
 fn write_stream<R, S: Store, F: Feed, G: Gate + Sync>(
     rt: &R,
@@ -113,7 +147,7 @@ where
     requires dataset { length dataset.now ≤ 200 }
     requires writable { IsWritable scale.now }
     ensures judges { IfSome (S.objects store.old) (λ m. Judges result (Ok scale.now) m dataset.now) }
-    ensures writes { (key : List ℕ) → IfSome (S.objects store.old) (λ m. IfSome (F.left feed.old) (λ bytes. WritesScale result m (S.objects store.new) bytes (F.left feed.new) dataset.now key scale.now)) }
+    ensures writes { (key : List ℕ) → IfSome (S.objects store.old) (λ m. IfSome (F.left feed.old) (λ bytes. WritesScale result m (S.objects store.new) (writes_of bytes scale.now) dataset.now key scale.now)) }
     ensures feed { KeepsFeed result (F.left feed.old) (F.left feed.new) }
     ensures draft { Drops (S.draft store.old) (S.draft store.new) }
     ensures kept { IfErr result (λ refusal. KeepsStore refusal (S.objects store.old) (S.objects store.new) (S.draft store.old) (S.draft store.new)) }
@@ -122,15 +156,12 @@ where
     ensures store_fault { result ≡ Err WriteRefusal.StoreFault → Rose (S.faults store.old) (S.faults store.new) }
     ensures feed_fault { result ≡ Err WriteRefusal.FeedFault → Rose (F.faults feed.old) (F.faults feed.new) }
 {
-    let folder = find_folder(dataset, scale);
-    match store.any_under(&folder) {
+    match store.any_under(&find_folder(dataset, scale)) {
         Ok(false) => {}
         Ok(true) => return Err(WriteRefusal::NotEmpty),
         Err(_) => return Err(WriteRefusal::StoreFault),
     }
-    let writes = read_writes(alloc, feed, scale)?;
-    tell_chunks(dataset, scale);
-    write_planned(rt, alloc, store, dataset, scale, writes, workers, gate)
+    write_list(rt, alloc, store, feed, dataset, scale, workers, gate)
 }
 
 /// Writes a stream into the scale of a key, which keeps the writing limit and whose folder is empty.
@@ -149,7 +180,7 @@ where
     requires dataset { length dataset.now ≤ 200 }
     requires key { length key.now ≤ 200 }
     ensures judges { IfSome (S.objects store.old) (λ m. Judges result (stored_scale m dataset.now key.now) m dataset.now) }
-    ensures writes { IfSome (S.objects store.old) (λ m. IfSome (F.left feed.old) (λ bytes. WritesAll result (stored_scale m dataset.now key.now) m (S.objects store.new) bytes (F.left feed.new) dataset.now key.now)) }
+    ensures writes { IfSome (S.objects store.old) (λ m. IfSome (F.left feed.old) (λ bytes. WritesAll result (stored_scale m dataset.now key.now) m (S.objects store.new) (writes_of bytes) dataset.now key.now)) }
     ensures feed { KeepsFeed result (F.left feed.old) (F.left feed.new) }
     ensures draft { Drops (S.draft store.old) (S.draft store.new) }
     ensures kept { IfErr result (λ refusal. KeepsStore refusal (S.objects store.old) (S.objects store.new) (S.draft store.old) (S.draft store.new)) }
@@ -163,6 +194,18 @@ where
     write_stream(rt, alloc, store, feed, dataset, &scale, workers, gate)
 }
 
+/// Prints a line.
+pub(crate) fn print_line<O: Outlet>(out: &mut O, line: &str) -> Result<(), WriteRefusal>
+    ensures prints { Prints result (O.written out.old) (O.written out.new) line.now }
+    ensures later { O.faults out.old ≤ O.faults out.new }
+    ensures fault { result ≡ Err WriteRefusal.OutFault → Rose (O.faults out.old) (O.faults out.new) }
+{
+    match write_all(out, line.as_bytes()) {
+        Ok(()) => Ok(()),
+        Err(_) => Err(WriteRefusal::OutFault),
+    }
+}
+
 /// Prints what was written.
 pub(crate) fn print_written<O: Outlet>(
     alloc: Global,
@@ -174,8 +217,5 @@ pub(crate) fn print_written<O: Outlet>(
     ensures fault { result ≡ Err WriteRefusal.OutFault → Rose (O.faults out.old) (O.faults out.new) }
 {
     let line = write_written_line(alloc, written.objects, written.cells)?;
-    match write_all(out, line.as_bytes()) {
-        Ok(()) => Ok(()),
-        Err(_) => Err(WriteRefusal::OutFault),
-    }
+    print_line(out, line.as_str())
 }

@@ -30,15 +30,15 @@ struct Case<'a> {
 // The numbers of the calls that fail, of the store, the feed, the output and the error output, and the most bytes that
 // one call moves.
 #[derive(Clone, Copy)]
-struct Faults<'a> {
-    store: &'a [u64],
-    feed: &'a [u64],
-    out: &'a [u64],
-    err: &'a [u64],
-    piece: u8,
+pub(super) struct Faults<'a> {
+    pub(super) store: &'a [u64],
+    pub(super) feed: &'a [u64],
+    pub(super) out: &'a [u64],
+    pub(super) err: &'a [u64],
+    pub(super) piece: u8,
 }
 
-const NO_FAULTS: Faults = Faults {
+pub(super) const NO_FAULTS: Faults = Faults {
     store: &[],
     feed: &[],
     out: &[],
@@ -251,8 +251,12 @@ pub(super) fn has_none(store: &MemoryStore, objects: &[(&str, &[u8])]) -> bool {
     true
 }
 
-// A store that has the document of a scale alone.
-fn empty_store(alloc: Global, sizes: [&str; 2], failing: &[u64]) -> Result<MemoryStore, Fail> {
+/// A store that has the document of a scale alone.
+pub(super) fn empty_store(
+    alloc: Global,
+    sizes: [&str; 2],
+    failing: &[u64],
+) -> Result<MemoryStore, Fail> {
     let mut store = MemoryStore::new(alloc, failing.to_vec(alloc)?);
     let [size, chunk] = sizes;
     let info = info_of(alloc, size, chunk)?;
@@ -260,8 +264,8 @@ fn empty_store(alloc: Global, sizes: [&str; 2], failing: &[u64]) -> Result<Memor
     Ok(store)
 }
 
-// A call over a store and a stream: its status, and what it prints.
-fn check<R: Threads + Wait + Abort + Sync>(
+/// A call over a store and a stream: its status, and what it prints.
+pub(super) fn check<R: Threads + Wait + Abort + Sync>(
     rt: &R,
     alloc: Global,
     store: &mut MemoryStore,

@@ -9,3 +9,9 @@ read_cutout-requires c = ap (list_all is_plain) (ap (map (λ word. word.now)) c.
 
 pub read_write-requires : goal.read_write-requires
 read_write-requires c = ap (list_all is_plain) (ap (map (λ word. word.now)) c.deref-in-write.ensures.value ∙ c.in_ok-sorted.ensures.plain) ∙ filter_all is_plain (map (string_bytes {Z = Global}) c.args.words.now)
+
+pub read_generate-requires : goal.read_generate-requires
+read_generate-requires c = ap (list_all is_plain) (ap (map (λ word. word.now)) c.deref-in-generate.ensures.value ∙ c.in_ok-sorted.ensures.plain) ∙ filter_all is_plain (map (string_bytes {Z = Global}) c.args.words.now)
+
+pub read_serve-requires : goal.read_serve-requires
+read_serve-requires c = ap (list_all is_plain) (ap (map (λ word. word.now)) c.deref-in-serve.ensures.value ∙ c.in_ok-sorted.ensures.plain) ∙ filter_all is_plain (map (string_bytes {Z = Global}) c.args.words.now)

@@ -10,11 +10,11 @@ pub longest_run-most-requires-clause-ordered : goal.longest_run-most-requires-cl
 longest_run-most-requires-clause-ordered g c = (
   c.args.sharding.now,
   subst (λ n. AreOrdered c.args.sharding.now n (jobs_in (g.C.Chunks.work c.args.chunks.now))) (sym c.count_jobs.ensures)
-      (ordered_of (g.C.Chunks.work c.args.chunks.now) c.args.scale.now c.args.sharding.now c.requires.scale c.requires.sharded (g.met.C.Chunks.ordered c.args.chunks.now)),
+      (ordered_of (g.C.Chunks.work c.args.chunks.now) c.args.scale.now c.args.sharding.now c.requires.scale c.requires.sharded ((g.met.C.Chunks g.world.𝓛 g.world.𝓜 g.world.𝓡 ((λ s x. x), (λ x. x), (λ x. x), λ x. x)).ordered c.args.chunks.now)),
 )
 
 pub write_shards-requires-clause-ordered : goal.write_shards-requires-clause-ordered
-write_shards-requires-clause-ordered g c = ordered_of (g.C.Chunks.work c.args.chunks.now) c.args.scale.now c.args.sharding.now c.requires.scale c.requires.sharded (g.met.C.Chunks.ordered c.args.chunks.now)
+write_shards-requires-clause-ordered g c κs within = ordered_of (g.C.Chunks.work c.args.chunks.now) c.args.scale.now c.args.sharding.now c.requires.scale c.requires.sharded ((g.met.C.Chunks g.world.𝓛 g.world.𝓜 g.world.𝓡 ((λ s x. x), (λ x. x), (λ x. x), λ x. x)).ordered c.args.chunks.now)
 
 pub returns-in_err-rows-clause-front : goal.returns-in_err-rows-clause-front
 returns-in_err-rows-clause-front g c =
@@ -33,24 +33,24 @@ pub returns-clause-put : goal.returns-clause-put
 returns-clause-put g c =
     on_ok c.write_shards.result _ _
     (sharded_put (g.S.Source.objects c.args.store.now) (g.S.Source.objects c.write_shards.new.store) c.args.dataset.now (g.C.Chunks.work c.args.chunks.now) c.args.scale.now c.args.sharding.now
-    c.requires.scale c.requires.sharded (g.met.C.Chunks.ordered c.args.chunks.now)) c.write_shards.ensures.put
+    c.requires.scale c.requires.sharded ((g.met.C.Chunks g.world.𝓛 g.world.𝓜 g.world.𝓡 ((λ s x. x), (λ x. x), (λ x. x), λ x. x)).ordered c.args.chunks.now)) c.write_shards.ensures.put
 
 pub returns-clause-front : goal.returns-clause-front
 returns-clause-front g c =
     on_err c.write_shards.result _ _
     (sharded_front (g.S.Source.objects c.args.store.now) (g.S.Source.objects c.write_shards.new.store) c.args.dataset.now (g.C.Chunks.work c.args.chunks.now) c.args.scale.now c.args.sharding.now
-    c.requires.scale c.requires.sharded (g.met.C.Chunks.ordered c.args.chunks.now)) c.write_shards.ensures.front
+    c.requires.scale c.requires.sharded ((g.met.C.Chunks g.world.𝓛 g.world.𝓜 g.world.𝓡 ((λ s x. x), (λ x. x), (λ x. x), λ x. x)).ordered c.args.chunks.now)) c.write_shards.ensures.front
 
 pub returns-clause-objects : goal.returns-clause-objects
 returns-clause-objects g c =
     if_ok c.write_shards.result _ _
     (λ w e. e ∙ ap length (sharded_objects c.args.dataset.now (g.C.Chunks.work c.args.chunks.now) c.args.scale.now c.args.sharding.now
     (raw_in (g.S.Source.objects c.args.store.now) (g.C.Chunks.work c.args.chunks.now).raw (job_len (g.C.Chunks.work c.args.chunks.now)))
-    c.requires.scale c.requires.sharded (g.met.C.Chunks.ordered c.args.chunks.now))) c.write_shards.ensures.number
+    c.requires.scale c.requires.sharded ((g.met.C.Chunks g.world.𝓛 g.world.𝓜 g.world.𝓡 ((λ s x. x), (λ x. x), (λ x. x), λ x. x)).ordered c.args.chunks.now))) c.write_shards.ensures.number
 
 pub returns-clause-bytes : goal.returns-clause-bytes
 returns-clause-bytes g c =
     if_ok c.write_shards.result _ _
     (λ w e knows. e knows ∙ ap joint_len (sharded_objects c.args.dataset.now (g.C.Chunks.work c.args.chunks.now) c.args.scale.now c.args.sharding.now
     (raw_in (g.S.Source.objects c.args.store.now) (g.C.Chunks.work c.args.chunks.now).raw (job_len (g.C.Chunks.work c.args.chunks.now)))
-    c.requires.scale c.requires.sharded (g.met.C.Chunks.ordered c.args.chunks.now))) c.write_shards.ensures.bytes
+    c.requires.scale c.requires.sharded ((g.met.C.Chunks g.world.𝓛 g.world.𝓜 g.world.𝓡 ((λ s x. x), (λ x. x), (λ x. x), λ x. x)).ordered c.args.chunks.now))) c.write_shards.ensures.bytes

@@ -16,7 +16,7 @@ use Rattle.shard_writer.specs.States.{front_of, IsOpen, with_len}
 use Rattle.shard_writer.specs.Writing.{first_of_jobs, HasWriteCause, job_len, joint_len, NeverDamaged, raw_in, stored_by, told_chunk, WritesAll}
 use Rattle.shard_writer.specs.declared.written.Written.{Written}
 use Rattle.shard_writer.proofs.CountSteps.{all_begun, all_sound, faulty_next, memory_cause, next_bound, next_bytes, next_drops, next_few, next_le, next_number, no_bytes, no_number, row_fits, sound_next, store_answer, want_answer}
-use Rattle.shard_writer.proofs.JobSteps.{at_begin, at_end, both_end, few_minishards, front_all, next_between, next_kept, next_objects, next_small, no_objects, put_all, ready_on, starts, store_cause}
+use Rattle.shard_writer.proofs.JobSteps.{at_begin, at_end, both_end, few_minishards, front_all, next_between, next_kept, next_objects, next_small, no_objects, prepare_cause, put_all, ready_on, starts, store_cause}
 use Rattle.shard_writer.proofs.LensSteps.{append_at, front_same, joint_known, number_same, with_len-known}
 use Rattle.shard_writer.proofs.ObjectSteps.{no_jobs}
 use Rattle.shard_writer.proofs.PlaceSteps.{is_last}
@@ -52,6 +52,7 @@ loop-job-init g c =
       few = omega arith;
       bound = omega (arith, c.requires.rows);
       sound = λ m told. refl;
+      encoded = c.no_chunks-encoded.ensures (chunk_ready (g.C.Chunks.work c.args.chunks.now) (g.C.Chunks.ready c.args.chunks.now));
       frames = c.requires.frames;
       draft = λ e. inr refl;
       sure = λ sure. sure;
@@ -279,10 +280,10 @@ loop-job-preserved g c =
           joint = next_bytes o c.args.dataset.now s sharding jobs bytes n c.loop-job.begun inv.stored.1.between.b k c.in_ok-next.next c.pick-begun.result c.base_len-base.result c.loop-job.bytes c.pick-bytes.result c.end_if.new.rows.items (g.S.Source.draft c.end_if.new.store)
               c.ends_minishard-ends.result c.ends_shard-last.result c.requires.ordered place h ended_at ends_is both c.pick-begun.ensures c.base_len-base.ensures.value c.pick-bytes.ensures (inv.stored.1.joint ∙ ap joint_len front);
           raws = next_kept o c.args.dataset.now s sharding jobs bytes (g.C.Chunks.work c.args.chunks.now).raw n c.loop-job.begun inv.stored.1.between.b k c.pick-begun.result c.ends_shard-last.result c.requires.ordered place h c.requires.sharded last_is c.pick-begun.ensures
-              (λ m2 told2 bs i i2 li li2 differ q. shards_kept (g.C.Chunks.work c.args.chunks.now) s sharding c.requires.scale c.requires.sharded (g.C.Chunks.work c.args.chunks.now).raw c.args.dataset.now (g.met.C.Chunks.kept c.args.chunks.now c.args.dataset.now s (from_told _ _ m2 told2 c.requires.apart)).raws q bs i i2 li li2 differ)
+              (λ m2 told2 bs i i2 li li2 differ q. shards_kept (g.C.Chunks.work c.args.chunks.now) s sharding c.requires.scale c.requires.sharded (g.C.Chunks.work c.args.chunks.now).raw c.args.dataset.now ((g.met.C.Chunks g.world.𝓛 g.world.𝓜 g.world.𝓡 ((λ s x. x), (λ x. x), (λ x. x), λ x. x)).kept c.args.chunks.now c.args.dataset.now s (from_told _ _ m2 told2 c.requires.apart)).raws q bs i i2 li li2 differ)
               (λ m2 told2 i li ui. ap (λ list. (g.C.Chunks.work c.args.chunks.now).raw (put_in m2 list) i) (sym front) ∙ inv.stored.1.raws m2 told2 i li ui);
           faults = next_kept o c.args.dataset.now s sharding jobs bytes (g.C.Chunks.work c.args.chunks.now).fault n c.loop-job.begun inv.stored.1.between.b k c.pick-begun.result c.ends_shard-last.result c.requires.ordered place h c.requires.sharded last_is c.pick-begun.ensures
-              (λ m2 told2 bs i i2 li li2 differ q. shards_kept (g.C.Chunks.work c.args.chunks.now) s sharding c.requires.scale c.requires.sharded (g.C.Chunks.work c.args.chunks.now).fault c.args.dataset.now (g.met.C.Chunks.kept c.args.chunks.now c.args.dataset.now s (from_told _ _ m2 told2 c.requires.apart)).faults q bs i i2 li li2 differ)
+              (λ m2 told2 bs i i2 li li2 differ q. shards_kept (g.C.Chunks.work c.args.chunks.now) s sharding c.requires.scale c.requires.sharded (g.C.Chunks.work c.args.chunks.now).fault c.args.dataset.now ((g.met.C.Chunks g.world.𝓛 g.world.𝓜 g.world.𝓡 ((λ s x. x), (λ x. x), (λ x. x), λ x. x)).kept c.args.chunks.now c.args.dataset.now s (from_told _ _ m2 told2 c.requires.apart)).faults q bs i i2 li li2 differ)
               (λ m2 told2 i li ui. ap (λ list. (g.C.Chunks.work c.args.chunks.now).fault (put_in m2 list) i) (sym front) ∙ inv.stored.1.faults m2 told2 i li ui);
         },
       );
@@ -302,6 +303,7 @@ loop-job-preserved g c =
       raw = λ m told j l u. ready m told j (omega arith) u;
       work = works;
       later = omega (arith, inv.later, c.prepare_next.ensures.cause.later, c.open_shard.ensures.cause.later, c.append_job.ensures.cause.later, c.end_if.ensures.cause.later, c.finish_if.ensures.cause.later);
+      encoded = c.in_ok-ready.ensures.encoded;
       frames = c.append_job.ensures.frames;
     }
 
@@ -310,6 +312,11 @@ returns-in_err-ready-clause-front g c =
     beside_fault c.from_residual.result _
     (front_all (g.S.Source.objects c.args.store.now) (g.S.Source.objects c.loop-job.store) (g.S.Source.objects c.prepare_next.new.store) c.args.dataset.now c.args.scale.now c.args.sharding.now (jobs_in (g.C.Chunks.work c.args.chunks.now)) (stored_by (g.C.Chunks.work c.args.chunks.now)) c.loop-job.invariant.stored.0 (length (g.C.Chunks.work c.args.chunks.now).cells)
     c.loop-job.begun c.loop-job.invariant.stored.1.between.b c.loop-job.job c.requires.ordered c.loop-job.invariant.stored.1.between.place c.loop-job.invariant.stored.1.put (c.prepare_next.ensures.objects))
+
+pub returns-in_err-ready-clause-cause : goal.returns-in_err-ready-clause-cause
+returns-in_err-ready-clause-cause g c =
+    as_fault (λ r. HasWriteCause (g.S.Source.faults c.args.store.now) (g.S.Source.faults c.prepare_next.new.store) r) c.from_residual.result c.from_residual.ensures.1 (λ fault is.
+    prepare_cause _ (g.S.Source.faults c.loop-job.store) _ c.prepare_next.result c.in_err-ready.field-0.0 fault c.loop-job.invariant.later c.prepare_next.ensures.cause c.in_err-ready.was is)
 
 pub returns-in_err-ready-clause-answer : goal.returns-in_err-ready-clause-answer
 returns-in_err-ready-clause-answer g c =

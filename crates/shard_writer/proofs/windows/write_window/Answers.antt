@@ -34,5 +34,5 @@ returns-clause-plain g c =
     λ raw.
     window_plain c.args.dataset.now c.args.scale.now (g.C.Chunks.work c.args.chunks.now) (g.C.Chunks.ready c.prepare.new.self) c.args.from c.args.to (c.args.to - c.args.from) c.in_ok-bytes.bytes
     c.requires.order refl c.requires.scale raw c.in_ok-prepare.ensures.prepared
-    (λ job. subst (λ (x : Work). IfSome (g.C.Chunks.ready c.prepare.new.self job) (FitsJob x job)) c.prepare.ensures.work (g.met.C.Chunks.fits c.prepare.new.self job))
+    (λ job. subst (λ (x : Work). IfSome (g.C.Chunks.ready c.prepare.new.self job) (FitsJob x job)) c.prepare.ensures.work ((g.met.C.Chunks g.world.𝓛 g.world.𝓜 g.world.𝓡 ((λ s x. x), (λ x. x), (λ x. x), λ x. x)).fits c.prepare.new.self job))
     (subst (λ (x : Work). c.in_ok-bytes.bytes ≡ joint_len (objects_from c.args.dataset.now c.args.scale.now x.cells (chunk_ready x (g.C.Chunks.ready c.prepare.new.self)) c.args.from (c.args.to - c.args.from))) c.prepare.ensures.work c.in_ok-bytes.ensures.bytes)

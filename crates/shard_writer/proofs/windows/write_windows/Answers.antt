@@ -19,8 +19,8 @@ returns-in_err-bytes-clause-answer g c =
     (in_told _ _ (λ m told.
     let apart = from_told _ _ m told c.requires.apart in
     let keeps : Keeps w.fault (λ i. cell_name c.args.dataset.now c.args.scale.now (cell_of w.cells i)) c.args.count =
-    keeps_of w.fault c.args.dataset.now w.scale c.args.scale.now w.cells c.args.count c.requires.scale c.requires.unsharded (g.met.C.Chunks.ordered c.args.chunks.now) c.requires.count
-    (g.met.C.Chunks.kept c.args.chunks.now c.args.dataset.now c.args.scale.now apart).faults in
+    keeps_of w.fault c.args.dataset.now w.scale c.args.scale.now w.cells c.args.count c.requires.scale c.requires.unsharded ((g.met.C.Chunks g.world.𝓛 g.world.𝓜 g.world.𝓡 ((λ s x. x), (λ x. x), (λ x. x), λ x. x)).ordered c.args.chunks.now) c.requires.count
+    ((g.met.C.Chunks g.world.𝓛 g.world.𝓜 g.world.𝓡 ((λ s x. x), (λ x. x), (λ x. x), λ x. x)).kept c.args.chunks.now c.args.dataset.now c.args.scale.now apart).faults in
     let now : Objects = put_in m (objects_from c.args.dataset.now c.args.scale.now w.cells (stored_by w m) 0 c.loop-from.from) in
     more_faulty m c.args.dataset.now c.args.scale.now w.cells w.fault (stored_by w m) c.args.count c.loop-from.from (c.min-to.result - c.loop-from.from) c.in_err-bytes.field-0.0
     (omega (arith, c.min-to.ensures, c.loop-from-test.true)) keeps (c.loop-from.invariant.sound m told)
@@ -35,8 +35,8 @@ returns-in_err-bytes-clause-front g c =
     let apart = from_told _ _ m told c.requires.apart in
     let keeps : Keeps (stored_by w) (λ i. cell_name c.args.dataset.now c.args.scale.now (cell_of w.cells i)) c.args.count =
     keeps_stored w (λ i. cell_name c.args.dataset.now c.args.scale.now (cell_of w.cells i)) c.args.count
-    (keeps_of w.raw c.args.dataset.now w.scale c.args.scale.now w.cells c.args.count c.requires.scale c.requires.unsharded (g.met.C.Chunks.ordered c.args.chunks.now) c.requires.count
-    (g.met.C.Chunks.kept c.args.chunks.now c.args.dataset.now c.args.scale.now apart).raws) in
+    (keeps_of w.raw c.args.dataset.now w.scale c.args.scale.now w.cells c.args.count c.requires.scale c.requires.unsharded ((g.met.C.Chunks g.world.𝓛 g.world.𝓜 g.world.𝓡 ((λ s x. x), (λ x. x), (λ x. x), λ x. x)).ordered c.args.chunks.now) c.requires.count
+    ((g.met.C.Chunks g.world.𝓛 g.world.𝓜 g.world.𝓡 ((λ s x. x), (λ x. x), (λ x. x), λ x. x)).kept c.args.chunks.now c.args.dataset.now c.args.scale.now apart).raws) in
     let now : Objects = put_in m (objects_from c.args.dataset.now c.args.scale.now w.cells (stored_by w m) 0 c.loop-from.from) in
     more_front m (g.S.Source.objects c.write_window.new.store) c.args.dataset.now c.args.scale.now w.cells (stored_by w) c.args.count c.loop-from.from (c.min-to.result - c.loop-from.from)
     (omega (arith, c.min-to.ensures, c.loop-from-test.true)) keeps
@@ -54,16 +54,16 @@ loop-from-preserved g c =
           let now : Objects = put_in m (objects_from c.args.dataset.now c.args.scale.now w.cells (stored_by w m) 0 c.loop-from.from) in
           more_put m (g.S.Source.objects c.write_window.new.store) c.args.dataset.now c.args.scale.now w.cells (stored_by w) c.args.count c.loop-from.from (c.min-to.result - c.loop-from.from) c.min-to.result behind within
           (keeps_stored w (λ i. cell_name c.args.dataset.now c.args.scale.now (cell_of w.cells i)) c.args.count
-          (keeps_of w.raw c.args.dataset.now w.scale c.args.scale.now w.cells c.args.count c.requires.scale c.requires.unsharded (g.met.C.Chunks.ordered c.args.chunks.now) c.requires.count
-          (g.met.C.Chunks.kept c.args.chunks.now c.args.dataset.now c.args.scale.now apart).raws))
+          (keeps_of w.raw c.args.dataset.now w.scale c.args.scale.now w.cells c.args.count c.requires.scale c.requires.unsharded ((g.met.C.Chunks g.world.𝓛 g.world.𝓜 g.world.𝓡 ((λ s x. x), (λ x. x), (λ x. x), λ x. x)).ordered c.args.chunks.now) c.requires.count
+          ((g.met.C.Chunks g.world.𝓛 g.world.𝓜 g.world.𝓡 ((λ s x. x), (λ x. x), (λ x. x), λ x. x)).kept c.args.chunks.now c.args.dataset.now c.args.scale.now apart).raws))
           (subst (λ (x : Work). g.S.Source.objects c.write_window.new.store ≡ Some (put_in now (objects_from c.args.dataset.now c.args.scale.now x.cells (stored_by x now) c.loop-from.from (c.min-to.result - c.loop-from.from)))) c.loop-from.invariant.work
           (from_told _ _ now (c.loop-from.invariant.put m told) c.in_ok-bytes.ensures.put));
       sound = λ m told.
           let apart = from_told _ _ m told c.requires.apart in
           let now : Objects = put_in m (objects_from c.args.dataset.now c.args.scale.now w.cells (stored_by w m) 0 c.loop-from.from) in
           more_sound m c.args.dataset.now c.args.scale.now w.cells w.fault (stored_by w m) c.args.count c.loop-from.from (c.min-to.result - c.loop-from.from) c.min-to.result behind within
-          (keeps_of w.fault c.args.dataset.now w.scale c.args.scale.now w.cells c.args.count c.requires.scale c.requires.unsharded (g.met.C.Chunks.ordered c.args.chunks.now) c.requires.count
-          (g.met.C.Chunks.kept c.args.chunks.now c.args.dataset.now c.args.scale.now apart).faults)
+          (keeps_of w.fault c.args.dataset.now w.scale c.args.scale.now w.cells c.args.count c.requires.scale c.requires.unsharded ((g.met.C.Chunks g.world.𝓛 g.world.𝓜 g.world.𝓡 ((λ s x. x), (λ x. x), (λ x. x), λ x. x)).ordered c.args.chunks.now) c.requires.count
+          ((g.met.C.Chunks g.world.𝓛 g.world.𝓜 g.world.𝓡 ((λ s x. x), (λ x. x), (λ x. x), λ x. x)).kept c.args.chunks.now c.args.dataset.now c.args.scale.now apart).faults)
           (c.loop-from.invariant.sound m told)
           (subst (λ (x : Work). jobs_fault x now c.loop-from.from (c.min-to.result - c.loop-from.from) ≡ None) c.loop-from.invariant.work
           (from_told _ _ now (c.loop-from.invariant.put m told) c.in_ok-bytes.ensures.answer));
@@ -72,8 +72,8 @@ loop-from-preserved g c =
           let now : Objects = put_in m (objects_from c.args.dataset.now c.args.scale.now w.cells (stored_by w m) 0 c.loop-from.from) in
           more_joint m c.args.dataset.now c.args.scale.now w.cells (stored_by w) c.args.count c.loop-from.from (c.min-to.result - c.loop-from.from) c.min-to.result c.loop-from.bytes c.in_ok-bytes.field-0 behind within
           (keeps_stored w (λ i. cell_name c.args.dataset.now c.args.scale.now (cell_of w.cells i)) c.args.count
-          (keeps_of w.raw c.args.dataset.now w.scale c.args.scale.now w.cells c.args.count c.requires.scale c.requires.unsharded (g.met.C.Chunks.ordered c.args.chunks.now) c.requires.count
-          (g.met.C.Chunks.kept c.args.chunks.now c.args.dataset.now c.args.scale.now apart).raws))
+          (keeps_of w.raw c.args.dataset.now w.scale c.args.scale.now w.cells c.args.count c.requires.scale c.requires.unsharded ((g.met.C.Chunks g.world.𝓛 g.world.𝓜 g.world.𝓡 ((λ s x. x), (λ x. x), (λ x. x), λ x. x)).ordered c.args.chunks.now) c.requires.count
+          ((g.met.C.Chunks g.world.𝓛 g.world.𝓜 g.world.𝓡 ((λ s x. x), (λ x. x), (λ x. x), λ x. x)).kept c.args.chunks.now c.args.dataset.now c.args.scale.now apart).raws))
           (c.loop-from.invariant.told m told)
           (subst (λ (x : Work). c.in_ok-bytes.field-0 ≡ joint_len (objects_from c.args.dataset.now c.args.scale.now x.cells (stored_by x now) c.loop-from.from (c.min-to.result - c.loop-from.from))) c.loop-from.invariant.work
           (from_told _ _ now (c.loop-from.invariant.put m told) c.in_ok-bytes.ensures.told));

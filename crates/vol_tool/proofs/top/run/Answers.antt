@@ -8,14 +8,14 @@ pub returns-in-Err-clause-answers : goal.returns-in-Err-clause-answers
 returns-in-Err-clause-answers g c =
     memory_answers (line (map string_bytes c.args.words.now))
     (view g.S.Source.objects g.S.Source.draft g.S.Source.asked g.S.Source.faults g.F.Feed.left g.F.Feed.faults g.O.Outlet.written g.O.Outlet.faults g.E.Outlet.written g.E.Outlet.faults
-    g.D.Door.bound g.D.Door.accepted g.D.Door.served g.D.Door.faults c.args.store.now c.args.feed.now c.args.out.now c.args.err.now c.args._door.now)
+    g.D.Door.bound g.D.Door.accepted g.D.Door.served g.D.Door.faults c.args.store.now c.args.feed.now c.args.out.now c.args.err.now c.args.door.now)
     (g.E.Outlet.written c.tell.new.err) (g.E.Outlet.faults c.tell.new.err)
 
 pub returns-in-Err-clause-succeeds : goal.returns-in-Err-clause-succeeds
 returns-in-Err-clause-succeeds g c =
     memory_succeeds (line (map string_bytes c.args.words.now))
     (view g.S.Source.objects g.S.Source.draft g.S.Source.asked g.S.Source.faults g.F.Feed.left g.F.Feed.faults g.O.Outlet.written g.O.Outlet.faults g.E.Outlet.written g.E.Outlet.faults
-    g.D.Door.bound g.D.Door.accepted g.D.Door.served g.D.Door.faults c.args.store.now c.args.feed.now c.args.out.now c.args.err.now c.args._door.now)
+    g.D.Door.bound g.D.Door.accepted g.D.Door.served g.D.Door.faults c.args.store.now c.args.feed.now c.args.out.now c.args.err.now c.args.door.now)
     (g.E.Outlet.written c.tell.new.err) (g.E.Outlet.faults c.tell.new.err)
 
 pub returns-in-Err-clause-headline : goal.returns-in-Err-clause-headline

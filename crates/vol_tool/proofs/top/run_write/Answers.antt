@@ -26,7 +26,7 @@ returns-in-Err-print_written-clause-judges g c =
 pub returns-in-Err-print_written-clause-shows : goal.returns-in-Err-print_written-clause-shows
 returns-in-Err-print_written-clause-shows g c =
     unprinted_told c.in-Err-print_written.refusal c.report-in-Err-print_written.result c.in-Ok.written (g.S.Source.objects c.args.store.now) (g.S.Source.objects c.write_objects.new.store)
-    (g.F.Feed.left c.args.feed.now) (g.F.Feed.left c.write_objects.new.feed) c.args.dataset.now c.args.key.now _ c.in-Ok.ensures.writes c.in-Err-print_written.ensures.prints c.report-in-Err-print_written.ensures.told
+    (g.F.Feed.left c.args.feed.now) (g.F.Feed.left c.write_objects.new.feed) c.args.dataset.now c.args.key.now _ c.in-Ok.ensures.feed c.in-Ok.ensures.writes c.in-Err-print_written.ensures.prints c.report-in-Err-print_written.ensures.told
 
 pub returns-in-Err-print_written-clause-leaves : goal.returns-in-Err-print_written-clause-leaves
 returns-in-Err-print_written-clause-leaves g c =
@@ -37,9 +37,9 @@ pub returns-in-Ok-print_written-clause-shows : goal.returns-in-Ok-print_written-
 returns-in-Ok-print_written-clause-shows g c =
     printed_told c.in-Ok.written (g.S.Source.objects c.args.store.now) (g.S.Source.objects c.write_objects.new.store) (g.F.Feed.left c.args.feed.now) (g.F.Feed.left c.write_objects.new.feed)
     c.args.dataset.now c.args.key.now
-    (outlets_of g.O.Outlet.written g.O.Outlet.faults g.E.Outlet.written g.E.Outlet.faults c.args.out.now c.print_written.new.out c.args.err.now c.args.err.now) c.in-Ok.ensures.writes c.in-Ok-print_written.ensures.prints
+    (outlets_of g.O.Outlet.written g.O.Outlet.faults g.E.Outlet.written g.E.Outlet.faults c.args.out.now c.print_written.new.out c.args.err.now c.args.err.now) c.in-Ok.ensures.feed c.in-Ok.ensures.writes c.in-Ok-print_written.ensures.prints
 
 pub returns-in-Ok-print_written-clause-back : goal.returns-in-Ok-print_written-clause-back
 returns-in-Ok-print_written-clause-back g c done =
-    back_told c.in-Ok.written (g.S.Source.objects c.args.store.now) (g.S.Source.objects c.write_objects.new.store) (g.F.Feed.left c.args.feed.now) (g.F.Feed.left c.write_objects.new.feed)
+    back_told c.in-Ok.written (g.S.Source.objects c.args.store.now) (g.S.Source.objects c.write_objects.new.store) (g.F.Feed.left c.args.feed.now)
     c.args.dataset.now c.args.key.now c.in-Ok.ensures.writes

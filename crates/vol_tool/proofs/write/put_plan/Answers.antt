@@ -7,7 +7,7 @@ write_scale-requires-clause-few g c κs within = few_jobs c.args.plan.now c.args
 pub returns-in-Ok-clause-put : goal.returns-in-Ok-clause-put
 returns-in-Ok-clause-put g c =
     put_done c.in-Ok.written (g.S.Source.objects c.args.store.now) (g.S.Source.objects c.write_scale.new.store) c.args.plan.now c.args.dataset.now c.args.scale.now c.requires.scale c.requires.few
-    c.in-Ok.ensures.objects c.in-Ok.ensures.cells c.in-Ok.ensures.put
+    c.in-Ok.ensures.objects c.in-Ok.ensures.cells c.in-Ok.ensures.bytes c.in-Ok.ensures.put
 
 pub returns-in-Err-StoreFault-clause-put : goal.returns-in-Err-StoreFault-clause-put
 returns-in-Err-StoreFault-clause-put g c =

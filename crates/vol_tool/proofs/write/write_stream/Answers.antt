@@ -1,8 +1,17 @@
-use Rattle.vol_tool.proofs.StreamSteps.{stream_told}
+use Rattle.vol_tool.proofs.StreamSteps.{folder_found}
+use Rattle.std.proofs.Common.{◌≡◌, IfSome, false, subst, sym}
+use Rattle.vol_base.specs.Outside.{any_under}
+use Rattle.vol_spec.specs.CellNames.{folder_of}
+use Rattle.write_plan.specs.Stream.{writes_of}
+use Rattle.vol_tool.specs.Storing.{WritesScale}
 use Rattle.vol_tool.proofs.write.write_stream.Goals as goal
+
+pub write_list-requires-clause-empty : goal.write_list-requires-clause-empty
+write_list-requires-clause-empty g c κs within =
+    subst (λ o. IfSome o (λ m. any_under m (folder_of c.args.dataset.now c.args.scale.now) ≡ false)) (sym c.any_under.ensures.kept.same_objects)
+    (folder_found (g.S.Source.objects c.args.store.now) c.find_folder.result c.args.dataset.now c.args.scale.now c.in-Ok-false.field-0 false c.find_folder.ensures c.in-Ok-false.field-0-test c.in-Ok-false.ensures.found)
 
 pub returns-clause-writes : goal.returns-clause-writes
 returns-clause-writes g c key =
-    stream_told c.write_planned.result (g.S.Source.objects c.args.store.now) (g.S.Source.objects c.any_under.new.self) (g.S.Source.objects c.write_planned.new.store) (g.S.Source.draft c.any_under.new.self) (g.S.Source.draft c.write_planned.new.store)
-    (g.F.Feed.left c.args.feed.now) (g.F.Feed.left c.read_writes.new.feed) c.args.dataset.now key c.args.scale.now c.in_ok-writes.writes c.find_folder-folder.result c.in-Ok-false.field-0 (record { outside = c.tell_chunks.ensures.outside; back = c.tell_chunks.ensures.cutout }) c.requires.writable c.in_ok-writes.ensures.bytes
-    c.any_under.ensures.kept.same_objects c.find_folder-folder.ensures c.in-Ok-false.field-0-test c.in-Ok-false.ensures.found c.in_ok-writes.ensures.end c.in_ok-writes.ensures.exact c.write_planned.ensures.kept c.write_planned.ensures.put
+    subst (λ o. IfSome o (λ m. IfSome (g.F.Feed.left c.args.feed.now) (λ bytes. WritesScale c.write_list.result m (g.S.Source.objects c.write_list.new.store) (writes_of bytes c.args.scale.now) c.args.dataset.now key c.args.scale.now)))
+    c.any_under.ensures.kept.same_objects (c.write_list.ensures.writes key)

@@ -1,0 +1,5 @@
+pub mod AgreeSteps
+pub mod CopyLaw
+pub mod CopySteps
+pub mod CopyValues
+pub mod FolderSteps

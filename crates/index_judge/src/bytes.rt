@@ -1,0 +1,28 @@
+//! Bytes of an object.
+ghost use Rattle.std.specs.Prelude.{◌≡◌, ◌+◌, ◌<◌, ◌≤◌, ◌^◌, nat_le, ℕ, List, length, IfOk, Some};
+ghost use Rattle.vol_base.specs.Causes.{HasCause};
+ghost use Rattle.vol_base.specs.Outside.{OnlyReads, part};
+ghost use Rattle.shard_reader.specs.Reading.{told_object};
+
+use vol_base::{Failed, Got, Name, Source};
+
+/// Fills some bytes from the byte `at` of an object on: whether it has so many.
+pub(crate) fn read_exact<S: Source>(
+    store: &mut S,
+    name: &Name,
+    at: u64,
+    out: &mut [u8],
+) -> Result<bool, Failed>
+    requires some { 0 < length out.old }
+    requires fits { at + length out.old < 2 ^ 64 }
+    ensures whole { IfOk result (λ whole. (object : List ℕ) → told_object (S.objects store.old) name.now ≡ Some object → whole ≡ nat_le (at + length out.old) (length object)) }
+    ensures read { IfOk result (λ _. (object : List ℕ) → told_object (S.objects store.old) name.now ≡ Some object → at + length out.old ≤ length object → out.new ≡ part object at (length out.old)) }
+    ensures kept { OnlyReads (S.objects store.old) (S.objects store.new) (S.draft store.old) (S.draft store.new) }
+    ensures cause { HasCause (S.faults store.old) (S.faults store.new) result }
+{
+    match store.read_at(name, at, out) {
+        Err(failed) => Err(failed),
+        Ok(Got::Absent) => Ok(false),
+        Ok(Got::Bytes(found)) => Ok(found == out.len() as u64),
+    }
+}

@@ -1,0 +1,173 @@
+//! All rows of an index, read by 1,024 at a time and judged in order.
+ghost use Rattle.std.specs.Prelude.{◌≡◌, ◌≢◌, ◌+◌, ◌*◌, ◌<◌, ◌≤◌, ◌^◌, ℕ, length, Err, IfErr, OnOk};
+ghost use Rattle.vol_base.specs.Causes.{Rose};
+ghost use Rattle.vol_base.specs.Outside.{OnlyReads};
+ghost use Rattle.vol_spec.specs.Rows.{Columns, columns_of, number_at};
+ghost use Rattle.shard_reader.specs.Reading.{Holds, HoldsNumbers, OnIndex};
+ghost use Rattle.index_judge.specs.Judging.{IsPast, Passes, Says, first_wrong_row};
+
+use crate::JudgeFault;
+use crate::bytes::read_exact;
+use crate::entry::RowSpan;
+use crate::row::judge_row;
+use byteorder::{ByteOrder, LittleEndian};
+use minishard::Walk;
+use shard_index::ShardPlace;
+use vol_base::{Fault, Name, ShardFault, Source};
+use vol_spec::Sharding;
+
+#[tactic(auto, unfolding(vol_spec::specs::Rows::number_at))]
+fn read_number(bytes: &[u8], place: usize) -> u64
+    requires { 8 * place + 8 ≤ length bytes.now }
+    ensures { result ≡ number_at bytes.now place }
+{
+    LittleEndian::read_u64(&bytes[8 * place..])
+}
+
+// Judges the next rows of a walk, whose numbers stand in front of three columns.
+fn judge_columns(
+    walk: &mut Walk,
+    count: usize,
+    sharding: &Sharding,
+    home: &ShardPlace,
+    ids: &[u8],
+    starts: &[u8],
+    sizes: &[u8],
+) -> Result<(), JudgeFault>
+    requires rows { walk.old.rows + count ≤ 2 ^ 22 }
+    requires ids { 8 * count ≤ length ids.now }
+    requires starts { 8 * count ≤ length starts.now }
+    requires sizes { 8 * count ≤ length sizes.now }
+    ensures rows { OnOk result (walk.new.rows ≡ walk.old.rows + count) }
+    ensures passes { (c : Columns) (n : ℕ) → IsPast c sharding.now home.now.shard home.now.minishard walk.old → Holds c walk.old.rows count ids.now starts.now sizes.now → walk.old.rows + count ≤ n → Passes c sharding.now home.now.shard home.now.minishard n result walk.new }
+    ensures read { result ≢ Err JudgeFault.NotRead }
+{
+    for i in 0..count {
+        let id = read_number(ids, i);
+        let start = read_number(starts, i);
+        let size = read_number(sizes, i);
+        match judge_row(walk, sharding, home, id, start, size) {
+            Ok(()) => {}
+            Err(fault) => return Err(fault),
+        }
+    }
+    Ok(())
+}
+
+// Reads `count` numbers of an index, from number `from` on, into the front of a buffer.
+fn read_numbers<S: Source>(
+    store: &mut S,
+    name: &Name,
+    span: &RowSpan,
+    from: u64,
+    count: usize,
+    out: &mut [u8],
+) -> Result<(), JudgeFault>
+    requires some { 0 < count }
+    requires within { from + count ≤ 3 * span.now.rows }
+    requires fits { span.now.at + 24 * span.now.rows < 2 ^ 64 }
+    requires room { 8 * count ≤ length out.old }
+    ensures read { OnOk result (OnIndex (S.objects store.old) name.now span.now.at span.now.rows (HoldsNumbers from count out.new)) }
+    ensures whole { IfErr result (λ fault. OnIndex (S.objects store.old) name.now span.now.at span.now.rows (λ _. fault ≡ JudgeFault.NotRead)) }
+    ensures kept { OnlyReads (S.objects store.old) (S.objects store.new) (S.draft store.old) (S.draft store.new) }
+    ensures later { S.faults store.old ≤ S.faults store.new }
+    ensures fault { result ≡ Err JudgeFault.NotRead → Rose (S.faults store.old) (S.faults store.new) }
+{
+    match read_exact(store, name, span.at + 8 * from, &mut out[..8 * count]) {
+        Err(_) => Err(JudgeFault::NotRead),
+        Ok(true) => Ok(()),
+        Ok(false) => Err(JudgeFault::Damaged(Fault::Shard(ShardFault::ShortMinishard))),
+    }
+}
+
+// Reads `count` rows of an index, from row `first` on, into the fronts of three columns.
+fn read_rows<S: Source>(
+    store: &mut S,
+    name: &Name,
+    span: &RowSpan,
+    first: u64,
+    count: usize,
+    ids: &mut [u8],
+    starts: &mut [u8],
+    sizes: &mut [u8],
+) -> Result<(), JudgeFault>
+    requires some { 0 < count }
+    requires within { first + count ≤ span.now.rows }
+    requires fits { span.now.at + 24 * span.now.rows < 2 ^ 64 }
+    requires ids { 8 * count ≤ length ids.old }
+    requires starts { 8 * count ≤ length starts.old }
+    requires sizes { 8 * count ≤ length sizes.old }
+    ensures read { OnOk result (OnIndex (S.objects store.old) name.now span.now.at span.now.rows (λ bytes. Holds (columns_of bytes) first count ids.new starts.new sizes.new)) }
+    ensures whole { IfErr result (λ fault. OnIndex (S.objects store.old) name.now span.now.at span.now.rows (λ _. fault ≡ JudgeFault.NotRead)) }
+    ensures kept { OnlyReads (S.objects store.old) (S.objects store.new) (S.draft store.old) (S.draft store.new) }
+    ensures later { S.faults store.old ≤ S.faults store.new }
+    ensures fault { result ≡ Err JudgeFault.NotRead → Rose (S.faults store.old) (S.faults store.new) }
+{
+    match read_numbers(store, name, span, first, count, ids) {
+        Ok(()) => {}
+        Err(fault) => return Err(fault),
+    }
+    match read_numbers(store, name, span, span.rows + first, count, starts) {
+        Ok(()) => {}
+        Err(fault) => return Err(fault),
+    }
+    match read_numbers(store, name, span, 2 * span.rows + first, count, sizes) {
+        Ok(()) => Ok(()),
+        Err(fault) => Err(fault),
+    }
+}
+
+// The most rows that are read at once, and the bytes of a column of so many.
+const MOST_ROWS: u64 = 1024;
+
+/// The bytes of 1,024 numbers.
+pub(crate) const COLUMN_LEN: u64 = 8 * MOST_ROWS;
+
+// How many rows are read next, behind the first ones.
+fn count_next(span: &RowSpan, first: u64) -> usize
+    requires { first < span.now.rows }
+    ensures some { 0 < result }
+    ensures within { first + result ≤ span.now.rows }
+    ensures few { result ≤ 1024 }
+{
+    (span.rows - first).min(MOST_ROWS) as usize
+}
+
+/// Judges all rows of an index, from the first on, up to and with the first with which something is wrong:
+/// a row that is at fault, or whose id belongs into another index. There is room for 1,024 numbers in each
+/// column.
+pub(crate) fn judge_rows<S: Source>(
+    store: &mut S,
+    name: &Name,
+    span: &RowSpan,
+    sharding: &Sharding,
+    home: &ShardPlace,
+    ids: &mut [u8],
+    starts: &mut [u8],
+    sizes: &mut [u8],
+) -> Result<(), JudgeFault>
+    requires few { span.now.rows ≤ 2 ^ 22 }
+    requires fits { span.now.at + 24 * span.now.rows < 2 ^ 64 }
+    requires ids { length ids.old ≡ 8192 }
+    requires starts { length starts.old ≡ 8192 }
+    requires sizes { length sizes.old ≡ 8192 }
+    ensures judged { OnIndex (S.objects store.old) name.now span.now.at span.now.rows (λ bytes. Says (first_wrong_row (columns_of bytes) sharding.now home.now.shard home.now.minishard span.now.rows) result) }
+    ensures kept { OnlyReads (S.objects store.old) (S.objects store.new) (S.draft store.old) (S.draft store.new) }
+    ensures later { S.faults store.old ≤ S.faults store.new }
+    ensures fault { result ≡ Err JudgeFault.NotRead → Rose (S.faults store.old) (S.faults store.new) }
+{
+    let mut walk = Walk::new();
+    while walk.rows() < span.rows {
+        let first = walk.rows();
+        let count = count_next(span, first);
+        match read_rows(store, name, span, first, count, ids, starts, sizes) {
+            Ok(()) => {}
+            Err(fault) => return Err(fault),
+        }
+        match judge_columns(&mut walk, count, sharding, home, ids, starts, sizes) {
+            Ok(()) => {}
+            Err(fault) => return Err(fault),
+        }
+    }
+    Ok(())
+}

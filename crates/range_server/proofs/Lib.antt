@@ -1,0 +1,14 @@
+mod DigitSteps
+mod NumberSteps
+pub mod TextSteps
+pub mod PlanSteps
+mod Gained
+mod PartSteps
+pub mod SendSteps
+pub mod ReplySteps
+mod CauseSteps
+pub mod ConnSteps
+pub mod ServeSteps
+mod OneReply
+mod ServingSteps
+mod EndSteps

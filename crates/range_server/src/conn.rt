@@ -1,0 +1,144 @@
+//! A connection.
+ghost use Rattle.std.specs.Prelude.{◌≡◌, ◌≢◌, ◌-◌, ◌≤◌, ◌<◌, length, take, drop, None, IfErr, IfOk, IfSome, OnOk};
+ghost use Rattle.vol_base.specs.Outside.{OnlyReads};
+ghost use Rattle.request_heads.specs.Heads.{pending};
+ghost use Rattle.request_heads.specs.Answers.{HasParts, IsNext};
+ghost use Rattle.vol_base.specs.Causes.{HasCause};
+ghost use Rattle.range_server.specs.Bodies.{HasServeCause, WhereTold};
+ghost use Rattle.range_server.specs.Desks.{IsReady};
+ghost use Rattle.range_server.specs.Replies.{Ends, Gained, GoesOn, Served, Stopped, Stops};
+
+use crate::answer::{Found, answer_head};
+use crate::fault::ServeFault;
+use crate::write::{Writer, send_bad};
+use httparse::spans::HeaderSpan;
+use request_heads::{Next, read_head};
+use std::alloc::Global;
+use vol_base::{Failed, Link, Name, Source};
+
+/// What was received and not yet used, the parts of a head in it, and where replies are made.
+#[derive(Drop)]
+pub(crate) struct Desk {
+    pub received: Vec<u8>,
+    pub spans: Vec<HeaderSpan>,
+    pub writer: Writer,
+}
+
+// Drops so many bytes from the front of those that were received; the others come in front.
+fn consume(buffer: &mut [u8], there: usize, len: usize)
+    requires within { there ≤ length buffer.old }
+    requires front { len ≤ there }
+    ensures { take (there - len) buffer.new ≡ drop len (take there buffer.old) }
+{
+    buffer[..there].rotate_left(len);
+}
+
+fn drop_head(desk: &mut Desk, there: usize, len: usize)
+    requires ready { IsReady desk.old }
+    requires within { there ≤ 8192 }
+    requires front { len ≤ there }
+    ensures ready { IsReady desk.new }
+    ensures rest { take (there - len) desk.new.received.items ≡ drop len (take there desk.old.received.items) }
+{
+    consume(desk.received.as_mut_slice(), there, len);
+}
+
+// Waits for the next head, where so many bytes stand in front of those that are to be received.
+fn wait_head<L: Link>(link: &mut L, len: usize, desk: &mut Desk) -> Result<(Next, usize), Failed>
+    requires ready { IsReady desk.old }
+    requires within { len ≤ 8192 }
+    ensures ready { IsReady desk.new }
+    ensures within { IfOk result (λ r. r.1 ≤ 8192) }
+    ensures next { IfOk result (λ r. IfSome (pending desk.old.received.items len (L.left link.old)) (λ stream. IsNext stream r.0)) }
+    ensures parts { IfOk result (λ r. HasParts (take r.1 desk.new.received.items) desk.new.spans.items r.0) }
+    ensures pending { IfOk result (λ r. pending desk.new.received.items r.1 (L.left link.new) ≡ pending desk.old.received.items len (L.left link.old)) }
+    ensures sent { L.sent link.new ≡ L.sent link.old }
+    ensures stream { L.stream link.new ≡ L.stream link.old }
+    ensures cause { HasCause (L.faults link.old) (L.faults link.new) result }
+{
+    let received = desk.received.as_mut_slice();
+    read_head(link, received, len, desk.spans.as_mut_slice())
+}
+
+/// Serves one request, where so many bytes stand in front of those that are to be received; tells how many stand there
+/// then, or None where the connection ends.
+fn serve_one<L: Link, S: Source>(
+    alloc: Global,
+    link: &mut L,
+    store: &mut S,
+    dataset: &Name,
+    number: u64,
+    len: usize,
+    desk: &mut Desk,
+) -> Result<Option<usize>, ServeFault>
+    requires ready { IsReady desk.old }
+    requires within { len ≤ 8192 }
+    ensures ready { IsReady desk.new }
+    ensures within { IfOk result (λ next. IfSome next (λ len. len ≤ 8192)) }
+    ensures last { IfOk result (λ next. IfSome next (λ _. number ≢ 65535)) }
+    ensures goes_on { IfOk result (λ next. IfSome next (λ more. WhereTold (S.objects store.old) (λ m. WhereTold (pending desk.old.received.items len (L.left link.old))
+        (λ rest. GoesOn m dataset.now number rest (L.sent link.old) (L.sent link.new) (pending desk.new.received.items more (L.left link.new)))))) }
+    ensures ends { IfOk result (λ next. next ≡ None → WhereTold (S.objects store.old) (λ m. WhereTold (pending desk.old.received.items len (L.left link.old))
+        (λ rest. Gained (Ends m dataset.now (S.faults store.old) (S.faults store.new) number rest) (L.sent link.old) (L.sent link.new)))) }
+    ensures stops { IfErr result (λ fault. WhereTold (S.objects store.old) (λ m. WhereTold (pending desk.old.received.items len (L.left link.old))
+        (λ rest. Gained (Stops m dataset.now (S.faults store.old) (S.faults store.new) fault number rest) (L.sent link.old) (L.sent link.new)))) }
+    ensures stream { L.stream link.new ≡ L.stream link.old }
+    ensures kept { OnlyReads (S.objects store.old) (S.objects store.new) (S.draft store.old) (S.draft store.new) }
+    ensures cause { HasServeCause (L.faults link.old) (L.faults link.new) (S.faults store.old) (S.faults store.new) result }
+{
+    let (next, there) = match wait_head(link, len, desk) {
+        Ok(found) => found,
+        Err(Failed) => return Err(ServeFault::LinkFault),
+    };
+    let parts = match next {
+        Next::Head(parts) => parts,
+        Next::End => return Ok(None),
+        Next::Bad => {
+            return match send_bad(link, &mut desk.writer.text) {
+                Ok(()) => Ok(None),
+                Err(fault) => Err(fault),
+            };
+        }
+    };
+    let found = Found {
+        received: &desk.received.as_slice()[..there],
+        spans: desk.spans.as_slice(),
+        parts,
+    };
+    match answer_head(alloc, link, store, dataset, number, found, &mut desk.writer) {
+        Ok(true) => {
+            drop_head(desk, there, parts.len);
+            Ok(Some(there - parts.len))
+        }
+        Ok(false) => Ok(None),
+        Err(fault) => Err(fault),
+    }
+}
+
+/// Serves the requests of a peer, one after the other.
+pub(crate) fn serve_link<L: Link, S: Source>(
+    alloc: Global,
+    link: &mut L,
+    store: &mut S,
+    dataset: &Name,
+    desk: &mut Desk,
+) -> Result<(), ServeFault>
+    requires ready { IsReady desk.old }
+    ensures served { OnOk result (WhereTold (S.objects store.old) (λ m. WhereTold (L.left link.old)
+        (λ stream. Gained (Served m dataset.now (S.faults store.old) (S.faults store.new) stream) (L.sent link.old) (L.sent link.new)))) }
+    ensures stopped { IfErr result (λ fault. WhereTold (S.objects store.old) (λ m. WhereTold (L.left link.old)
+        (λ stream. Gained (Stopped m dataset.now (S.faults store.old) (S.faults store.new) fault stream) (L.sent link.old) (L.sent link.new)))) }
+    ensures stream { L.stream link.new ≡ L.stream link.old }
+    ensures kept { OnlyReads (S.objects store.old) (S.objects store.new) (S.draft store.old) (S.draft store.new) }
+    ensures cause { HasServeCause (L.faults link.old) (L.faults link.new) (S.faults store.old) (S.faults store.new) result }
+{
+    let mut len = 0;
+    for number in 0..65536 {
+        match serve_one(alloc, link, store, dataset, number, len, desk) {
+            Ok(Some(more)) => len = more,
+            Ok(None) => return Ok(()),
+            Err(fault) => return Err(fault),
+        }
+    }
+    unreachable!()
+}

@@ -1,0 +1,24 @@
+//! Objects served by byte ranges over HTTP/1.1.
+#![tactic(auto)]
+
+mod answer;
+mod conn;
+mod digits;
+mod ends;
+mod fault;
+mod plan;
+mod range;
+mod reply;
+mod send;
+mod serve;
+#[cfg(test)]
+mod tests;
+mod text;
+mod write;
+
+pub use ends::serve_ends;
+pub use fault::{DoorRefusal, ServeFault};
+pub use plan::plan_reply;
+pub use range::{RangeAnswer, range_of};
+pub use reply::Reply;
+pub use serve::{serve_conn, tell_replies};

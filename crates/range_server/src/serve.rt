@@ -1,0 +1,83 @@
+//! A connection, served.
+ghost use Rattle.std.specs.Prelude.{◌≡◌, ◌≤◌, ◌⊎◌, ◌-◌, ℕ, List, length, IfErr, IfOk, OnOk};
+ghost use Rattle.vol_base.specs.Outside.{Ended, Objects, OnlyReads};
+ghost use Rattle.range_server.specs.Bodies.{HasServeCause, WhereTold};
+ghost use Rattle.range_server.specs.Desks.{IsReady};
+ghost use Rattle.range_server.specs.Replies.{AreReplies, Gained, Served, Stopped};
+ghost use Rattle.range_server.specs.Serving.{AtMostBroken, EndsServed};
+ghost use Rattle.vol_base.specs.Causes.{most_count};
+
+use crate::conn::{Desk, serve_link};
+use crate::fault::ServeFault;
+use crate::plan::reserve_spans;
+use crate::write::Writer;
+use std::alloc::Global;
+use vol_base::{Link, Name, OutOfMemory, Source};
+
+// How many bytes of a reply leave at once.
+const PIECE: usize = 1 << 16;
+
+// Room for so many bytes.
+fn reserve_bytes(alloc: Global, len: usize) -> Result<Vec<u8>, OutOfMemory>
+    ensures { IfOk result (λ bytes. length bytes.items ≡ len) }
+{
+    match Vec::from_elem(alloc, 0, len) {
+        Ok(bytes) => Ok(bytes),
+        Err(_) => Err(OutOfMemory),
+    }
+}
+
+// Room for a connection.
+fn open_desk(alloc: Global) -> Result<Desk, OutOfMemory>
+    ensures { IfOk result IsReady }
+{
+    let received = reserve_bytes(alloc, 8192)?;
+    let spans = reserve_spans(alloc, 4096)?;
+    let piece = reserve_bytes(alloc, PIECE)?;
+    let Ok(text) = String::with_capacity(alloc, 512) else {
+        return Err(OutOfMemory);
+    };
+    Ok(Desk {
+        received,
+        spans,
+        writer: Writer { text, piece },
+    })
+}
+
+/// Serves the requests of a peer for the objects of a data set, until their stream ends or a reply closes the
+/// connection. What is sent is the replies to what was left of the link's stream, in whatever pieces it comes.
+///
+/// # Errors
+/// `LinkFault` and `StoreFault` only where the link or the store failed, and `OutOfMemory`. What was sent is then a
+/// front of the replies; after `StoreFault` it ends amid a body.
+pub fn serve_conn<L: Link, S: Source>(
+    alloc: Global,
+    link: &mut L,
+    store: &mut S,
+    dataset: &Name,
+) -> Result<(), ServeFault>
+    ensures served { OnOk result (WhereTold (S.objects store.old) (λ m. WhereTold (L.left link.old)
+        (λ stream. Gained (Served m dataset.now (S.faults store.old) (S.faults store.new) stream) (L.sent link.old) (L.sent link.new)))) }
+    ensures stopped { IfErr result (λ fault. WhereTold (S.objects store.old) (λ m. WhereTold (L.left link.old)
+        (λ stream. Gained (Stopped m dataset.now (S.faults store.old) (S.faults store.new) fault stream) (L.sent link.old) (L.sent link.new)))) }
+    ensures stream { L.stream link.new ≡ L.stream link.old }
+    ensures kept { OnlyReads (S.objects store.old) (S.objects store.new) (S.draft store.old) (S.draft store.new) }
+    ensures cause { HasServeCause (L.faults link.old) (L.faults link.new) (S.faults store.old) (S.faults store.new) result }
+{
+    let mut desk = match open_desk(alloc) {
+        Ok(desk) => desk,
+        Err(OutOfMemory) => return Err(ServeFault::OutOfMemory),
+    };
+    match serve_link(alloc, link, store, dataset, &mut desk) {
+        Ok(()) => Ok(()),
+        Err(fault) => Err(fault),
+    }
+}
+
+/// A stream has one list of replies. Of ends that were served one after the other, and whose link didn't fail, no more
+/// are not whole than the store's count of faults rose by, or that count is at its end.
+pub fn tell_replies()
+    ensures one { (m : Objects) (dataset stream out more : List ℕ) → AreReplies m dataset stream out → AreReplies m dataset stream more → out ≡ more }
+    ensures few { (m : Objects) (dataset : List ℕ) (before now : ℕ) (ends : List Ended) → EndsServed m dataset before now ends
+        → (most_count ≤ now) ⊎ AtMostBroken m dataset ends (now - before) }
+{}

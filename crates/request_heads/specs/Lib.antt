@@ -1,0 +1,5 @@
+pub mod Asks
+pub mod Heads
+pub mod Answers
+pub mod Fields
+pub mod Words

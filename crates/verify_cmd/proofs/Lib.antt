@@ -1,0 +1,4 @@
+pub mod FindSteps
+pub mod JudgeSteps
+pub mod PartSteps
+pub mod ServeSteps

@@ -1,0 +1,3 @@
+pub mod Counting
+pub mod Judges
+pub mod Verifying

@@ -1,0 +1,99 @@
+-- What judging a part says.
+use Rattle.std.specs.Prelude.{◌≡◌, ℕ, ◌^◌, ◌<◌, Bool, true, false, length, map, filter, Option, Some, None, Result, Ok, Err}
+use Rattle.std.specs.FinMap as fin
+use Rattle.std.specs.Option.{option_map}
+use Rattle.vol_base.specs.Outside.{Objects}
+use Rattle.vol_base.specs.declared.boxes.Box3.{Box3}
+use Rattle.vol_base.specs.declared.faults.Fault.{Fault}
+use Rattle.vol_spec.specs.BoxValues.{first_some}
+use Rattle.vol_spec.specs.Chunks.{chunk_in}
+use Rattle.vol_spec.specs.Grid.{cells_in, Inside}
+use Rattle.vol_spec.specs.Places.{id_of}
+use Rattle.vol_spec.specs.StoredBytes.{object_of}
+use Rattle.vol_spec.specs.Types.{Bytes, Cell, Name}
+use Rattle.vol_spec.specs.Verdicts.{Sound, Wrong, index_wrong, judge}
+use Rattle.vol_spec.specs.Verdicts.Wrong.{Damaged as DamagedBy, Misplaced as MisplacedAt}
+use Rattle.vol_spec.specs.declared.scale.Scale.{Scale}
+use Rattle.shard_reader.specs.declared.bytes.LookupFault.{LookupFault}
+use Rattle.shard_reader.specs.declared.bytes.LookupFault.TheVariants.{NotRead as Unread, Faulty}
+use Rattle.index_judge.specs.Judging.{Says}
+use Rattle.index_judge.specs.declared.fault.JudgeFault.{JudgeFault}
+use Rattle.index_judge.specs.declared.fault.JudgeFault.TheVariants as judging
+use Rattle.verify_cmd.specs.declared.fault.VerifyFault.{VerifyFault}
+use Rattle.verify_cmd.specs.declared.fault.VerifyFault.TheVariants.{OutsideScale, TooManyCells, StoreFault, Damaged, Misplaced, OutOfMemory}
+use Rattle.verify_cmd.specs.declared.report.Report.{Report}
+
+-- whether a chunk is stored, or absent
+abbrev pub is_stored : Result (Option Bytes) Fault → Bool
+is_stored (Ok (Some bytes)) = true
+is_stored (Ok None) = false
+is_stored (Err fault) = false
+
+abbrev pub is_absent : Result (Option Bytes) Fault → Bool
+is_absent (Ok (Some bytes)) = false
+is_absent (Ok None) = true
+is_absent (Err fault) = false
+
+-- what reading and judging a chunk answers: whether it is stored, or its fault
+abbrev pub Finds : Result Bool LookupFault → Result (Option Bytes) Fault → Type 0
+Finds (Ok true) seen = (bytes : Bytes) × (seen ≡ Ok (Some bytes))
+Finds (Ok false) seen = seen ≡ Ok None
+Finds (Err (Faulty fault)) seen = seen ≡ Err fault
+Finds (Err Unread) seen = Unit {0}
+
+abbrev pub judged_as : LookupFault → JudgeFault
+judged_as Unread = judging.NotRead
+judged_as (Faulty fault) = judging.Damaged fault
+
+-- what is wrong with the index that has the chunk of a cell
+abbrev pub index_of_cell : Objects → Name → Scale → Cell → Option Wrong
+index_of_cell m dataset s cell = index_wrong s.sharding (id_of s cell) (fin.get m (object_of dataset s cell))
+
+-- what judging a cell answers: nothing is wrong, and whether its chunk is stored; or the first that is wrong
+abbrev pub JudgesCell : Result Bool JudgeFault → Objects → Name → Scale → Cell → Type 0
+JudgesCell (Ok stored) m dataset s cell = (judge m dataset s cell ≡ None) × Finds (Ok stored) (chunk_in m dataset s cell)
+JudgesCell (Err fault) m dataset s cell = Says {A = Bool} (judge m dataset s cell) (Err fault)
+
+-- a cell with which something is wrong, with what it is
+abbrev pub flawed : Objects → Name → Scale → Cell → Option (Cell × Wrong)
+flawed m dataset s cell = option_map (λ wrong. (cell, wrong)) (judge m dataset s cell)
+
+-- the first of the cells that meet a box
+abbrev pub first_wrong : Objects → Name → Scale → Box3 → Option (Cell × Wrong)
+first_wrong m dataset s b = first_some (map (flawed m dataset s) (cells_in s b))
+
+-- how many chunks are stored, and absent, of the cells that meet a box
+abbrev pub stored_in : Objects → Name → Scale → Box3 → ℕ
+stored_in m dataset s b = length (filter (λ cell. is_stored (chunk_in m dataset s cell)) (cells_in s b))
+
+abbrev pub absent_in : Objects → Name → Scale → Box3 → ℕ
+absent_in m dataset s b = length (filter (λ cell. is_absent (chunk_in m dataset s cell)) (cells_in s b))
+
+-- a report of a part that is sound
+pub record IsReport (m : Objects) (dataset : Name) (s : Scale) (b : Box3) (report : Report) : Type 0 where
+  pub sound : Sound m dataset s b
+  pub cells : report.cells ≡ length (cells_in s b)
+  pub stored : report.stored ≡ stored_in m dataset s b
+  pub absent : report.absent ≡ absent_in m dataset s b
+
+-- what is told of a part, by what is wrong with a cell
+abbrev pub found_at : Cell → JudgeFault → VerifyFault
+found_at cell judging.NotRead = StoreFault
+found_at cell (judging.Damaged fault) = Damaged cell fault
+found_at cell (judging.Misplaced shard m id) = Misplaced shard m id
+
+-- what judging a part answers: its numbers, where it is sound; or else the first cell with which something is wrong, with that
+abbrev pub Verifies : Result Report VerifyFault → Objects → Name → Scale → Box3 → Type 0
+Verifies (Ok report) m dataset s b = IsReport m dataset s b report
+Verifies (Err (Damaged cell fault)) m dataset s b = first_wrong m dataset s b ≡ Some (cell, DamagedBy fault)
+Verifies (Err (Misplaced shard minishard id)) m dataset s b = (cell : Cell) × (first_wrong m dataset s b ≡ Some (cell, MisplacedAt shard minishard id))
+Verifies (Err StoreFault) m dataset s b = Unit {0}
+Verifies (Err OutOfMemory) m dataset s b = Unit {0}
+Verifies (Err OutsideScale) m dataset s b = Unit {0}
+Verifies (Err (TooManyCells n)) m dataset s b = Unit {0}
+
+-- a part inside a scale that more than 2^22 cells meet: n of them
+pub record IsTooMany (s : Scale) (b : Box3) (n : ℕ) : Type 0 where
+  pub inside : Inside s b
+  pub many : 2 ^ 22 < length (cells_in s b)
+  pub number : n ≡ length (cells_in s b)

@@ -1,0 +1,33 @@
+//! What is told of a part that is sound.
+ghost use Rattle.std.specs.Prelude.{◌≡◌, ◌+◌, ◌<◌, ◌^◌};
+ghost use Rattle.verify_cmd.specs.Counting.{counted};
+
+/// How many cells meet a part, and of how many the chunk is stored, and absent.
+#[derive(Clone, Copy, Debug, PartialEq, Eq)]
+pub struct Report {
+    pub cells: u64,
+    pub stored: u64,
+    pub absent: u64,
+}
+
+/// A report with a cell more.
+pub(crate) fn count_cell(report: Report, is_stored: bool) -> Report
+    requires cells { report.cells < 2 ^ 63 }
+    requires stored { report.stored < 2 ^ 63 }
+    requires absent { report.absent < 2 ^ 63 }
+    ensures { result ≡ counted report is_stored }
+{
+    let cells = report.cells + 1;
+    if is_stored {
+        return Report {
+            cells,
+            stored: report.stored + 1,
+            absent: report.absent,
+        };
+    }
+    Report {
+        cells,
+        stored: report.stored,
+        absent: report.absent + 1,
+    }
+}

@@ -1,0 +1,78 @@
+-- What `serve` answers, and what stands after it.
+use Rattle.std.specs.Prelude.{◌≡◌, ◌⊎◌, ℕ, ◌+◌, ◌<◌, ◌≤◌, ◌++◌, length, Option, Some, None, Result, Ok as Done, Err, ⊤, IfSome, IsSomeAnd}
+use Rattle.vol_base.specs.Outside.{Objects}
+use Rattle.range_server.specs.Serving.{EndsCutShort, EndsServed}
+use Rattle.vol_shell.specs.Effects.{Gains, GainsFront}
+use Rattle.vol_shell.specs.Lines.{listening_line}
+use Rattle.vol_spec.specs.Types.{Bytes, Name}
+use Rattle.vol_tool.specs.Seen.{Doorway, Ends, Outlets, Tells}
+use Rattle.vol_tool.specs.Statuses.{fixed_line}
+use Rattle.vol_tool.specs.declared.refusal.ServeRefusal.{ServeRefusal}
+use Rattle.vol_tool.specs.declared.refusal.ServeRefusal.TheVariants as refused
+use Rattle.vol_tool.specs.declared.status.Status.{Status}
+use Rattle.vol_tool.specs.declared.status.Status.TheVariants.{Ok, OutFault, NoMemory, DoorFault}
+
+abbrev pub serve_status : ServeRefusal → Status
+serve_status refused.OutFault = OutFault
+serve_status refused.NoMemory = NoMemory
+serve_status refused.DoorFault = DoorFault
+
+-- the status that serving ends with
+abbrev pub status_of : Result ⊤ ServeRefusal → Status
+status_of (Done done) = Ok
+status_of (Err refusal) = serve_status refusal
+
+-- the output gained the line with the port that the door is bound to
+abbrev pub TellsPort : Option ℕ → Option Bytes → Option Bytes → Type 0
+TellsPort bound old new = IsSomeAnd bound (λ port. Gains old new (listening_line port))
+
+-- the same, or a front of it
+abbrev pub TellsPortFront : Option ℕ → Option Bytes → Option Bytes → Type 0
+TellsPortFront bound old new = IsSomeAnd bound (λ port. GainsFront old new (listening_line port))
+
+-- what opening a door answers: the port is told before any end is given
+abbrev pub Announces : Result ⊤ ServeRefusal → Option ℕ → Option Bytes → Option Bytes → Type 0
+Announces (Done done) bound old new = TellsPort bound old new
+Announces (Err refused.OutFault) bound old new = TellsPortFront bound old new
+Announces (Err refused.NoMemory) bound old new = new ≡ old
+Announces (Err refused.DoorFault) bound old new = (bound ≡ None) × (new ≡ old)
+
+-- what the output gained, by the status: nothing where the door can't be bound
+abbrev pub PortTold : Status → Option ℕ → Option Bytes → Option Bytes → Type 0
+PortTold Ok bound old new = TellsPort bound old new
+PortTold OutFault bound old new = TellsPortFront bound old new
+PortTold NoMemory bound old new = (new ≡ old) ⊎ TellsPort bound old new
+PortTold DoorFault bound old new = ((bound ≡ None) × (new ≡ old)) ⊎ TellsPort bound old new
+PortTold other bound old new = ⊥
+
+-- how many ends the door gave: all that were asked for at success, fewer where it failed, none where the output did
+abbrev pub GivesEnds : Status → ℕ → ℕ → Type 0
+GivesEnds Ok wanted given = given ≡ wanted
+GivesEnds OutFault wanted given = given ≡ 0
+GivesEnds NoMemory wanted given = given ≤ wanted
+GivesEnds DoorFault wanted given = given < wanted
+GivesEnds other wanted given = ⊥
+
+abbrev pub AcceptsEnds : Status → ℕ → Doorway → Doorway → Type 0
+AcceptsEnds status wanted before after = (given : ℕ) × (after.accepted ≡ before.accepted + given) × GivesEnds status wanted given
+
+-- how ends were served, while the store's count of faults went from one number to another: to the end, or until the link or the store
+-- failed; where memory ran out, perhaps amid the last of them
+abbrev pub AreServed : Status → Objects → Name → ℕ → ℕ → Ends → Type 0
+AreServed NoMemory m dataset from to ends = EndsServed m dataset from to ends ⊎ EndsCutShort m dataset from to ends
+AreServed other m dataset from to ends = EndsServed m dataset from to ends
+
+-- the door noted as many ends as it gave, served so
+abbrev pub ServeShows : Status → Objects → Name → Doorway → Doorway → ℕ → ℕ → Type 0
+ServeShows status m dataset before after from to =
+    IfSome before.served (λ list. (ends : Ends) × (after.served ≡ Some (list ++ ends)) × (after.accepted ≡ before.accepted + length ends)
+    × AreServed status m dataset from to ends)
+
+-- the error output gained the line that a status always has, and nothing where it has none
+abbrev pub SaysFixed : Option Bytes → Outlets → Type 0
+SaysFixed None o = o.err_new ≡ o.err_old
+SaysFixed (Some line) o = Tells o line
+
+-- what `serve` leaves, also where nothing is told
+abbrev pub ServeLeaves : Status → Option ℕ → Outlets → Type 0
+ServeLeaves status bound o = PortTold status bound o.out_old o.out_new × SaysFixed (fixed_line status) o

@@ -1,0 +1,74 @@
+//! The command `serve`.
+ghost use Rattle.std.specs.Prelude.{◌≡◌, ◌≤◌, IfSome, None};
+ghost use Rattle.vol_base.specs.Causes.{Rose};
+ghost use Rattle.vol_base.specs.Outside.{OnlyReads};
+ghost use Rattle.vol_tool.specs.Seen.{doorway};
+ghost use Rattle.vol_tool.specs.Servings.{AcceptsEnds, Announces, PortTold, ServeShows, status_of};
+
+use crate::refusal::ServeRefusal;
+use range_server::{DoorRefusal, serve_ends};
+use std::alloc::Global;
+use vol_base::{Door, Name, Outlet, Store};
+use vol_shell::{write_all, write_listening_line};
+
+// Binds a port of the door, or a free one for 0, and prints it.
+fn announce<O: Outlet, D: Door>(
+    alloc: Global,
+    out: &mut O,
+    door: &mut D,
+    port: u16,
+) -> Result<(), ServeRefusal>
+    requires { D.bound door.old ≡ None }
+    ensures told { Announces result (D.bound door.new) (O.written out.old) (O.written out.new) }
+    ensures served { D.served door.new ≡ D.served door.old }
+    ensures accepted { D.accepted door.new ≡ D.accepted door.old }
+    ensures out_later { O.faults out.old ≤ O.faults out.new }
+    ensures door_later { D.faults door.old ≤ D.faults door.new }
+    ensures out_fault { result ≡ Err ServeRefusal.OutFault → Rose (O.faults out.old) (O.faults out.new) }
+    ensures door_fault { result ≡ Err ServeRefusal.DoorFault → Rose (D.faults door.old) (D.faults door.new) }
+{
+    let Ok(port) = door.listen(port) else {
+        return Err(ServeRefusal::DoorFault);
+    };
+    let Ok(line) = write_listening_line(alloc, port) else {
+        return Err(ServeRefusal::NoMemory);
+    };
+    match write_all(out, line.as_bytes()) {
+        Ok(()) => Ok(()),
+        Err(_) => Err(ServeRefusal::OutFault),
+    }
+}
+
+/// Serves the objects of a data set to so many peers, one after the other, at a port of the door, which it tells
+/// first.
+pub(crate) fn serve<S: Store, O: Outlet, D: Door>(
+    alloc: Global,
+    store: &mut S,
+    out: &mut O,
+    door: &mut D,
+    dataset: &Name,
+    port: u16,
+    connections: u32,
+) -> Result<(), ServeRefusal>
+    requires unbound { D.bound door.old ≡ None }
+    requires some { 1 ≤ connections }
+    ensures shows { IfSome (S.objects store.old) (λ m. ServeShows (status_of result) m dataset.now (doorway D.bound D.accepted D.served door.old)
+        (doorway D.bound D.accepted D.served door.new) (S.faults store.old) (S.faults store.new)) }
+    ensures told { PortTold (status_of result) (D.bound door.new) (O.written out.old) (O.written out.new) }
+    ensures given { AcceptsEnds (status_of result) connections (doorway D.bound D.accepted D.served door.old) (doorway D.bound D.accepted D.served door.new) }
+    ensures kept { OnlyReads (S.objects store.old) (S.objects store.new) (S.draft store.old) (S.draft store.new) }
+    ensures store_later { S.faults store.old ≤ S.faults store.new }
+    ensures out_later { O.faults out.old ≤ O.faults out.new }
+    ensures door_later { D.faults door.old ≤ D.faults door.new }
+    ensures out_fault { result ≡ Err ServeRefusal.OutFault → Rose (O.faults out.old) (O.faults out.new) }
+    ensures door_fault { result ≡ Err ServeRefusal.DoorFault → Rose (D.faults door.old) (D.faults door.new) }
+{
+    if let Err(refusal) = announce(alloc, out, door, port) {
+        return Err(refusal);
+    }
+    match serve_ends(alloc, door, store, dataset, u64::from(connections)) {
+        Ok(()) => Ok(()),
+        Err(DoorRefusal::DoorFault) => Err(ServeRefusal::DoorFault),
+        Err(DoorRefusal::OutOfMemory) => Err(ServeRefusal::NoMemory),
+    }
+}

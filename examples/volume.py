@@ -1,0 +1,312 @@
+#!/usr/bin/env python3
+"""Stores arrays as scales of volumes with vol_tool, and reads boxes of them back as arrays.
+
+    volume.py put ARRAY.npy DATASET KEY [--axes AXES] [--offset X,Y,Z] [--resolution X,Y,Z] [--chunk X,Y,Z]
+              [--encoding raw|compressed_segmentation] [--block X,Y,Z] [--sharding PRESHIFT,HASH,MINISHARD_BITS,SHARD_BITS]
+              [--workers N]
+    volume.py get DATASET KEY BOX OUT.npy [--axes AXES]
+
+`put` writes a whole array into the scale KEY, whose folder has to be empty. It makes DATASET/info where there is none, and
+adds the scale to one that has no such scale. `get` reads a box, as [x0:x1,y0:y1,z0:z1] or `all`. Arrays are of uint8, uint16,
+uint32 or uint64 and have the axes z, y, x, or channel, z, y, x (AXES is czyx); with `--axes xyzc` they have x, y, z, or x, y,
+z, channel, as CloudVolume's. HASH is identity or murmur. Numbers that begin with `-` want a `=`: --offset=-3,0,0. The program
+is the one beside this script, or the one that the variable VOL_TOOL names. Nothing but Python's standard library is wanted, and an array is
+never whole in memory. The status is vol_tool's, or 1 where this script refuses.
+"""
+import argparse
+import array
+import ast
+import contextlib
+import json
+import math
+import mmap
+import os
+import pathlib
+import re
+import struct
+import subprocess
+import sys
+
+PROGRAM = os.environ.get("VOL_TOOL") or pathlib.Path(__file__).resolve().parent.parent / "bin" / "vol_tool"
+MAGIC = b"\x93NUMPY"
+WIDTHS = {"u1": 1, "u2": 2, "u4": 4, "u8": 8}
+CODES = {1: "B", 2: "H", 4: "I", 8: "Q"}
+
+# How many bytes are handed on at once.
+PIECE = 1 << 20
+
+# Limits of the program.
+MOST_BYTES = 1 << 30
+MOST_CHANNELS = 1024
+MOST_CHUNK_BYTES = 1 << 27
+MOST_PADDED = 1 << 22
+
+
+class Refused(Exception):
+    """Why the script refuses, in a line."""
+
+
+class Array:
+    """An array in a file, as numpy.save writes it; `strides` has how many values lie between neighbours on x, y, z and
+    between channels."""
+
+    def __init__(self, path, axes):
+        with open(path, "rb") as file:
+            header, begin = read_header(file, path)
+            descr, shape = header["descr"], header["shape"]
+            if not isinstance(descr, str) or descr[1:] not in WIDTHS or descr[0] not in "<>|":
+                raise Refused(f"{path} has values of the type {descr}, and only uint8, uint16, uint32 and uint64 are stored")
+            if len(shape) not in (3, 4) or 0 in shape:
+                raise Refused(f"{path} has the shape {shape}, and 3 or 4 axes are wanted, none of them empty")
+            self.values = mmap.mmap(file.fileno(), 0, access=mmap.ACCESS_READ)
+        self.begin = begin
+        self.width = WIDTHS[descr[1:]]
+        self.is_swapped = self.width > 1 and descr[0] == (">" if sys.byteorder == "little" else "<")
+        names = axes if len(shape) == 4 else axes.replace("c", "")
+        lengths = dict(zip(names, shape))
+        self.size = [lengths[axis] for axis in "xyz"]
+        self.channels = lengths.get("c", 1)
+        slowest_first = zip(names, shape) if not header["fortran_order"] else reversed(list(zip(names, shape)))
+        strides, stride = {"c": 0}, 1
+        for axis, length in reversed(list(slowest_first)):
+            strides[axis] = stride
+            stride *= length
+        self.strides = [strides[axis] for axis in "xyzc"]
+        if len(self.values) - begin < stride * self.width:
+            raise Refused(f"{path} is shorter than its header says")
+
+    def bytes(self):
+        return math.prod(self.size) * self.channels * self.width
+
+    def pieces(self):
+        """The bytes of the values: x fastest, then y, z and the channel, the lowest byte first."""
+        x, y, z = self.size
+        in_order = self.strides[:3] == [1, x, x * y] and self.strides[3] in (0, x * y * z)
+        if in_order and not self.is_swapped:
+            end = self.begin + self.bytes()
+            for at in range(self.begin, end, PIECE):
+                yield self.values[at : min(at + PIECE, end)]
+            return
+        code = CODES[self.width]
+        values = memoryview(self.values)[self.begin : self.begin + self.bytes()].cast("B").cast(code)
+        step, *others = self.strides
+        for channel in range(self.channels):
+            for k in range(z):
+                for j in range(y):
+                    at = j * others[0] + k * others[1] + channel * others[2]
+                    row = array.array(code, values[at : at + step * (x - 1) + 1 : step].tobytes())
+                    if self.is_swapped:
+                        row.byteswap()
+                    yield row.tobytes()
+
+
+def read_header(file, path):
+    """The header of a file in numpy's format, and where the values begin."""
+    front = file.read(8)
+    if len(front) < 8 or front[:6] != MAGIC or front[6] not in (1, 2, 3):
+        raise Refused(f"{path} isn't an array as numpy.save writes it")
+    length = struct.unpack("<H", file.read(2))[0] if front[6] == 1 else struct.unpack("<I", file.read(4))[0]
+    return ast.literal_eval(file.read(length).decode("utf-8" if front[6] == 3 else "latin-1")), file.tell()
+
+
+def write_header(file, descr, shape, in_order_of_columns):
+    """The header of a file in numpy's format; the values begin at a multiple of 64 bytes."""
+    shape = f"({', '.join(map(str, shape))})"
+    text = f"{{'descr': '{descr}', 'fortran_order': {in_order_of_columns}, 'shape': {shape}, }}"
+    text += " " * (-(len(text) + 11) % 64) + "\n"
+    file.write(MAGIC + b"\x01\x00" + struct.pack("<H", len(text)) + text.encode("latin-1"))
+
+
+def run_tool(words, **streams):
+    return subprocess.Popen([PROGRAM, *words], **streams)
+
+
+def numbers(count, least, most):
+    """Reads so many numbers between commas."""
+
+    def read(text):
+        found = [int(word) for word in text.split(",")]
+        if len(found) != count or not all(least <= number <= most for number in found):
+            raise ValueError
+        return found
+
+    read.__name__ = f"{count} numbers from {least} to {most}"
+    return read
+
+
+def sharding_of(text):
+    """The scale's member `sharding`."""
+    preshift, name, minishard_bits, shard_bits = text.split(",")
+    return {
+        "@type": "neuroglancer_uint64_sharded_v1",
+        "preshift_bits": int(preshift),
+        "hash": {"identity": "identity", "murmur": "murmurhash3_x86_128"}[name],
+        "minishard_bits": int(minishard_bits),
+        "shard_bits": int(shard_bits),
+        "minishard_index_encoding": "raw",
+        "data_encoding": "raw",
+    }
+
+
+def sharding_words(text):
+    try:
+        return sharding_of(text)
+    except (KeyError, ValueError):
+        raise argparse.ArgumentTypeError("PRESHIFT,identity|murmur,MINISHARD_BITS,SHARD_BITS are wanted") from None
+
+
+def check_limits(values, words):
+    """Refuses what vol_tool would refuse, before anything is written."""
+    segmented = words.encoding == "compressed_segmentation"
+    first = [min(chunk, size) for chunk, size in zip(words.chunk, values.size)]
+    padded = math.prod(-(-side // block) * block for side, block in zip(first, words.block)) * values.channels
+    if values.bytes() > MOST_BYTES:
+        raise Refused(f"the array has {values.bytes()} bytes, and at most {MOST_BYTES} are written at once")
+    if values.channels > MOST_CHANNELS:
+        raise Refused(f"the array has {values.channels} channels, and at most {MOST_CHANNELS} are stored")
+    if math.prod(first) * values.channels * values.width > MOST_CHUNK_BYTES:
+        raise Refused(f"a chunk has more than {MOST_CHUNK_BYTES} bytes; name smaller ones with --chunk")
+    if segmented and values.width < 4:
+        raise Refused(f"a segmentation has values of 32 or 64 bits, and the array has uint{8 * values.width}")
+    if segmented and padded > MOST_PADDED:
+        raise Refused(f"a chunk of a segmentation has more than {MOST_PADDED} voxels; name smaller ones with --chunk")
+
+
+def scale_of(values, words):
+    scale = {
+        "key": words.key,
+        "size": values.size,
+        "voxel_offset": words.offset,
+        "chunk_sizes": [words.chunk],
+        "resolution": words.resolution,
+        "encoding": words.encoding,
+    }
+    if words.encoding == "compressed_segmentation":
+        scale["compressed_segmentation_block_size"] = words.block
+    if words.sharding:
+        scale["sharding"] = words.sharding
+    return scale
+
+
+def info_with(values, words):
+    """The info of the dataset with the scale in it, and whether it is there already."""
+    path = pathlib.Path(words.dataset) / "info"
+    volume = {
+        "@type": "neuroglancer_multiscale_volume",
+        "type": "segmentation" if words.encoding == "compressed_segmentation" and values.channels == 1 else "image",
+        "data_type": f"uint{8 * values.width}",
+        "num_channels": values.channels,
+        "scales": [],
+    }
+    with contextlib.suppress(FileNotFoundError):
+        volume = json.loads(path.read_bytes())
+    for member, wanted in ("data_type", f"uint{8 * values.width}"), ("num_channels", values.channels):
+        if volume.get(member) != wanted:
+            raise Refused(f"{path} has the {member} {volume.get(member)}, and the array has {wanted}")
+    for scale in volume["scales"]:
+        if scale["key"] == words.key:
+            if scale["size"] != values.size:
+                raise Refused(f"the scale {words.key} of {path} has the size {scale['size']}, and the array has {values.size}")
+            return volume, scale, True
+    volume["scales"].append(scale_of(values, words))
+    return volume, volume["scales"][-1], False
+
+
+def put(words):
+    values = Array(words.array, words.axes)
+    check_limits(values, words)
+    volume, scale, is_there = info_with(values, words)
+    if not is_there:
+        path = pathlib.Path(words.dataset) / "info"
+        path.parent.mkdir(parents=True, exist_ok=True)
+        part = path.with_name("info.part")
+        part.write_text(json.dumps(volume, indent=1) + "\n")
+        part.replace(path)
+    begin = scale.get("voxel_offset", [0, 0, 0])
+    head = b"PVW1" + struct.pack("<I3q3Q", 1, *begin, *values.size)
+    tool = run_tool(["write", words.dataset, words.key, f"--workers={words.workers}"], stdin=subprocess.PIPE)
+    with contextlib.suppress(BrokenPipeError):
+        with tool.stdin as stream:
+            stream.write(head)
+            for piece in values.pieces():
+                stream.write(piece)
+    return tool.wait()
+
+
+def box_of(words, scale):
+    if words.box == "all":
+        begin = scale.get("voxel_offset", [0, 0, 0])
+        words.box = "[" + ",".join(f"{at}:{at + side}" for at, side in zip(begin, scale["size"])) + "]"
+    axes = re.fullmatch(r"\[(-?\d+):(-?\d+),(-?\d+):(-?\d+),(-?\d+):(-?\d+)\]", words.box)
+    if not axes:
+        raise Refused(f"{words.box} is no box: [x0:x1,y0:y1,z0:z1] or `all` is wanted")
+    ends = [int(number) for number in axes.groups()]
+    return [ends[axis + 1] - ends[axis] for axis in (0, 2, 4)]
+
+
+def get(words):
+    path = pathlib.Path(words.dataset) / "info"
+    try:
+        volume = json.loads(path.read_bytes())
+    except FileNotFoundError:
+        raise Refused(f"there is no {path}") from None
+    scale = next((scale for scale in volume["scales"] if scale["key"] == words.key), None)
+    if scale is None:
+        raise Refused(f"{path} has no scale {words.key}")
+    x, y, z = box_of(words, scale)
+    channels = volume["num_channels"]
+    # Values with x fastest are an array of x, y, z in numpy's order of columns, and one of z, y, x in its order of rows.
+    by_columns = words.axes == "xyzc"
+    shape = ([x, y, z] if by_columns else [z, y, x]) if channels == 1 else ([x, y, z, channels] if by_columns else [channels, z, y, x])
+    width = int(volume["data_type"].removeprefix("uint")) // 8
+    part = words.out + ".part"
+    with open(part, "wb") as out:
+        write_header(out, f"{'|' if width == 1 else '<'}u{width}", shape, by_columns)
+        out.flush()
+        status = run_tool(["cutout", words.dataset, words.key, words.box], stdin=subprocess.DEVNULL, stdout=out).wait()
+    if status == 0:
+        os.replace(part, words.out)
+    else:
+        os.remove(part)
+    return status
+
+
+def read_words():
+    whole = argparse.ArgumentParser(description=__doc__, formatter_class=argparse.RawDescriptionHelpFormatter)
+    commands = whole.add_subparsers(required=True, metavar="put|get")
+    one = commands.add_parser("put", help="writes an array into a scale")
+    one.add_argument("array")
+    one.add_argument("dataset")
+    one.add_argument("key")
+    one.add_argument("--offset", type=numbers(3, -(1 << 40), 1 << 40), default=[0, 0, 0], help="the first voxel (0,0,0)")
+    one.add_argument("--resolution", type=numbers(3, 1, 1 << 40), default=[1, 1, 1], help="nanometres of a voxel (1,1,1)")
+    one.add_argument("--chunk", type=numbers(3, 1, 1 << 40), default=[64, 64, 64], help="voxels of a chunk (64,64,64)")
+    one.add_argument("--encoding", choices=["raw", "compressed_segmentation"], default="raw")
+    one.add_argument("--block", type=numbers(3, 1, 1 << 24), default=[8, 8, 8], help="voxels of a block (8,8,8)")
+    one.add_argument("--sharding", type=sharding_words, help="PRESHIFT,identity|murmur,MINISHARD_BITS,SHARD_BITS (no shards)")
+    one.add_argument("--workers", type=int, choices=range(1, 17), default=min(16, os.cpu_count() or 1), metavar="N")
+    one.set_defaults(job=put)
+    two = commands.add_parser("get", help="reads a box as an array")
+    two.add_argument("dataset")
+    two.add_argument("key")
+    two.add_argument("box")
+    two.add_argument("out")
+    two.set_defaults(job=get)
+    for command in (one, two):
+        command.add_argument("--axes", choices=["czyx", "zyx", "xyzc", "xyz"], default="czyx")
+    words = whole.parse_args()
+    words.axes = {"zyx": "czyx", "xyz": "xyzc"}.get(words.axes, words.axes)
+    return words
+
+
+def main():
+    words = read_words()
+    try:
+        return words.job(words)
+    except (Refused, OSError, json.JSONDecodeError) as why:
+        print(f"volume.py: {why}", file=sys.stderr)
+        return 1
+
+
+if __name__ == "__main__":
+    sys.exit(main())
