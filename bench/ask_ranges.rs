@@ -1,6 +1,6 @@
 //! Asks a server on this machine for ranges of 64 KiB of an object, one after the other over one connection: first for each
-//! range once, and compares what comes with the file; then for some seconds, and prints how many requests were answered a
-//! second.
+//! range once, and compares what comes with the file; then for some seconds, or until the connection has had as many
+//! requests as it may, and prints how many requests were answered a second.
 //!
 //!     ask_ranges PORT TARGET FILE SECONDS
 //!
@@ -12,6 +12,9 @@ use std::process::ExitCode;
 use std::time::{Duration, Instant};
 
 const RANGE: usize = 65536;
+
+/// A server closes a connection behind so many requests.
+const MOST_REQUESTS: usize = 65536;
 
 /// A connection, and a reply with its head.
 struct Peer {
@@ -73,7 +76,8 @@ fn run(port: u16, target: &str, file: &str, seconds: u64) -> io::Result<f64> {
     }
     let begin = Instant::now();
     let mut count = 0u32;
-    for from in places().cycle() {
+    let left = MOST_REQUESTS.saturating_sub(places().count());
+    for from in places().cycle().take(left) {
         peer.ask(target, from)?;
         count += 1;
         if begin.elapsed() >= Duration::from_secs(seconds) {

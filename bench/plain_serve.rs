@@ -3,12 +3,13 @@
 //!
 //!     plain_serve serve DATASET --port=P --connections=N
 //!
-//! Port 0 is any free one. It prints `listening PORT`. The file that was read last stays open.
+//! Port 0 is any free one. It prints `listening PORT`. The file that was read last stays open, as long as it stands there
+//! and is as long as it was.
 
-use std::fs::File;
+use std::fs::{self, File, Metadata};
 use std::io::{self, ErrorKind, Read, Write};
 use std::net::{Ipv4Addr, TcpListener, TcpStream};
-use std::os::unix::fs::FileExt;
+use std::os::unix::fs::{FileExt, MetadataExt};
 use std::process::ExitCode;
 use std::time::{Duration, Instant};
 
@@ -16,11 +17,22 @@ const MOST_HEAD: usize = 8192;
 const PIECE: usize = 65536;
 const MOST_REQUESTS: u32 = 65536;
 
-/// An object's file and its length.
+/// An object's file, its length, and its device and inode.
 struct Object {
     path: String,
     file: File,
     len: u64,
+    place: (u64, u64),
+}
+
+impl Object {
+    fn is(&self, path: &str, found: &Metadata) -> bool {
+        self.path == path && self.len == found.len() && self.place == place(found)
+    }
+}
+
+fn place(found: &Metadata) -> (u64, u64) {
+    (found.dev(), found.ino())
 }
 
 /// The objects below a folder.
@@ -32,28 +44,41 @@ struct Store {
 impl Store {
     fn find(&mut self, name: &str) -> io::Result<Option<&Object>> {
         let path = format!("{}/{name}", self.dataset);
-        if self
-            .opened
-            .as_ref()
-            .is_none_or(|object| object.path != path)
-        {
-            self.opened = open(path)?;
+        let Some(found) = find_file(&path)? else {
+            self.opened = None;
+            return Ok(None);
+        };
+        let is_open = |object: &Object| object.is(&path, &found);
+        if !self.opened.as_ref().is_some_and(is_open) {
+            self.opened = Some(open(path)?);
         }
         Ok(self.opened.as_ref())
     }
 }
 
-fn open(path: String) -> io::Result<Option<Object>> {
-    let file = match File::open(&path) {
-        Ok(file) => file,
+/// What stands at a path, where it is a file. A folder is none; what is neither is an error, and isn't opened, since that
+/// would wait at a pipe.
+fn find_file(path: &str) -> io::Result<Option<Metadata>> {
+    match fs::metadata(path) {
+        Ok(found) if found.is_file() => Ok(Some(found)),
+        Ok(found) if found.is_dir() => Ok(None),
+        Ok(_) => Err(ErrorKind::InvalidInput.into()),
         Err(error) if matches!(error.kind(), ErrorKind::NotFound | ErrorKind::NotADirectory) => {
-            return Ok(None);
+            Ok(None)
         }
-        Err(error) => return Err(error),
-    };
+        Err(error) => Err(error),
+    }
+}
+
+fn open(path: String) -> io::Result<Object> {
+    let file = File::open(&path)?;
     let found = file.metadata()?;
-    let len = found.len();
-    Ok(found.is_file().then_some(Object { path, file, len }))
+    Ok(Object {
+        path,
+        file,
+        len: found.len(),
+        place: place(&found),
+    })
 }
 
 /// The head of a request.
@@ -118,11 +143,12 @@ impl<'a> Request<'a> {
         range.filter(|_| ranges.next().is_none())
     }
 
-    fn name(&self) -> Option<&'a str> {
-        let name = self
-            .target
-            .strip_prefix('/')
-            .filter(|name| name.len() <= 512)?;
+    /// The name of an object of the data set.
+    fn name(&self, dataset: &str) -> Option<&'a str> {
+        let name = self.target.strip_prefix('/')?;
+        if dataset.len() + 1 + name.len() > 512 || name.ends_with(".part") {
+            return None;
+        }
         let is_segment = |segment: &str| {
             !matches!(segment, "" | "." | "..")
                 && segment
@@ -303,7 +329,7 @@ fn answer(
         };
         return refused(stream, reply, piece);
     }
-    let found = match request.name() {
+    let found = match request.name(&store.dataset) {
         Some(name) => store.find(name),
         None => Ok(None),
     };
@@ -322,12 +348,15 @@ fn answer(
     }
 }
 
-/// The length of the head at the front, with its empty line.
+/// The length of the head at the front, with the empty lines before it and the one that ends it.
 fn head_len(received: &[u8]) -> Option<usize> {
-    received
-        .windows(4)
-        .position(|end| end == b"\r\n\r\n")
-        .map(|at| at + 4)
+    let begin = received.iter().position(|b| !b"\r\n".contains(b))?;
+    let head = &received[begin..];
+    let by = |end: &[u8]| {
+        let at = head.windows(end.len()).position(|bytes| bytes == end);
+        at.map(|at| begin + at + end.len())
+    };
+    by(b"\n\r\n").into_iter().chain(by(b"\n\n")).min()
 }
 
 fn serve(stream: &mut TcpStream, store: &mut Store) -> io::Result<()> {

@@ -6,11 +6,14 @@
 //!     plain_sharded LAYOUT info DATASET                 writes its info alone
 //!     plain_sharded LAYOUT cutout DATASET KEY BOX       writes the values of the box to standard output
 //!     plain_sharded LAYOUT write DATASET KEY [WORKERS]  reads a stream from standard input and writes its shards
+//!     plain_sharded LAYOUT copy DATASET KEY DATASET2 KEY2 X Y Z
+//!                                                       copies the scale into files of raw chunks of X x Y x Z voxels
 //!
 //! For a cutout the shard and the index that were read last are kept. Each chunk is one pread, and is copied by rows. A
 //! write reads the whole stream first. Each chunk is made in memory and appended to the shard's file, which ends in .part and
 //! is renamed; the entries are written last. With several workers each window of 256 chunks is made by as many threads, which
-//! take one chunk after the other, and then appended in order.
+//! take one chunk after the other, and then appended in order. A copy cuts one chunk after the other out, and writes each to
+//! a file that ends in .part and is renamed.
 
 #[allow(dead_code)]
 mod layout;
@@ -151,29 +154,81 @@ impl Reader {
     }
 }
 
-fn cut(layout: &Layout, folder: &Path, part: &Spans) -> io::Result<Vec<u8>> {
-    let segments = Segments::of(layout);
-    let mut out = vec![0; layout.bytes_of(part)];
-    let len = layout.bytes_of(&layout.cell_box([0, 0, 0]));
-    let (mut chunk, mut values) = (Vec::new(), vec![0; if segments.is_some() { len } else { 0 }]);
-    let shard_bits = shard_bits(layout);
-    let mut reader = Reader { folder: folder.to_path_buf(), shard_bits, shard: None, index: None };
-    let count = layout.size / layout.chunk;
-    for cell in layout.cells(part) {
-        if !reader.read(code(count, cell), &mut chunk)? {
-            continue;
-        }
-        let from = match &segments {
-            Some(segments) => {
-                segments.decode(&chunk, &mut values)?;
-                &values
-            }
-            None if chunk.len() == len => &chunk,
-            None => return Err(io::ErrorKind::InvalidData.into()),
-        };
-        layout.copy_rows(&layout.cell_box(cell), from, part, &mut out);
+/// Cuts one box after the other out of a scale.
+struct Cutter<'a> {
+    layout: &'a Layout,
+    segments: Option<Segments>,
+    reader: Reader,
+    chunk: Vec<u8>,
+    values: Vec<u8>,
+}
+
+impl<'a> Cutter<'a> {
+    fn new(layout: &'a Layout, folder: &Path) -> Cutter<'a> {
+        let segments = Segments::of(layout);
+        let len = layout.bytes_of(&layout.cell_box([0, 0, 0]));
+        let values = vec![0; if segments.is_some() { len } else { 0 }];
+        let shard_bits = shard_bits(layout);
+        let reader = Reader { folder: folder.to_path_buf(), shard_bits, shard: None, index: None };
+        Cutter { layout, segments, reader, chunk: Vec::new(), values }
     }
+
+    /// Puts the values of a box over zeros. False where no chunk of it is stored.
+    fn cut(&mut self, part: &Spans, out: &mut [u8]) -> io::Result<bool> {
+        let count = self.layout.size / self.layout.chunk;
+        let mut any = false;
+        for cell in self.layout.cells(part) {
+            if !self.reader.read(code(count, cell), &mut self.chunk)? {
+                continue;
+            }
+            any = true;
+            let cell_box = self.layout.cell_box(cell);
+            let from = match &self.segments {
+                Some(segments) => {
+                    segments.decode(&self.chunk, &mut self.values)?;
+                    &self.values
+                }
+                None if self.chunk.len() == self.layout.bytes_of(&cell_box) => &self.chunk,
+                None => return Err(io::ErrorKind::InvalidData.into()),
+            };
+            self.layout.copy_rows(&cell_box, from, part, out);
+        }
+        Ok(any)
+    }
+}
+
+fn cut(layout: &Layout, folder: &Path, part: &Spans) -> io::Result<Vec<u8>> {
+    let mut out = vec![0; layout.bytes_of(part)];
+    Cutter::new(layout, folder).cut(part, &mut out)?;
     Ok(out)
+}
+
+/// The boxes of chunks whose sizes divide that of the volume, x fastest.
+fn copy_spans(layout: &Layout, [x, y, z]: [usize; 3]) -> Vec<Spans> {
+    let spans =
+        |step: usize| (0..layout.size).step_by(step).map(move |begin| (begin, begin + step));
+    spans(z).flat_map(|z| spans(y).flat_map(move |y| spans(x).map(move |x| [x, y, z]))).collect()
+}
+
+/// Copies a scale into files of raw chunks of another size.
+fn copy(layout: &Layout, folder: &Path, sizes: [usize; 3], goal: &Path) -> io::Result<()> {
+    fs::create_dir_all(goal)?;
+    let mut cutter = Cutter::new(layout, folder);
+    let mut values = Vec::new();
+    let mut cells = 0;
+    for part in copy_spans(layout, sizes) {
+        values.clear();
+        values.resize(layout.bytes_of(&part), 0);
+        if cutter.cut(&part, &mut values)? {
+            let [x, y, z] = part.map(|(begin, end)| format!("{begin}-{end}"));
+            let part = goal.join(format!("{x}_{y}_{z}.part"));
+            fs::write(&part, &values)?;
+            fs::rename(&part, part.with_extension(""))?;
+            cells += 1;
+        }
+    }
+    println!("objects {cells} cells {cells}");
+    Ok(())
 }
 
 /// The bytes of the index of a minishard whose chunks begin at a place behind the entries, and the lengths of its chunks by
@@ -373,6 +428,11 @@ fn main() -> ExitCode {
             let part = layout.parse_box(part)?;
             let folder = Path::new(dataset).join(key);
             Some(cut(layout, &folder, &part).and_then(|values| layout::write_out(&values)))
+        }
+        ["copy", dataset, key, to_dataset, to_key, x, y, z] => {
+            let sizes = [x.parse().ok()?, y.parse().ok()?, z.parse().ok()?];
+            let goal = Path::new(to_dataset).join(to_key);
+            Some(copy(layout, &Path::new(dataset).join(key), sizes, &goal))
         }
         _ => None,
     })

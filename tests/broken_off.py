@@ -6,8 +6,8 @@
 PROGRAM is crates/vol_tool/out/vol_tool if it is left out. It takes about a minute, so it is run by hand and isn't a
 part of the gate. A write is killed at a random moment, 50 times; cutouts run while another process writes; and a write
 meets a full disk, a small tmpfs, which is passed over with a word where none can be mounted. All of it is done with a scale
-that isn't sharded, and with one in eight shards. The last line is 'N passed, N failed', and the status is 1 where a case
-failed.
+that isn't sharded, with one in eight shards, and with a list that is made from a number. The last line is
+'N passed, N failed', and the status is 1 where a case failed.
 """
 import contextlib
 import itertools
@@ -19,8 +19,10 @@ import tempfile
 import time
 import typing
 
+from generate import fill, generated
 from program import LIMIT, OK, STORE, compare, info_of, run, stream_of, tell_all
 from shards import Sharding, code_of, files_of
+from writes import Scale
 
 # The voxels of the scale and of a chunk on each axis. A voxel is a byte.
 SIZE = 256
@@ -32,7 +34,12 @@ WRITES_WATCHED = 5
 # Too few bytes for the scale's objects.
 DISK_BYTES = 4 << 20
 
+# The list that is made: its number, and how many writes it has.
+NUMBER = 5
+WRITES = 200
+
 WORDS_WRITE = ["write", "d", "s"]
+WORDS_GENERATE = ["generate", "d", "s", str(NUMBER), str(WRITES)]
 WORDS_CUT = ["cutout", "d", "s", f"[0:{SIZE},0:{SIZE},0:{SIZE}]"]
 
 
@@ -40,6 +47,16 @@ def make_values():
     """The values of the scale, x fastest. None is 0, so that each of them is told from a voxel that isn't written."""
     chance = random.Random(1)
     return chance.randbytes(SIZE**3).replace(b"\0", b"\1")
+
+
+def make_list():
+    """The values of the scale after the list, and the cells that it meets."""
+    values = bytearray(SIZE**3)
+    met = set()
+    for box, of_box in generated(Scale([SIZE] * 3, [CHUNK] * 3), NUMBER, WRITES):
+        fill(values, box, of_box)
+        met.update(itertools.product(*(range(begin // CHUNK, (end - 1) // CHUNK + 1) for begin, end in box)))
+    return bytes(values), met
 
 
 def rows_of(values, cell):
@@ -62,7 +79,6 @@ def id_of(cell):
 class Layout(typing.NamedTuple):
     """How a scale is stored: its info document, and the name in its folder of the object that has a cell."""
 
-    title: str
     info: bytes
     name_of: typing.Callable
 
@@ -78,13 +94,16 @@ def name_in_shards(cell):
     return SHARDS.file(SHARDS.place(id_of(cell))[0])
 
 
-PLAIN = Layout("", info_of([SIZE] * 3, [CHUNK] * 3), name_in_grid)
-SHARDED = Layout("shards, ", info_of([SIZE] * 3, [CHUNK] * 3, scale={"sharding": SHARDS.member()}), name_in_shards)
+PLAIN = Layout(info_of([SIZE] * 3, [CHUNK] * 3), name_in_grid)
+SHARDED = Layout(info_of([SIZE] * 3, [CHUNK] * 3, scale={"sharding": SHARDS.member()}), name_in_shards)
 
 
-def objects_of(layout, values):
-    """The bytes of each object, by its name in the scale's folder, in the order in which they are put."""
-    chunks = {cell: b"".join(rows_of(values, cell)) for cell in cells()}
+def objects_of(layout, values, met):
+    """
+    The bytes of each object, by its name in the scale's folder, in the order in which they are put: those of the cells that
+    are met.
+    """
+    chunks = {cell: b"".join(rows_of(values, cell)) for cell in cells() if cell in met}
     if layout is SHARDED:
         return files_of(SHARDS, [(id_of(cell), chunk) for cell, chunk in chunks.items()])
     return {layout.name_of(cell): chunk for cell, chunk in chunks.items()}
@@ -141,26 +160,23 @@ def judge_torn(found, values):
     return None
 
 
-def start(program, folder, stream):
-    """A write that reads the stream from a file."""
-    with stream.open("rb") as feed:
-        return subprocess.Popen(
-            [program, *WORDS_WRITE], cwd=folder, stdin=feed, stdout=subprocess.DEVNULL, stderr=subprocess.DEVNULL
-        )
-
-
 class Work(typing.NamedTuple):
-    """A write of all values of a scale: the program, the scale's layout, the values, their stream and the objects."""
+    """A write of a scale: the program and its words, the scale's layout, the values, their stream and the objects."""
 
     program: pathlib.Path
+    words: list
     layout: Layout
     values: bytes
     stream: pathlib.Path
     objects: dict
 
     def start(self, folder):
+        """A write that reads the stream from a file."""
         lay_out(folder, self.layout)
-        return start(self.program, folder, self.stream)
+        with self.stream.open("rb") as feed:
+            return subprocess.Popen(
+                [self.program, *self.words], cwd=folder, stdin=feed, stdout=subprocess.DEVNULL, stderr=subprocess.DEVNULL
+            )
 
     def judge_standing(self, folder, standing):
         """A cutout gives what stands."""
@@ -233,7 +249,7 @@ def judge_full_disk(work, folder):
     """The disk is full in the middle of a write: whole objects stand, and nothing else."""
     lay_out(folder, work.layout)
     with work.stream.open("rb") as feed:
-        found = run(work.program, folder, WORDS_WRITE, feed)
+        found = run(work.program, folder, work.words, feed)
     wrong, standing = judge_objects(folder, work.objects, parts_allowed=0)
     wrong = compare(found, (STORE, b"", b"store fault\n")) or wrong
     if wrong is None and not 0 < len(standing) < len(work.objects):
@@ -270,15 +286,21 @@ def judge_work(work):
 
 
 def judge_all(program):
-    """The cases of both layouts."""
+    """The cases of both layouts, and of a list."""
     values = make_values()
+    of_list, met = make_list()
     with tempfile.TemporaryDirectory() as name:
         stream = pathlib.Path(name) / "stream"
         stream.write_bytes(stream_of(((0, 0, 0), (SIZE,) * 3, values)))
-        for layout in (PLAIN, SHARDED):
-            work = Work(program, layout, values, stream, objects_of(layout, values))
+        works = [
+            ("", WORDS_WRITE, PLAIN, values, set(cells())),
+            ("shards, ", WORDS_WRITE, SHARDED, values, set(cells())),
+            ("a list, ", WORDS_GENERATE, PLAIN, of_list, met),
+        ]
+        for what, words, layout, due, cells_met in works:
+            work = Work(program, words, layout, due, stream, objects_of(layout, due, cells_met))
             for title, wrong in judge_work(work):
-                yield f"{layout.title}{title}", wrong
+                yield f"{what}{title}", wrong
 
 
 if __name__ == "__main__":

@@ -6,7 +6,8 @@
 PROGRAM is crates/vol_tool/out/vol_tool if it is left out. It wants a C compiler, `cc`, for the library that refuses
 (refuse_memory.c), so it is run by hand and isn't a part of the gate. Where the store is asked, an allocation for a path,
 for a folder's entries or of the system's own library may end as a store fault instead. Each refused run has a folder of
-its own; afterwards whole objects stand there, the first ones that are due, and no half of one. The last line is
+its own; afterwards whole objects stand there, the first ones that are due, and no half of one. Peers of a served run get
+whole replies, the first ones that are due, and behind them nothing, or that the store failed. The last line is
 'N passed, N failed', and the status is 1 where a case failed.
 """
 import collections
@@ -30,6 +31,8 @@ from program import (
     stream_of,
     tell_all,
 )
+from served import OBJECTS, PEERS, SERVE, WHOLE, failed_of, fronts_of, is_answered, serve_peers
+from serving import DOOR
 
 # More allocations than a run of these has.
 MOST_ALLOCATIONS = 10_000
@@ -50,6 +53,8 @@ OUTSIDE = stream_of(((0, 0, 0), (4, 1, 1), b"\1\2\3\4"))
 
 WRITE = ["write", "d", "s"]
 
+GENERATE = ["generate", "d", "s", "7", "3"]
+
 CUT = ["cutout", "d", "s", "[0:3,0:1,0:1]"]
 
 TORN = {**ROW_OBJECTS, "d/s/1-2_0-1_0-1": b"\2\2"}
@@ -60,6 +65,10 @@ RUNS = [
     ("a write with workers", ROW, {}, [*WRITE, "--workers=3"], THREE, OK),
     ("a write of nothing", ROW, {}, WRITE, stream_of(), OK),
     ("a write into shards", SHARDED, {}, WRITE, TWICE, OK),
+    ("a list", ROW, {}, GENERATE, b"", OK),
+    ("a list with workers", ROW, {}, [*GENERATE, "--workers=3"], b"", OK),
+    ("a list into shards", SHARDED, {}, GENERATE, b"", OK),
+    ("a list beside objects", ROW, ROW_OBJECTS, GENERATE, b"", REQUEST),
     ("a cutout", ROW, ROW_OBJECTS, CUT, b"", OK),
     ("a cutout of nothing", ROW, {}, CUT, b"", OK),
     ("a folder that isn't empty", ROW, {"d/s/a/b": b""}, WRITE, THREE, REQUEST),
@@ -121,25 +130,70 @@ def judge_refused(found, whole, before, endings):
     return judge_files(files, before, whole[3])
 
 
-def judge_run(program, library, case):
-    """Each allocation of a run is refused in turn."""
-    _, info, objects, _, _, status = case
-    whole, _ = run_refused(program, library, case, 0)
-    if whole[0] != status:
-        return f"status {whole[0]} wanted {status}"
-    before = {**objects, **({} if info is None else {INFO_PATH: info})}
-    endings = [(MEMORY, b"out of memory\n")] + [(STORE, b"store fault\n")] * (status != USAGE)
+def refuse_each(title, run_one, judge_one):
+    """
+    Each allocation of a run is refused in turn.
+
+    `run_one` gives what a run leaves whose allocation of a number is refused, and whether it has that many; `judge_one`
+    judges it against one with memory.
+    """
+    whole, _ = run_one(0)
     statuses = collections.Counter()
     for number in range(1, MOST_ALLOCATIONS):
-        found, refused = run_refused(program, library, case, number)
+        found, refused = run_one(number)
         if not refused:
-            print(f"{case[0]}: {number - 1} allocations; runs by their status: {dict(statuses)}")
+            print(f"{title}: {number - 1} allocations; runs by their status: {dict(statuses)}")
             return None if found == whole and number > 1 else f"no allocation was refused: {found!r:.200}"
         statuses[found[0]] += 1
-        wrong = judge_refused(found, whole, before, endings)
+        wrong = judge_one(found, whole)
         if wrong is not None:
             return f"allocation {number}: {wrong}"
     return "it has more allocations than were tried"
+
+
+def judge_run(program, library, case):
+    title, info, objects, _, _, status = case
+    before = {**objects, **({} if info is None else {INFO_PATH: info})}
+    endings = [(MEMORY, b"out of memory\n")] + [(STORE, b"store fault\n")] * (status != USAGE)
+
+    def judge_one(found, whole):
+        if whole[0] != status:
+            return f"status {whole[0]} wanted {status}"
+        return judge_refused(found, whole, before, endings)
+
+    return refuse_each(title, lambda number: run_refused(program, library, case, number), judge_one)
+
+
+def serve_refused(program, library, number):
+    """What a served run leaves whose allocation of this number is refused, and whether it has that many."""
+    with tempfile.TemporaryDirectory() as name:
+        folder = pathlib.Path(name) / "store"
+        refused = pathlib.Path(name) / "refused"
+        folder.mkdir()
+        lay_out(folder, ROW, OBJECTS)
+        variables = {"LD_PRELOAD": str(library), "REFUSE": str(number), "REFUSED": str(refused)}
+        found = serve_peers([program, *SERVE], folder, variables)
+        return (*found, files_below(folder)), refused.exists()
+
+
+def judge_served(found, whole):
+    """A served run whose allocation was refused, against one with memory."""
+    status, line, output, errors, got, files = found
+    if (status, errors) not in [(OK, b""), (MEMORY, b"out of memory\n"), (DOOR, b"door fault\n")]:
+        return f"status {status}, {errors!r}"
+    if output or line not in ([], [b"listening"]) or files != whole[-1]:
+        return f"output {line!r} {output!r}, files {sorted(files)}"
+    whole_ones = all(one in fronts_of(peer) + failed_of(peer) for one, peer in zip(got, PEERS))
+    if not whole_ones or status == OK and not is_answered(got):
+        return f"status {status}, and the peers got {got!r}"
+    return None
+
+
+def judge_serve(program, library):
+    whole, _ = serve_refused(program, library, 0)
+    if whole[4] != WHOLE:
+        return f"with memory: {whole!r}"
+    return refuse_each("a served run", lambda number: serve_refused(program, library, number), judge_served)
 
 
 def build_library(source, library):
@@ -161,6 +215,7 @@ def judge_all(program):
             return
         for case in RUNS:
             yield case[0], judge_run(program, library, case)
+        yield "a served run", judge_serve(program, library)
 
 
 if __name__ == "__main__":

@@ -171,7 +171,7 @@ NO_COMMANDS = {
     "an empty word too many": [*cut(), ""],
     "another command": ["cut", "d", "s", WHOLE],
     "a command in capitals": ["CUTOUT", "d", "s", WHOLE],
-    "a command that isn't built": ["verify", "d", "s"],
+    "a command of another store": ["update", "d", "s"],
     "--help": ["--help"],
     "an option of another command": [*cut(), "--workers=1"],
     "an option in front": ["--workers=1", *cut()],

@@ -113,8 +113,8 @@ def rows_of(minishard_bits, minishard, shard):
     return base + start, rows
 
 
-def find_row(shard, begin, rows, wanted):
-    """The start and the size of a chunk by its id, or None: rows up to the first whose id isn't below."""
+def walk_rows(shard, begin, rows):
+    """The id, the start and the size of each row of an index, up to the first that is wrong."""
     number = end = 0
     for row in range(rows):
         delta, gap, size = (number_at(shard, begin + 8 * (column * rows + row)) for column in range(3))
@@ -124,13 +124,19 @@ def find_row(shard, begin, rows, wanted):
         start, end = end + gap, end + gap + size
         if end >= 2**64:
             raise Damaged(f"index start {row}")
+        yield number, start, size
+
+
+def find_row(shard, begin, rows, wanted):
+    """The start and the size of a chunk by its id, or None: rows up to the first whose id isn't below."""
+    for number, start, size in walk_rows(shard, begin, rows):
         if number >= wanted:
             return (start, size) if number == wanted else None
     return None
 
 
-def chunk_in(minishard_bits, minishard, wanted, limit, shard):
-    """The bytes of a chunk of so many bytes, or None where it is absent."""
+def stored_in(minishard_bits, minishard, wanted, limit, shard):
+    """The bytes of a chunk of at most so many bytes, or None where it is absent."""
     found = find_row(shard, *rows_of(minishard_bits, minishard, shard), wanted)
     if found is None:
         return None
@@ -140,9 +146,15 @@ def chunk_in(minishard_bits, minishard, wanted, limit, shard):
         raise Damaged(f"chunk too long {size} limit {limit}")
     if base + start + size > len(shard):
         raise Damaged("shard short chunk")
-    if size != limit:
-        raise Damaged(f"chunk length {size} wanted {limit}")
     return shard[base + start : base + start + size]
+
+
+def chunk_in(minishard_bits, minishard, wanted, limit, shard):
+    """The bytes of a chunk of so many bytes, or None where it is absent."""
+    chunk = stored_in(minishard_bits, minishard, wanted, limit, shard)
+    if chunk is not None and len(chunk) != limit:
+        raise Damaged(f"chunk length {len(chunk)} wanted {limit}")
+    return chunk
 
 
 def cells_of(grid):

@@ -8,9 +8,11 @@ with a word where that isn't installed or isn't allowed; so it is run by hand an
 files, folders and streams that a plain run makes, the first, the second and so on fails: with an error of the device, with
 a full disk, and with a signal, which is tried again or is a fault; and the call fails from then on, as on a device that is
 lost. Each run has a folder of its own; afterwards whole objects stand there, the first ones that are due, and no half of
-one. The last line is 'N passed, N failed', and the status is 1 where a case failed.
+one. Of a served run the calls to peers fail too: each peer gets a front of the replies that are due, or that the store
+failed in place of one. The last line is 'N passed, N failed', and the status is 1 where a case failed.
 """
 import collections
+import functools
 import pathlib
 import re
 import shutil
@@ -19,8 +21,12 @@ import sys
 import tempfile
 import typing
 
+from generate import generated, line_of, sum_of
 from program import FEED, INFO_PATH, LIMIT, OK, OUTPUT, REQUEST, SHARDING, STORE, info_of, stream_of, tell_all
+from served import OBJECTS, PEERS, SERVE, WHOLE, failed_of, fronts_of, is_answered, serve_peers
+from serving import DOOR
 from shards import Sharding, files_of
+from writes import Scale, objects_of
 
 # The calls to files, folders and streams.
 TO_FILES = {
@@ -29,6 +35,12 @@ TO_FILES = {
     *("stat", "lstat", "fstat", "newfstatat", "statx", "access", "faccessat", "faccessat2", "readlink", "readlinkat"),
     *("getdents", "getdents64", "mkdir", "mkdirat", "rename", "renameat", "renameat2", "unlink", "unlinkat", "rmdir"),
     *("ftruncate", "truncate", "fallocate", "fsync", "fdatasync", "sendfile", "copy_file_range", "poll", "getcwd"),
+}
+
+# The calls to peers.
+TO_PEERS = {
+    *("socket", "bind", "listen", "getsockname", "getpeername", "accept", "accept4", "getsockopt", "setsockopt"),
+    *("recvfrom", "recvmsg", "sendto", "sendmsg", "shutdown"),
 }
 
 # The calls that have to do with memory, time and the process alone.
@@ -48,7 +60,13 @@ LOADER_LINE = b"error while loading shared libraries"
 ROW = info_of([3, 1, 1], [1, 1, 1])
 
 # The objects of the row in the order in which they are put.
-ROW_OBJECTS = {"d/s/0-1_0-1_0-1": b"\1", "d/s/1-2_0-1_0-1": b"\2", "d/s/2-3_0-1_0-1": b"\3"}
+ROW_OBJECTS = OBJECTS
+
+# A list of three writes into the row, which has all its objects.
+ROW_SCALE = Scale([3, 1, 1], [1, 1, 1])
+LIST = generated(ROW_SCALE, 7, 3)
+LIST_OBJECTS = dict(sorted(objects_of(ROW_SCALE, LIST).items()))
+LIST_LINE = line_of(3, LIST_OBJECTS, sum_of(ROW_SCALE, LIST))
 
 # The same row in two shards, of two minishards each.
 TWO_SHARDS = Sharding(0, False, 1, 1)
@@ -60,6 +78,8 @@ THREE = stream_of(((0, 0, 0), (3, 1, 1), b"\1\2\3"))
 UNFINISHED = {"d/s/a/b.part": b"", "d/s/c/d/e.part": b""}
 
 WRITE = ["write", "d", "s"]
+
+GENERATE = ["generate", "d", "s", "7", "3"]
 
 CUT = ["cutout", "d", "s", "[0:3,0:1,0:1]"]
 
@@ -90,10 +110,14 @@ RUNS = [
     Case("a write of nothing", {}, WRITE, stream_of(), OK, b"objects 0 cells 0\n", b"", {}),
     Case("a write into shards", {}, WRITE, THREE, OK, b"objects 2 cells 3\n", b"", SHARDS, IN_SHARDS),
     Case("a folder that isn't empty", ROW_OBJECTS, WRITE, THREE, REQUEST, b"", b"folder not empty\n", {}),
+    Case("a list", {}, GENERATE, b"", OK, LIST_LINE, b"", LIST_OBJECTS),
     Case("a cutout", ROW_OBJECTS, CUT, b"", OK, b"\1\2\3", b"", {}),
     Case("a cutout of shards", SHARDS, CUT, b"", OK, b"\1\2\3", b"", {}, IN_SHARDS),
     Case("a cutout of nothing", {}, CUT, b"", OK, b"\0\0\0", b"", {}),
 ]
+
+# What a served run says on standard error, by its status.
+SERVED_LINES = {OK: b"", OUTPUT: b"output fault\n", DOOR: b"door fault\n"}
 
 FAULT_LINES = {STORE: b"store fault\n", FEED: b"feed fault\n", OUTPUT: b"output fault\n"}
 
@@ -174,39 +198,96 @@ def judge_failed(found, case, call, is_lost):
     return judge_fault(found, case, call, is_lost)
 
 
-def judge_call(program, case, call, count, failure, statuses):
+def trace_served(program, options):
+    """What a served run under strace ends with, its files last; and what strace told, by lines."""
+    with tempfile.TemporaryDirectory() as name:
+        folder = pathlib.Path(name) / "store"
+        told = pathlib.Path(name) / "told"
+        folder.mkdir()
+        lay_out(folder, {**OBJECTS, INFO_PATH: ROW})
+        found = serve_peers(["strace", "-f", "-qq", "-o", told, *options, program, *SERVE], folder)
+        return (*found, files_below(folder)), told.read_text(errors="replace").splitlines()
+
+
+def judge_served(found):
+    """A served run of which no call fails."""
+    wanted = (OK, [b"listening"], b"", b"", WHOLE, {**OBJECTS, INFO_PATH: ROW})
+    return None if found == wanted else f"{found!r:.300} wanted {wanted!r:.300}"
+
+
+def is_front(one, peer):
+    """Whether a peer got a front of its replies, or of the first ones and that the store failed."""
+    return any(end.startswith(one) for end in [fronts_of(peer)[-1], *failed_of(peer)])
+
+
+def judge_failed_served(found, call, _is_lost):
+    """A served run of which a call failed. Only a call to a peer may cut its replies short."""
+    status, line, output, errors, got, files = found
+    if status == UNSTARTED and LOADER_LINE in errors:
+        return None if not line and not got else f"{line!r}, the peers got {got!r}"
+    told = SERVED_LINES.get(status)
+    if told is None or not (errors == told or call == "write" and told.startswith(errors)):
+        return f"status {status}, {errors!r}"
+    if output or line not in ([], [b"listening"]) or files != {**OBJECTS, INFO_PATH: ROW}:
+        return f"output {line!r} {output!r}, files {sorted(files)}"
+    is_due = is_answered(got) if status == OK and call not in TO_PEERS else all(map(is_front, got, PEERS))
+    return None if is_due else f"status {status}, the peers got {got!r}"
+
+
+class Traced(typing.NamedTuple):
+    """A run that is traced: its title, the calls that fail, a run with options of strace, and what judges one without a
+    failure, and with one."""
+
+    title: str
+    calls: set
+    trace: typing.Callable
+    judge_plain: typing.Callable
+    judge_failed: typing.Callable
+
+
+def judge_call(traced, call, count, failure, statuses):
     """Each call of a kind fails in turn."""
     error, later = failure
     for number in range(1, count + 1):
         options = ["-e", f"trace={call}", "-e", f"inject={call}:error={error}:when={number}{later}"]
         try:
-            found, lines = trace(program, case, options)
-        except subprocess.TimeoutExpired:
+            found, lines = traced.trace(options)
+        except (subprocess.TimeoutExpired, TimeoutError):
             return f"call {number}: it doesn't end"
         if not any("(INJECTED)" in line for line in lines):
             return f"call {number}: it didn't fail"
         statuses[found[0]] += 1
-        wrong = judge_failed(found, case, call, is_lost=bool(later))
+        wrong = traced.judge_failed(found, call, bool(later))
         if wrong is not None:
             return f"call {number}: {wrong}"
     return None
 
 
-def judge_run(program, case):
+def judge_run(traced):
     """Each kind of call of a run, and each way to fail."""
-    plain, lines = trace(program, case, [])
-    yield f"{case.title}, no call fails", judge_plain(plain, case)
+    plain, lines = traced.trace([])
+    yield f"{traced.title}, no call fails", traced.judge_plain(plain)
     counts = count_calls(lines)
-    others = sorted(set(counts) - TO_FILES - TO_OTHERS)
-    yield f"{case.title}, the kinds of its calls", f"others: {others}" if others else None
+    others = sorted(set(counts) - traced.calls - TO_OTHERS)
+    yield f"{traced.title}, the kinds of its calls", f"others: {others}" if others else None
     statuses = collections.Counter()
-    calls = sorted(set(counts) & TO_FILES)
+    calls = sorted(set(counts) & traced.calls)
     for call in calls:
         for failure in FAILURES:
-            title = f"{case.title}, {call} {''.join(failure)}"
-            yield title, judge_call(program, case, call, counts[call], failure, statuses)
+            title = f"{traced.title}, {call} {''.join(failure)}"
+            yield title, judge_call(traced, call, counts[call], failure, statuses)
     told = ", ".join(f"{counts[call]} {call}" for call in calls)
-    print(f"{case.title}: {told}; runs by their status: {dict(sorted(statuses.items()))}")
+    print(f"{traced.title}: {told}; runs by their status: {dict(sorted(statuses.items()))}")
+
+
+def trace_case(program, case):
+    return Traced(
+        case.title,
+        TO_FILES,
+        functools.partial(trace, program, case),
+        lambda found: judge_plain(found, case),
+        lambda found, call, is_lost: judge_failed(found, case, call, is_lost),
+    )
 
 
 def may_trace():
@@ -218,7 +299,9 @@ def may_trace():
 def judge_all(program):
     """Each case's title, and the first thing that is wrong with it or None."""
     for case in RUNS:
-        yield from judge_run(program, case)
+        yield from judge_run(trace_case(program, case))
+    run = functools.partial(trace_served, program)
+    yield from judge_run(Traced("a served run", TO_FILES | TO_PEERS, run, judge_served, judge_failed_served))
 
 
 if __name__ == "__main__":

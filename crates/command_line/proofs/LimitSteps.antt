@@ -7,7 +7,7 @@ use Rattle.std.proofs.Common.{arith}
 use Rattle.vol_base.specs.Names.{is_name}
 use Rattle.vol_base.specs.declared.boxes.Box3.{Box3}
 use Rattle.command_line.specs.declared.commands.Command.{Command}
-use Rattle.command_line.specs.Words.{box_of, connection_count, cutout_line, cutout_of, either_value, generate_line, generate_of, KeepsLimits, line, number, other_words, plain_words, port_number, seed, serve_line, serve_of, short_name, workers, write_count, write_line, write_of}
+use Rattle.command_line.specs.Words.{box_of, connection_count, cutout_line, cutout_of, either_value, generate_line, generate_of, KeepsLimits, line, number, other_words, part_of, plain_words, port_number, reshard_line, reshard_of, seed, serve_line, serve_of, short_name, verify_line, verify_of, workers, write_count, write_line, write_of}
 
 abbrev IsShort : Option (List ℕ) → Type 0
 IsShort name = IfSome name (λ n. length n ≤ 200)
@@ -34,6 +34,20 @@ write_keeps (Some a) (Some b) (Some n) ha hb = (ha, hb)
 write_keeps (Some a) (Some b) None ha hb = tt
 write_keeps (Some a) None n ha hb = tt
 write_keeps None b n ha hb = tt
+
+reshard_keeps : (a b c d : Option (List ℕ)) (n : Option ℕ) → IsShort a → IsShort b → IsShort c → IsShort d → KeepsLimits (reshard_of a b c d n)
+reshard_keeps (Some a) (Some b) (Some c) (Some d) (Some n) ha hb hc hd = (ha, hb, hc, hd)
+reshard_keeps (Some a) (Some b) (Some c) (Some d) None ha hb hc hd = tt
+reshard_keeps (Some a) (Some b) (Some c) None n ha hb hc hd = tt
+reshard_keeps (Some a) (Some b) None d n ha hb hc hd = tt
+reshard_keeps (Some a) None c d n ha hb hc hd = tt
+reshard_keeps None b c d n ha hb hc hd = tt
+
+verify_keeps : (a b : Option (List ℕ)) (p : Option (Option Box3)) → IsShort a → IsShort b → KeepsLimits (verify_of a b p)
+verify_keeps (Some a) (Some b) (Some p) ha hb = (ha, hb)
+verify_keeps (Some a) (Some b) None ha hb = tt
+verify_keeps (Some a) None p ha hb = tt
+verify_keeps None b p ha hb = tt
 
 -- a number that passes a test keeps its bound
 abbrev IsBelow : ℕ → Option ℕ → Type 0
@@ -102,6 +116,24 @@ cutout_line_keeps (a ∷ []) others = tt
 cutout_line_keeps (a ∷ b ∷ []) others = tt
 cutout_line_keeps (a ∷ b ∷ c ∷ d ∷ plain) others = tt
 
+reshard_line_keeps : (plain others : List (List ℕ)) → KeepsLimits (reshard_line plain others)
+reshard_line_keeps (a ∷ b ∷ c ∷ d ∷ []) others =
+    reshard_keeps (short_name a) (short_name b) (short_name c) (short_name d) (workers others) (short_is a) (short_is b) (short_is c) (short_is d)
+reshard_line_keeps [] others = tt
+reshard_line_keeps (a ∷ []) others = tt
+reshard_line_keeps (a ∷ b ∷ []) others = tt
+reshard_line_keeps (a ∷ b ∷ c ∷ []) others = tt
+reshard_line_keeps (a ∷ b ∷ c ∷ d ∷ e ∷ plain) others = tt
+
+verify_line_keeps : (plain others : List (List ℕ)) → KeepsLimits (verify_line plain others)
+verify_line_keeps (a ∷ b ∷ []) [] = verify_keeps (short_name a) (short_name b) (part_of None) (short_is a) (short_is b)
+verify_line_keeps (a ∷ b ∷ []) (o ∷ others) = tt
+verify_line_keeps (a ∷ b ∷ c ∷ []) [] = verify_keeps (short_name a) (short_name b) (part_of (Some c)) (short_is a) (short_is b)
+verify_line_keeps (a ∷ b ∷ c ∷ []) (o ∷ others) = tt
+verify_line_keeps [] others = tt
+verify_line_keeps (a ∷ []) others = tt
+verify_line_keeps (a ∷ b ∷ c ∷ d ∷ plain) others = tt
+
 write_line_keeps : (plain others : List (List ℕ)) → KeepsLimits (write_line plain others)
 write_line_keeps (a ∷ b ∷ []) others = write_keeps (short_name a) (short_name b) (workers others) (short_is a) (short_is b)
 write_line_keeps [] others = tt
@@ -139,7 +171,9 @@ line_keeps (command ∷ words) =
     either_keeps (bytes_eq command (codes "cutout")) (cutout_line plain others) _ (cutout_line_keeps plain others)
     (either_keeps (bytes_eq command (codes "write")) (write_line plain others) _ (write_line_keeps plain others)
     (either_keeps (bytes_eq command (codes "generate")) (generate_line plain others) _ (generate_line_keeps plain others)
-    (either_keeps (bytes_eq command (codes "serve")) (serve_line plain others) None (serve_line_keeps plain others) tt)))
+    (either_keeps (bytes_eq command (codes "reshard")) (reshard_line plain others) _ (reshard_line_keeps plain others)
+    (either_keeps (bytes_eq command (codes "verify")) (verify_line plain others) _ (verify_line_keeps plain others)
+    (either_keeps (bytes_eq command (codes "serve")) (serve_line plain others) None (serve_line_keeps plain others) tt)))))
 
 pub command_keeps : (found : Option Command) (words : List (List ℕ)) → found ≡ line words → KeepsLimits found
 command_keeps found words e = subst KeepsLimits (sym e) (line_keeps words)

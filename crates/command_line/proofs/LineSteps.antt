@@ -2,7 +2,7 @@
 use Rattle.std.proofs.Common.{◌≡◌, ◌<◌, ℕ, List, [], ◌∷◌, true, Option, Some, None, is_some, length, map, option_and_then, arith, refl}
 use Rattle.std.specs.Borrow.{Bor}
 use Rattle.std.specs.Option.{option_map_or}
-use Rattle.command_line.specs.Words.{cutout_line, generate_line, generate_of, numbered, worker_count, workers, write_line, write_of}
+use Rattle.command_line.specs.Words.{cutout_line, generate_line, generate_of, numbered, reshard_line, reshard_of, targeted, verify_line, worker_count, workers, write_line, write_of}
 
 -- the texts behind references
 abbrev pub texts : List (Bor (List ℕ)) → List (List ℕ)
@@ -15,6 +15,15 @@ no_cutout (a ∷ b ∷ []) others h = refl
 no_cutout (a ∷ b ∷ c ∷ []) [] h = let none : 0 < 0 = h refl in absurd (omega arith)
 no_cutout (a ∷ b ∷ c ∷ []) (o ∷ others) h = refl
 no_cutout (a ∷ b ∷ c ∷ d ∷ rest) others h = refl
+
+pub no_verify : (plain others : List (Bor (List ℕ))) → (length plain ≡ 2 → 0 < length others) → (length plain ≡ 3 → 0 < length others) → None ≡ verify_line (texts plain) (texts others)
+no_verify [] others two three = refl
+no_verify (a ∷ []) others two three = refl
+no_verify (a ∷ b ∷ []) [] two three = let none : 0 < 0 = two refl in absurd (omega arith)
+no_verify (a ∷ b ∷ []) (o ∷ others) two three = refl
+no_verify (a ∷ b ∷ c ∷ []) [] two three = let none : 0 < 0 = three refl in absurd (omega arith)
+no_verify (a ∷ b ∷ c ∷ []) (o ∷ others) two three = refl
+no_verify (a ∷ b ∷ c ∷ d ∷ rest) others two three = refl
 
 pub no_write : (plain others : List (Bor (List ℕ))) → (length plain ≡ 2 → ⊥) → None ≡ write_line (texts plain) (texts others)
 no_write [] others h = refl
@@ -58,3 +67,22 @@ generate_is (Some d) (Some k) None writes (Some count) = refl
 generate_is (Some d) (Some k) None writes None = refl
 generate_is (Some d) None n writes count = refl
 generate_is None key n writes count = refl
+
+-- the same of `reshard`, of whose words the first two and the others are those of `write`
+pub no_reshard : (plain others : List (Bor (List ℕ))) → (length plain ≡ 4 → ⊥) → None ≡ reshard_line (texts plain) (texts others)
+no_reshard [] others h = refl
+no_reshard (a ∷ []) others h = refl
+no_reshard (a ∷ b ∷ []) others h = refl
+no_reshard (a ∷ b ∷ c ∷ []) others h = refl
+no_reshard (a ∷ b ∷ c ∷ d ∷ []) others h = absurd (h refl)
+no_reshard (a ∷ b ∷ c ∷ d ∷ e ∷ rest) others h = refl
+
+pub reshard_is : (dataset key to_dataset to_key : Option (List ℕ)) (count : Option ℕ) → targeted (write_of dataset key count) to_dataset to_key ≡ reshard_of dataset key to_dataset to_key count
+reshard_is (Some d) (Some k) (Some e) (Some l) (Some count) = refl
+reshard_is (Some d) (Some k) (Some e) (Some l) None = refl
+reshard_is (Some d) (Some k) (Some e) None (Some count) = refl
+reshard_is (Some d) (Some k) (Some e) None None = refl
+reshard_is (Some d) (Some k) None l (Some count) = refl
+reshard_is (Some d) (Some k) None l None = refl
+reshard_is (Some d) None e l count = refl
+reshard_is None k e l count = refl

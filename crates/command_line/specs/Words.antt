@@ -2,7 +2,7 @@
 use Rattle.std.specs.Prelude.{ℕ, ◌^◌, ◌<◌, ◌≤◌, ◌&&◌, ◌||◌, ◌==◌, not, Bool, List, [], ◌∷◌, length, drop, filter, slice_index, nat_eq, nat_le, nat_lt, Option, Some, None, option_and_then, if◌then◌else◌, codes}
 use Rattle.std.specs.Char.{is_ascii_digit}
 use Rattle.std.specs.List.{list_all, starts_with}
-use Rattle.std.specs.Option.{option_or}
+use Rattle.std.specs.Option.{option_map, option_or}
 use Rattle.std.specs.Result.{result_ok}
 use Rattle.std.specs.Str.{bytes_eq}
 use Rattle.std.specs.Str.Parse.{digits_value}
@@ -10,7 +10,7 @@ use Rattle.vol_base.specs.BoxText.{box_numbers, parsed}
 use Rattle.vol_base.specs.Names.{is_name}
 use Rattle.vol_base.specs.declared.boxes.Box3.{Box3}
 use Rattle.command_line.specs.declared.commands.Command.{Command}
-use Rattle.command_line.specs.declared.commands.Command.TheVariants.{Cutout, Generate, Serve, Write}
+use Rattle.command_line.specs.declared.commands.Command.TheVariants.{Cutout, Generate, Reshard, Serve, Verify, Write}
 
 -- a plain word isn't empty and doesn't begin with `-`
 abbrev pub is_plain : List ℕ → Bool
@@ -100,6 +100,41 @@ abbrev pub numbered : Option Command → Option ℕ → Option ℕ → Option Co
 numbered (Some (Write dataset key count)) (Some n) (Some writes) = Some (Generate dataset key n writes count)
 numbered found n writes = None
 
+-- `reshard DATASET KEY DATASET2 KEY2 [--workers=N]`, by its plain words and the others: a scale, and the one that it is copied into
+abbrev pub reshard_of : Option (List ℕ) → Option (List ℕ) → Option (List ℕ) → Option (List ℕ) → Option ℕ → Option Command
+reshard_of (Some dataset) (Some key) (Some to_dataset) (Some to_key) (Some count) = Some (Reshard dataset key to_dataset to_key count)
+reshard_of (Some dataset) (Some key) (Some to_dataset) (Some to_key) None = None
+reshard_of (Some dataset) (Some key) (Some to_dataset) None count = None
+reshard_of (Some dataset) (Some key) None to_key count = None
+reshard_of (Some dataset) None to_dataset to_key count = None
+reshard_of None key to_dataset to_key count = None
+
+abbrev pub reshard_line : List (List ℕ) → List (List ℕ) → Option Command
+reshard_line (dataset ∷ key ∷ to_dataset ∷ to_key ∷ []) others =
+    reshard_of (short_name dataset) (short_name key) (short_name to_dataset) (short_name to_key) (workers others)
+reshard_line plain others = None
+
+-- a command `write` with the names of another scale
+abbrev pub targeted : Option Command → Option (List ℕ) → Option (List ℕ) → Option Command
+targeted (Some (Write dataset key count)) (Some to_dataset) (Some to_key) = Some (Reshard dataset key to_dataset to_key count)
+targeted found to_dataset to_key = None
+
+-- `verify DATASET KEY [BOX]`, where no other word may stand: without a box all of the scale
+abbrev pub part_of : Option (List ℕ) → Option (Option Box3)
+part_of (Some word) = option_map Some (box_of word)
+part_of None = Some None
+
+abbrev pub verify_of : Option (List ℕ) → Option (List ℕ) → Option (Option Box3) → Option Command
+verify_of (Some dataset) (Some key) (Some part) = Some (Verify dataset key part)
+verify_of (Some dataset) (Some key) None = None
+verify_of (Some dataset) None part = None
+verify_of None key part = None
+
+abbrev pub verify_line : List (List ℕ) → List (List ℕ) → Option Command
+verify_line (dataset ∷ key ∷ []) [] = verify_of (short_name dataset) (short_name key) (part_of None)
+verify_line (dataset ∷ key ∷ part ∷ []) [] = verify_of (short_name dataset) (short_name key) (part_of (Some part))
+verify_line plain others = None
+
 -- P of `--port=P`: 0 to 65535
 abbrev pub port_number : List ℕ → Option ℕ
 port_number value = option_and_then (λ n. if nat_le n 65535 then Some n else None) (number value)
@@ -134,6 +169,8 @@ line [] = None
 line (command ∷ words) = if bytes_eq command (codes "cutout") then cutout_line (plain_words words) (other_words words)
     else if bytes_eq command (codes "write") then write_line (plain_words words) (other_words words)
     else if bytes_eq command (codes "generate") then generate_line (plain_words words) (other_words words)
+    else if bytes_eq command (codes "reshard") then reshard_line (plain_words words) (other_words words)
+    else if bytes_eq command (codes "verify") then verify_line (plain_words words) (other_words words)
     else if bytes_eq command (codes "serve") then serve_line (plain_words words) (other_words words) else None
 
 -- a command's names have at most 200 bytes, and its numbers are in their range
@@ -143,4 +180,7 @@ KeepsLimits (Some (Cutout dataset key part)) = (length dataset ≤ 200) × (leng
 KeepsLimits (Some (Write dataset key count)) = (length dataset ≤ 200) × (length key ≤ 200)
 KeepsLimits (Some (Generate dataset key n writes count)) =
     (length dataset ≤ 200) × (length key ≤ 200) × (n < 2 ^ 31) × (writes ≤ 4096)
+KeepsLimits (Some (Reshard dataset key to_dataset to_key count)) =
+    (length dataset ≤ 200) × (length key ≤ 200) × (length to_dataset ≤ 200) × (length to_key ≤ 200)
+KeepsLimits (Some (Verify dataset key part)) = (length dataset ≤ 200) × (length key ≤ 200)
 KeepsLimits (Some (Serve dataset port count)) = (length dataset ≤ 200) × (1 ≤ count)

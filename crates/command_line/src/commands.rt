@@ -25,6 +25,21 @@ pub enum Command {
         writes: u32,
         workers: u32,
     },
+    /// `verify DATASET KEY [BOX]`: whether the stored chunks of a box are sound, or of all of the scale.
+    Verify {
+        dataset: Name,
+        key: Name,
+        part: Option<Box3>,
+    },
+    /// `reshard DATASET KEY DATASET2 KEY2 [--workers=N]`: a scale into an empty one of another layout, by 1 to 16
+    /// workers.
+    Reshard {
+        dataset: Name,
+        key: Name,
+        to_dataset: Name,
+        to_key: Name,
+        workers: u32,
+    },
     /// `serve DATASET --port=P --connections=N`: its objects by byte ranges, to 1 to 65,536 peers one after the
     /// other, at a port of the machine, or a free one for 0.
     Serve {

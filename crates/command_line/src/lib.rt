@@ -3,7 +3,9 @@
 
 mod commands;
 mod parsers;
+mod resharding;
 mod serving;
+mod verifying;
 mod words;
 
 pub use commands::Command;

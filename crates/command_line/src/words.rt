@@ -8,7 +8,9 @@ ghost use Rattle.command_line.specs.Words.{KeepsLimits, box_of, is_number, is_pl
 
 use crate::commands::Command;
 use crate::parsers::{cutout_parser, parse, write_parser};
+use crate::resharding::read_reshard;
 use crate::serving::read_serve;
+use crate::verifying::read_verify;
 use clap::ArgMatches;
 use std::alloc::{AllocError, Global};
 use vol_base::{Box3, Name, OutOfMemory};
@@ -54,7 +56,8 @@ pub(crate) fn read_name(word: &str) -> Option<Name>
     }
 }
 
-fn read_box(word: &str) -> Option<Box3>
+/// The box that a word spells.
+pub(crate) fn read_box(word: &str) -> Option<Box3>
     ensures { result ≡ box_of word.now }
 {
     Box3::parse(word).ok()
@@ -238,9 +241,9 @@ fn read_write_option(
     }
 }
 
-// The command of two plain words and of all others.
+/// The command of two plain words and of all others.
 #[tactic(auto, using(crate::proofs::LineSteps::too_many_options))]
-fn read_write_others(
+pub(crate) fn read_write_others(
     alloc: Global,
     dataset: &str,
     key: &str,
@@ -362,6 +365,8 @@ fn read_command(
         "cutout" => read_cutout(alloc, &sorted.plain, &sorted.others),
         "write" => read_write(alloc, &sorted.plain, &sorted.others),
         "generate" => read_generate(alloc, &sorted.plain, &sorted.others),
+        "reshard" => read_reshard(alloc, &sorted.plain, &sorted.others),
+        "verify" => Ok(read_verify(&sorted.plain, &sorted.others)),
         "serve" => read_serve(alloc, &sorted.plain, &sorted.others),
         _ => Ok(None),
     }
@@ -401,6 +406,8 @@ mod tests {
         Cutout,
         Write(u32),
         Generate(u32, u32, u32),
+        Verify(bool),
+        Reshard(u32),
         Serve(u16, u32),
     }
 
@@ -422,6 +429,8 @@ mod tests {
                     ..
                 },
             ) => Ok(Spelled::Generate(number, writes, workers)),
+            Some(Command::Reshard { workers, .. }) => Ok(Spelled::Reshard(workers)),
+            Some(Command::Verify { part, .. }) => Ok(Spelled::Verify(part.is_some())),
             Some(
                 Command::Serve {
                     port,
@@ -486,6 +495,21 @@ mod tests {
             ("generate d s 1 2 --workers=17", Spelled::Nothing),
             ("generate d s 1 2 --port=1", Spelled::Nothing),
             ("generate d s 1 2 --workers=1 --workers=1", Spelled::Nothing),
+            ("reshard d s e t", Spelled::Reshard(1)),
+            ("reshard d s d t --workers=4", Spelled::Reshard(4)),
+            ("reshard d s e", Spelled::Nothing),
+            ("reshard d s e t u", Spelled::Nothing),
+            ("reshard d s e ../t", Spelled::Nothing),
+            ("reshard d s ../e t", Spelled::Nothing),
+            ("reshard d s e t --workers=0", Spelled::Nothing),
+            ("verify d s", Spelled::Verify(false)),
+            ("verify d s [0:4,0:4,0:4]", Spelled::Verify(true)),
+            ("verify d s [0:4,0:4]", Spelled::Nothing),
+            ("verify d s [0:4,0:4,0:4] x", Spelled::Nothing),
+            ("verify d", Spelled::Nothing),
+            ("verify d ../s", Spelled::Nothing),
+            ("verify d s --workers=1", Spelled::Nothing),
+            ("verify d s [0:4,0:4,0:4] --workers=1", Spelled::Nothing),
             ("serve d --port=80 --connections=1", Spelled::Serve(80, 1)),
             (
                 "serve --connections=65536 d --port=0",

@@ -1,2 +1,3 @@
 mod PlainSteps
 mod NextSteps
+mod HeadSteps

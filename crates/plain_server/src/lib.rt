@@ -5,6 +5,8 @@ mod heads;
 mod objects;
 mod plan;
 mod replies;
+#[cfg(test)]
+mod tests;
 mod text;
 
 pub use replies::plain_replies;

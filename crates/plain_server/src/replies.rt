@@ -52,7 +52,7 @@ fn put_reply(
 {
     match add_reply(alloc, out, reply, object) {
         Ok(()) => {}
-        Err(OutOfMemory) => return Err(OutOfMemory),
+        Err(_) => return Err(OutOfMemory),
     }
     if reply.close {
         return Ok(None);
@@ -66,7 +66,7 @@ fn put_bad(alloc: Global, out: &mut Vec<u8>) -> Result<(), OutOfMemory>
 {
     match add_reply(alloc, out, &refuse(400, true), b"") {
         Ok(()) => Ok(()),
-        Err(OutOfMemory) => Err(OutOfMemory),
+        Err(_) => Err(OutOfMemory),
     }
 }
 

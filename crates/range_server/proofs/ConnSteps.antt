@@ -43,7 +43,7 @@ module _ (m : Objects) (dataset : List ℕ) (n before now : ℕ) (rest : List �
 
   pub stops_nothing : (fault : ServeFault) (old new : Option (List ℕ)) → fault ≢ StoreFault → new ≡ old → Gained (Stops m dataset before now fault n rest) old new
   stops_nothing LinkFault old new other e = ([], short_nothing, gains_nothing old new e)
-  stops_nothing OutOfMemory old new other e = ([], short_nothing, gains_nothing old new e)
+  stops_nothing OutOfMemory old new other e = ([], refl, gains_nothing old new e)
   stops_nothing StoreFault old new other e = absurd (other refl)
 
   -- amid the 400

@@ -67,8 +67,7 @@ module _ (m : Objects) (dataset stream : List ℕ) where
   stops_later : (before mid now n : ℕ) (fault : ServeFault) (rest out : List ℕ) → before ≤ mid → Stops m dataset mid now fault n rest out → Stops m dataset before now fault n rest out
   stops_later before mid now n LinkFault rest out le (inl h) = inl h
   stops_later before mid now n LinkFault rest out le (inr h) = inr (rose_later before mid now le h.0, h.1)
-  stops_later before mid now n OutOfMemory rest out le (inl h) = inl h
-  stops_later before mid now n OutOfMemory rest out le (inr h) = inr (rose_later before mid now le h.0, h.1)
+  stops_later before mid now n OutOfMemory rest out le h = h
   stops_later before mid now n StoreFault rest out le h = h
 
   pub served_all : (before mid now n : ℕ) (waiting old now_sent new : Option (List ℕ)) → before ≤ mid → HasReached m dataset n stream waiting old now_sent
@@ -83,4 +82,4 @@ module _ (m : Objects) (dataset stream : List ℕ) where
 
   -- nothing was sent
   pub stopped_none : (before now : ℕ) (old : Option (List ℕ)) → Gained (Stopped m dataset before now OutOfMemory stream) old old
-  stopped_none before now old = ([], ([], stream, [], [], (refl, refl), inl ([], 0, inl refl, refl), refl), gains_nothing old old refl)
+  stopped_none before now old = ([], ([], stream, [], [], (refl, refl), refl, refl), gains_nothing old old refl)

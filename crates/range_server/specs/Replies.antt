@@ -87,9 +87,10 @@ module _ (objects : Objects) (dataset : List ℕ) where
   StopsShort before now n rest out =
       FrontOf (GoesOnWith reply_to closes_at) n rest out ⊎ (Rose before now × FrontOf FailsAt n rest out)
 
+  -- where memory ran out, nothing of the reply that comes next
   abbrev pub Stops : ℕ → ℕ → ServeFault → Answers
   Stops before now LinkFault = StopsShort before now
-  Stops before now OutOfMemory = StopsShort before now
+  Stops before now OutOfMemory = λ n rest out. out ≡ []
   Stops before now StoreFault = BreaksOff
 
   -- what was sent of the replies to a stream

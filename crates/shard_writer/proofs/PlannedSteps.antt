@@ -20,11 +20,11 @@ use Rattle.std.proofs.lemmas.List.Elements.{All-contains}
 use Rattle.shard_writer.specs.Writing.{job_chunks, job_objects}
 
 -- a cell with its bytes
-abbrev chunk_by : (Cell → Bytes) → Cell → Cell × Bytes
+abbrev pub chunk_by : (Cell → Bytes) → Cell → Cell × Bytes
 chunk_by f cell = (cell, f cell)
 
 -- a list by its places
-by_place : {A B : Type 0} (h : A → B) (all xs : List A) (d : A) (a : ℕ) → ((i : ℕ) → i < length xs → get_or all (a + i) d ≡ get_or xs i d) → map (λ n. h (get_or all n d)) (range_with_len a (length xs)) ≡ map h xs
+pub by_place : {A B : Type 0} (h : A → B) (all xs : List A) (d : A) (a : ℕ) → ((i : ℕ) → i < length xs → get_or all (a + i) d ≡ get_or xs i d) → map (λ n. h (get_or all n d)) (range_with_len a (length xs)) ≡ map h xs
 by_place h all [] d a same = refl
 by_place h all (x ∷ xs) d a same =
     let z : a ≡ a + 0 = omega arith in

@@ -1,5 +1,5 @@
 -- What judging a part says.
-use Rattle.std.specs.Prelude.{◌≡◌, ℕ, ◌^◌, ◌<◌, Bool, true, false, length, map, filter, Option, Some, None, Result, Ok, Err}
+use Rattle.std.specs.Prelude.{◌≡◌, ℕ, ◌^◌, ◌<◌, ◌≤◌, Bool, true, false, length, map, filter, Option, Some, None, Result, Ok, Err}
 use Rattle.std.specs.FinMap as fin
 use Rattle.std.specs.Option.{option_map}
 use Rattle.vol_base.specs.Outside.{Objects}
@@ -91,6 +91,10 @@ Verifies (Err StoreFault) m dataset s b = Unit {0}
 Verifies (Err OutOfMemory) m dataset s b = Unit {0}
 Verifies (Err OutsideScale) m dataset s b = Unit {0}
 Verifies (Err (TooManyCells n)) m dataset s b = Unit {0}
+
+-- a part that can be judged: it is inside its scale, and at most 2^22 cells meet it
+abbrev pub CanJudge : Scale → Box3 → Type 0
+CanJudge s b = Inside s b × (length (cells_in s b) ≤ 2 ^ 22)
 
 -- a part inside a scale that more than 2^22 cells meet: n of them
 pub record IsTooMany (s : Scale) (b : Box3) (n : ℕ) : Type 0 where

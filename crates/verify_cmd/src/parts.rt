@@ -6,7 +6,7 @@ ghost use Rattle.vol_spec.specs.Cut.{first_fault};
 ghost use Rattle.vol_spec.specs.Grid.{cells_in, Inside};
 ghost use Rattle.vol_spec.specs.Verdicts.{Sound};
 ghost use Rattle.verify_cmd.specs.Judges.{Serves};
-ghost use Rattle.verify_cmd.specs.Verifying.{first_wrong, found_at, IsTooMany, Verifies};
+ghost use Rattle.verify_cmd.specs.Verifying.{CanJudge, first_wrong, found_at, IsTooMany, Verifies};
 
 use crate::cell::CellJudge;
 use crate::report::count_cell;
@@ -95,6 +95,7 @@ pub fn verify<S: Source>(
     requires dataset { length dataset.now ≤ 200 }
     ensures outside { result ≡ Err VerifyFault.OutsideScale ↔ (Inside scale.now part.now → ⊥) }
     ensures too_many { (n : ℕ) → result ≡ Err (VerifyFault.TooManyCells n) ↔ IsTooMany scale.now part.now n }
+    ensures judged { result ≢ Err VerifyFault.OutsideScale → ((n : ℕ) → result ≢ Err (VerifyFault.TooManyCells n)) → CanJudge scale.now part.now }
     ensures verified { IfSome (S.objects store.old) (λ m. Verifies result m dataset.now scale.now part.now) }
     ensures cells { IfOk result (λ report. report.cells ≡ length (cells_in scale.now part.now)) }
     ensures both { IfOk result (λ report. report.stored + report.absent ≡ report.cells) }

@@ -1,5 +1,5 @@
 //! A door in memory.
-ghost use Rattle.std.specs.Prelude.{◌≡◌, ◌+◌, ◌-◌, ◌<◌, ◌≤◌, ◌∷◌, ◌++◌, [], ◌↔◌, drop, map, Some, None, IfOk, OnOk, OnErr, IfSome, IsErr, IsSome, IsTrue, length};
+ghost use Rattle.std.specs.Prelude.{◌≡◌, ◌≢◌, ◌+◌, ◌-◌, ◌<◌, ◌≤◌, ◌∷◌, ◌++◌, [], ◌↔◌, drop, map, Some, None, IfOk, OnOk, OnErr, IfSome, IsErr, IsSome, IsTrue, length};
 ghost use Rattle.vol_base.specs.Causes.{HasCause, counted, is_count};
 
 use crate::calls::{count_fault, tick};
@@ -100,6 +100,7 @@ impl Door for MemoryDoor {
     fn listen(&mut self, port: u16) -> Result<u16, Failed>
         requires { self.old.bound ≡ None }
         ensures bound { IfOk result (λ port. self.new.bound ≡ Some port) }
+        ensures asked { IfOk result (λ bound. port ≢ 0 → bound ≡ port) }
         ensures refused { OnErr result (self.new.bound ≡ None) }
         ensures served { Some (served_by self.new) ≡ Some (served_by self.old) }
         ensures accepted { accepted_by self.new ≡ accepted_by self.old }

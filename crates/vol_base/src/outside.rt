@@ -3,7 +3,7 @@
 //! Each trait says by ghost members what an implementation means. A meaning of contents is `None`
 //! where the implementation doesn't tell it, as over a real file. Each object has a count of its
 //! faults that never falls, and a call answers `Failed` only where the count rose in that call.
-ghost use Rattle.std.specs.Prelude.{◌≡◌, ◌+◌, ◌<◌, ◌≤◌, ◌^◌, [], ◌∷◌, ◌++◌, List, take, drop, Option, Some, None, ℕ, length, IfOk, IfSome, OnOk, OnErr, IsSome, IsTrue};
+ghost use Rattle.std.specs.Prelude.{◌≡◌, ◌≢◌, ◌+◌, ◌<◌, ◌≤◌, ◌^◌, [], ◌∷◌, ◌++◌, List, take, drop, Option, Some, None, ℕ, length, IfOk, IfSome, OnOk, OnErr, IsSome, IsTrue};
 ghost use Rattle.std.specs.Option.{option_map};
 ghost use Rattle.std.specs.FinMap as map;
 ghost use Rattle.vol_base.specs.Causes.{HasCause, HasStoreCause, IsCount};
@@ -226,6 +226,7 @@ pub trait Door {
     fn listen(&mut self, port: u16) -> Result<u16, Failed>
         requires { bound self.old ≡ None }
         ensures bound { IfOk result (λ port. bound self.new ≡ Some port) }
+        ensures asked { IfOk result (λ bound. port ≢ 0 → bound ≡ port) }
         ensures refused { OnErr result (bound self.new ≡ None) }
         ensures served { served self.new ≡ served self.old }
         ensures accepted { accepted self.new ≡ accepted self.old }

@@ -34,9 +34,18 @@ damaged_line cell fault =
 abbrev pub stream_line : PlanFault → List ℕ
 stream_line fault = texts (stream_text fault ∷ line_feed ∷ [])
 
--- writes that meet too many cells
+-- too many cells that writes or a box meet
 abbrev pub cells_line : ℕ → List ℕ
 cells_line cells = texts (codes "too many cells " ∷ decimal cells ∷ line_feed ∷ [])
+
+-- a row of a minishard's index whose id belongs into another: the shard and the minishard that have the row, and the id
+abbrev pub misplaced_line : ℕ → ℕ → ℕ → List ℕ
+misplaced_line shard minishard id =
+    texts (codes "misplaced " ∷ decimal shard ∷ codes " " ∷ decimal minishard ∷ codes " " ∷ decimal id ∷ line_feed ∷ [])
+
+-- two scales that aren't of one volume: the first item in which they differ
+abbrev pub differs_line : List ℕ → List ℕ
+differs_line item = texts (codes "differs " ∷ item ∷ line_feed ∷ [])
 
 -- a scale of more padded voxels times channels than are written, and the limit
 abbrev pub voxels_line : ℕ → List ℕ
@@ -45,6 +54,11 @@ voxels_line voxels = texts (codes "padded voxels " ∷ decimal voxels ∷ codes 
 -- what a writing command prints
 abbrev pub written_line : ℕ → ℕ → List ℕ
 written_line objects cells = texts (codes "objects " ∷ decimal objects ∷ codes " cells " ∷ decimal cells ∷ line_feed ∷ [])
+
+-- what `verify` prints: how many cells were judged, and of how many the chunk is stored, and absent
+abbrev pub verified_line : ℕ → ℕ → ℕ → List ℕ
+verified_line cells stored absent =
+    texts (codes "cells " ∷ decimal cells ∷ codes " stored " ∷ decimal stored ∷ codes " absent " ∷ decimal absent ∷ line_feed ∷ [])
 
 -- what `generate` prints: of how many writes, how many objects of how many bytes together, and the sum of the values
 abbrev pub generated_line : ℕ → ℕ → ℕ → ℕ → List ℕ

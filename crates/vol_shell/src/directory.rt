@@ -14,16 +14,18 @@ use std::alloc::Global;
 use std::fs::{File, Files, Metadata};
 use std::io::{self, ErrorKind, Write};
 use std::marker::Model;
-use std::os::unix::fs::FileExt;
+use std::os::unix::fs::{FileExt, MetadataExt};
 use std::{fs, str};
 use vol_base::{Failed, Got, Name, Source, Store, StoreRefusal};
 
-// An object's file, and its length as it was opened.
+// An object's file, and its length as it was opened. Its device and inode tell it from any other file.
 #[derive(Drop)]
 struct Object {
     name: Name,
     file: File,
     len: u64,
+    device: u64,
+    inode: u64,
 }
 
 // The object being written: its file, whose path is the name with `.part` behind it, and its length so far.
@@ -42,9 +44,10 @@ struct Unfinished {
 /// what is neither a file nor a folder. So is memory that is refused, but where an object is begun: other
 /// calls have no other answer for it. It tells nothing of what the files hold.
 ///
-/// The object that was read last stays open until another is asked for, or one is put. An object is written
-/// to a file with `.part` behind its name, which is renamed at the end, in place of an older object. After a
-/// refusal, and where another object is begun, that file is removed, if the system lets it.
+/// The object that was read last stays open until another is asked for, or one is put, or its size is asked for and
+/// another file, or a longer or shorter one, stands in its place. An object is written to a file with `.part` behind
+/// its name, which is renamed at the end, in place of an older object. After a refusal, and where another object is
+/// begun, that file is removed, if the system lets it.
 #[derive(Drop)]
 pub struct DirStore<R> {
     rt: R,
@@ -124,8 +127,11 @@ fn find<R: Files>(rt: &R, path: &str) -> Result<bool, Failed> {
     }
 }
 
-// Opens the file at a path, where there is one, and tells its length.
-fn open_file<R: Files<File = File>>(rt: &R, path: &str) -> Result<Option<(File, u64)>, Failed> {
+// Opens the file at a path, where there is one, and tells what it is.
+fn open_file<R: Files<File = File>>(
+    rt: &R,
+    path: &str,
+) -> Result<Option<(File, Metadata)>, Failed> {
     let file = match fs::open(rt, path) {
         Ok(file) => file,
         Err(error) if tells_absence(&error) => return Ok(None),
@@ -135,7 +141,7 @@ fn open_file<R: Files<File = File>>(rt: &R, path: &str) -> Result<Option<(File, 
         return Err(Failed);
     };
     if judge(&found)? {
-        Ok(Some((file, found.len())))
+        Ok(Some((file, found)))
     } else {
         Ok(None)
     }
@@ -152,10 +158,12 @@ fn open_object<R: Files<File = File>>(rt: &R, name: &Name) -> Result<Option<Obje
         return Ok(None);
     }
     match open_file(rt, path)? {
-        Some((file, len)) => Ok(Some(Object {
+        Some((file, found)) => Ok(Some(Object {
             name: name.duplicate(),
             file,
-            len,
+            len: found.len(),
+            device: found.dev(),
+            inode: found.ino(),
         })),
         None => Ok(None),
     }
@@ -178,6 +186,36 @@ fn turn_to<R: Files<File = File>>(
     *opened = None;
     *opened = open_object(rt, name)?;
     Ok(())
+}
+
+// Whether what stands at an object's path by now is its file, as long as it was.
+fn is_current<R: Files>(rt: &R, object: &Object) -> bool {
+    let Ok(path) = str::from_utf8(object.name.as_bytes()) else {
+        return false;
+    };
+    match fs::metadata(rt, path) {
+        Ok(found) => {
+            found.ino() == object.inode && found.dev() == object.device && found.len() == object.len
+        }
+        Err(_) => false,
+    }
+}
+
+// Opens the object of this name in place of the one that is open, unless it is that one and its file still stands.
+// Afterwards no other is open.
+fn turn_anew<R: Files<File = File>>(
+    rt: &R,
+    opened: &mut Option<Object>,
+    name: &Name,
+) -> Result<(), Failed>
+    ensures { IfSome opened.new (λ object. object.name ≡ name.now) }
+{
+    if let Some(object) = opened {
+        if object.name.as_bytes() == name.as_bytes() && !is_current(rt, object) {
+            *opened = None;
+        }
+    }
+    turn_to(rt, opened, name)
 }
 
 // Reads an object from a place on, until the buffer is full or the object ends. A file that is
@@ -408,7 +446,7 @@ impl<R: Files<File = File>> Source for DirStore<R> {
     ghost counts = { λ s. (is_count s.asked, is_count s.faults) };
 
     fn size(&mut self, name: &Name) -> Result<Option<u64>, Failed> {
-        if turn_to(&self.rt, &mut self.opened, name).is_err() {
+        if turn_anew(&self.rt, &mut self.opened, name).is_err() {
             count_fault(&mut self.faults);
             return Err(Failed);
         }
@@ -544,6 +582,26 @@ mod tests {
         assert_eq!(rt; store.read_at(&object, 0, &mut found), Err(Failed));
         assert_eq!(rt; store.faults, 1);
         assert_eq!(rt; store.read_at(&object, 0, &mut found), Ok(Got::Bytes(2)));
+        Ok(())
+    }
+
+    #[test]
+    fn tells_the_size_of_the_file_that_stands_there(rt: HostRuntime) -> Result<(), Fail> {
+        let mut store = DirStore::new(rt);
+        let object = name_of("f/0-1")?;
+        put_patched(&mut store, &object)?;
+        assert_eq!(rt; store.size(&object), Ok(Some(6)));
+        fs::write(&rt, "f/1-2", b"newer!")?;
+        fs::rename(&rt, "f/1-2", "f/0-1")?;
+        assert_eq!(rt; store.size(&object), Ok(Some(6)));
+        let mut found = [b'.'; 6];
+        assert_eq!(rt; store.read_at(&object, 0, &mut found), Ok(Got::Bytes(6)));
+        assert_eq!(rt; found, *b"newer!");
+        fs::write(&rt, "f/0-1", b"longer than that")?;
+        assert_eq!(rt; store.size(&object), Ok(Some(16)));
+        fs::remove_file(&rt, "f/0-1")?;
+        assert_eq!(rt; store.size(&object), Ok(None));
+        assert_eq!(rt; store.faults, 0);
         Ok(())
     }
 }

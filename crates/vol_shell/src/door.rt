@@ -1,5 +1,5 @@
 //! A listening socket.
-ghost use Rattle.std.specs.Prelude.{◌≡◌, None};
+ghost use Rattle.std.specs.Prelude.{◌≡◌, ◌≢◌, None, IfOk};
 ghost use Rattle.std.specs.Net.Grammar.{IsIpText, Parses};
 
 use crate::counts::count_fault;
@@ -107,12 +107,15 @@ fn bind<N: Net>(net: &N, address: IpAddr, port: u16) -> io::Result<Listening<N::
     Ok(Listening { listener, port })
 }
 
-// Binds the address of the environment.
-fn start<R: Net + Env>(rt: &R, port: u16) -> Result<Listening<R::Listener>, Failed> {
+// Binds the address of the environment. The system says which port that bound; another than the one that was asked for
+// is a fault.
+fn start<R: Net + Env>(rt: &R, port: u16) -> Result<Listening<R::Listener>, Failed>
+    ensures asked { IfOk result (λ listening. port ≢ 0 → listening.port ≡ port) }
+{
     let address = find_address(rt)?;
     match bind(rt, address, port) {
-        Ok(listening) => Ok(listening),
-        Err(_) => Err(Failed),
+        Ok(listening) if port == 0 || listening.port == port => Ok(listening),
+        _ => Err(Failed),
     }
 }
 

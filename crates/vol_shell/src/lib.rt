@@ -15,9 +15,10 @@ pub use directory::DirStore;
 pub use door::TcpDoor;
 pub use lines::{
     DOOR_LINE, FEED_LINE, FOLDER_LINE, MEMORY_LINE, OUTPUT_LINE, STORE_LINE, USAGE_LINE,
-    tell_lines, write_cells_line, write_damaged_line, write_generated_line, write_info_line,
-    write_large_line, write_listening_line, write_outside_line, write_stream_line,
-    write_voxels_line, write_written_line,
+    tell_lines, write_cells_line, write_damaged_line, write_differs_line, write_generated_line,
+    write_info_line, write_large_line, write_listening_line, write_misplaced_line,
+    write_outside_line, write_stream_line, write_verified_line, write_voxels_line,
+    write_written_line,
 };
 pub use link::TcpLink;
 pub use output::{say, write_all};

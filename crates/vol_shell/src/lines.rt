@@ -1,6 +1,6 @@
 //! The lines that the tool prints.
 ghost use Rattle.std.specs.Prelude.{◌≡◌, IfOk, string_bytes};
-ghost use Rattle.vol_shell.specs.Lines.{cells_line, damaged_line, door_line, feed_line, folder_line, generated_line, info_line, large_line, listening_line, memory_line, output_line, outside_line, store_line, stream_line, usage_line, voxels_line, written_line};
+ghost use Rattle.vol_shell.specs.Lines.{cells_line, damaged_line, differs_line, door_line, feed_line, folder_line, generated_line, info_line, large_line, listening_line, memory_line, misplaced_line, output_line, outside_line, store_line, stream_line, usage_line, verified_line, voxels_line, written_line};
 
 use std::alloc::{AllocError, Global};
 use vol_base::{Box3, Fault, Name};
@@ -79,11 +79,30 @@ pub fn write_stream_line(alloc: Global, fault: PlanFault) -> Result<String, Allo
     format!(in alloc; "{fault}\n")
 }
 
-/// Writes that meet too many cells.
-pub fn write_cells_line(alloc: Global, cells: u64) -> Result<String, AllocError>
+/// A row of a minishard's index whose id belongs into another.
+pub fn write_misplaced_line(
+    alloc: Global,
+    shard: u64,
+    minishard: u64,
+    id: u64,
+) -> Result<String, AllocError>
+    ensures { IfOk result (λ line. string_bytes line ≡ misplaced_line shard minishard id) }
+{
+    format!(in alloc; "misplaced {shard} {minishard} {id}\n")
+}
+
+/// Too many cells that writes or a box meet.
+pub fn write_cells_line(alloc: Global, cells: u128) -> Result<String, AllocError>
     ensures { IfOk result (λ line. string_bytes line ≡ cells_line cells) }
 {
     format!(in alloc; "too many cells {cells}\n")
+}
+
+/// Two scales that aren't of one volume: the first item in which they differ.
+pub fn write_differs_line(alloc: Global, item: &str) -> Result<String, AllocError>
+    ensures { IfOk result (λ line. string_bytes line ≡ differs_line item.now) }
+{
+    format!(in alloc; "differs {item}\n")
 }
 
 /// A scale of more padded voxels times channels than are written.
@@ -98,6 +117,18 @@ pub fn write_written_line(alloc: Global, objects: u64, cells: u64) -> Result<Str
     ensures { IfOk result (λ line. string_bytes line ≡ written_line objects cells) }
 {
     format!(in alloc; "objects {objects} cells {cells}\n")
+}
+
+/// What `verify` prints: how many cells were judged, and of how many the chunk is stored, and absent.
+pub fn write_verified_line(
+    alloc: Global,
+    cells: u64,
+    stored: u64,
+    absent: u64,
+) -> Result<String, AllocError>
+    ensures { IfOk result (λ line. string_bytes line ≡ verified_line cells stored absent) }
+{
+    format!(in alloc; "cells {cells} stored {stored} absent {absent}\n")
 }
 
 /// What `generate` prints: how many writes there were, how many objects were put, how many bytes these have together,

@@ -16,12 +16,12 @@ use Rattle.vol_shell.specs.Lines.{generated_line, large_line, stream_line, voxel
 use Rattle.vol_tool.proofs.Choices.{err_and, ok_and}
 use Rattle.vol_tool.proofs.WriteSteps.{many_told, stored_front}
 use Rattle.vol_tool.specs.Cutouts.{IsTooLarge}
-use Rattle.vol_tool.specs.Generating.{drawn, GenerateLeaves, Generates, GenerateShows, HasGenerated, IsRefusal, IsSmall, RefusesDrawn, Summarizes, summary_line}
+use Rattle.vol_tool.specs.Generating.{drawn, GenerateLeaves, Generates, GenerateShows, HasGenerated, IsRefusal, IsSmall, RefusesDrawn, SmallFront, Summarizes, summary_line}
 use Rattle.vol_tool.specs.Refusals.{generate_line, generate_status, write_line, write_status}
 use Rattle.vol_tool.specs.Scales.{stored_scale}
 use Rattle.vol_tool.specs.Seen.{Outlets, Silent, Tells}
 use Rattle.vol_tool.specs.Statuses.{fixed_line, Reports}
-use Rattle.vol_tool.specs.Storing.{AllReadBack, FrontPut, HasStored, IsFull, IsReady, Listing, Prints, puts, StoresList, WrittenBack}
+use Rattle.vol_tool.specs.Storing.{AllReadBack, HasStored, IsFull, IsReady, Listing, Prints, puts, StoresList, WrittenBack}
 use Rattle.vol_tool.specs.declared.generate.Summary.{Summary}
 use Rattle.vol_tool.specs.declared.refusal.CutoutRefusal.TheVariants as uncut
 use Rattle.vol_tool.specs.declared.refusal.GenerateRefusal.{GenerateRefusal}
@@ -136,6 +136,10 @@ stored_line Gained summary m now list count dataset key generates prints =
     of_list (λ s ws. HasStored m now dataset key s ws × Gained (summary_line count dataset s ws)) summary m now list dataset key generates
     (λ s ws stored back is. (stored, subst Gained (line_is summary count dataset s ws is) prints))
 
+-- the scale is small
+is_small : (summary : Summary) (m : Objects) (now : Option Objects) (list : Listing) (dataset key : Name) → Generates (Ok summary) (stored_scale m dataset key) m now list dataset key → IsOkAnd (stored_scale m dataset key) IsSmall
+is_small summary m now list dataset key generates = ok_and (stored_scale m dataset key) (λ s. HasGenerated summary m now (list s) dataset key s) IsSmall (λ s h. h.0) generates
+
 pub drawn_back : (summary : Summary) (o now : Option Objects) (list : Listing) (dataset key : Name) → IfSome o (λ m. Generates (Ok summary) (stored_scale m dataset key) m now list dataset key)
     → IfSome o (λ m. WrittenBack m now list dataset key)
 drawn_back summary None now list dataset key generates = tt
@@ -144,20 +148,26 @@ drawn_back summary (Some m) now list dataset key generates = of_list (λ s ws. A
 pub drawn_printed : (summary : Summary) (o now : Option Objects) (number count : ℕ) (dataset key : Name) (out : Outlets) → IfSome o (λ m. Generates (Ok summary) (stored_scale m dataset key) m now (drawn number count) dataset key)
     → Gains out.out_old out.out_new (generated_line count summary.written.objects summary.written.bytes summary.sum) → IfSome o (λ m. GenerateShows Done m now number count dataset key out)
 drawn_printed summary None now number count dataset key out generates gains = tt
-drawn_printed summary (Some m) now number count dataset key out generates gains = stored_line (Gains out.out_old out.out_new) summary m now (drawn number count) count dataset key generates gains
+drawn_printed summary (Some m) now number count dataset key out generates gains =
+    (is_small summary m now (drawn number count) dataset key generates, stored_line (Gains out.out_old out.out_new) summary m now (drawn number count) count dataset key generates gains)
 
 -- all objects of it stand
 all_put : (summary : Summary) (m : Objects) (now : Option Objects) (list : Listing) (dataset key : Name) → Generates (Ok summary) (stored_scale m dataset key) m now list dataset key
-    → IsOkAnd (stored_scale m dataset key) (λ s. FrontPut m now (list s) dataset s)
+    → IsOkAnd (stored_scale m dataset key) (SmallFront m now list dataset)
 all_put summary m now list dataset key generates =
-    ok_and (stored_scale m dataset key) (λ s. IsOkAnd (list s) (HasStored m now dataset key s)) (λ s. FrontPut m now (list s) dataset s)
-    (λ s h. stored_front m now dataset key s (list s) h) (of_list (λ s ws. HasStored m now dataset key s ws) summary m now list dataset key generates (λ s ws stored back is. stored))
+    ok_and (stored_scale m dataset key) (λ s. HasGenerated summary m now (list s) dataset key s) (SmallFront m now list dataset)
+    (λ s h. (
+      h.0,
+      stored_front m now dataset key s (list s)
+          (ok_and (list s) (λ ws. HasStored m now dataset key s ws × AllReadBack now dataset s ws × Summarizes summary dataset s ws) (HasStored m now dataset key s) (λ ws k. k.0) h.1),
+    )) generates
 
 unprinted : (refusal : WriteRefusal) (status : Status) (summary : Summary) (m : Objects) (now : Option Objects) (number count : ℕ) (dataset key : Name) (o : Outlets)
     → Generates (Ok summary) (stored_scale m dataset key) m now (drawn number count) dataset key → Prints (Err refusal) o.out_old o.out_new (generated_line count summary.written.objects summary.written.bytes summary.sum)
     → Reports (write_status refusal) (write_line dataset refusal) status (Tells o) → GenerateShows status m now number count dataset key o
 unprinted OutFault status summary m now number count dataset key o generates prints (inl told) =
-    subst (λ st. GenerateShows st m now number count dataset key o) (sym told.0) (stored_line (GainsFront o.out_old o.out_new) summary m now (drawn number count) count dataset key generates prints)
+    subst (λ st. GenerateShows st m now number count dataset key o) (sym told.0)
+    (is_small summary m now (drawn number count) dataset key generates, stored_line (GainsFront o.out_old o.out_new) summary m now (drawn number count) count dataset key generates prints)
 unprinted OutFault status summary m now number count dataset key o generates prints (inr told) = cc told.1
 unprinted NoMemory status summary m now number count dataset key o generates prints (inl told) =
     subst (λ st. GenerateShows st m now number count dataset key o) (sym told.0) (inr (all_put summary m now (drawn number count) dataset key generates))

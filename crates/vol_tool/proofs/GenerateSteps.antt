@@ -1,5 +1,5 @@
 -- What writing a list that a number makes answers.
-use Rattle.std.proofs.Common.{◌≡◌, ◌∙◌, ℕ, ◌*◌, ◌/◌, ◌^◌, ◌<◌, length, Option, Some, None, IfSome, Result, Ok, Err, true, false, refl, sym, subst, ap, inl, inr, arith}
+use Rattle.std.proofs.Common.{◌≡◌, ◌⊎◌, ◌∙◌, ℕ, ◌*◌, ◌/◌, ◌^◌, ◌<◌, length, Option, Some, None, IfSome, Result, Ok, Err, true, false, refl, sym, subst, ap, inl, inr, arith}
 use Rattle.std.specs.Prelude.{All}
 use Rattle.vol_base.specs.Boxes.{voxels}
 use Rattle.vol_base.specs.Bytes.{AreBytes}
@@ -22,10 +22,10 @@ use Rattle.vectors_vol.proofs.SizeSteps.{some_width}
 use Rattle.vol_tool.proofs.SumSteps.{sum_made, values_in}
 use Rattle.vol_tool.proofs.WriteSteps.{written_front}
 use Rattle.vol_tool.specs.Cutouts.{HasRead, IsUnread, JudgesPart}
-use Rattle.vol_tool.specs.Generating.{Generates, HasGenerated, IsRefusal, IsSmall, IsUnsummed, JudgesWhole, Summarizes, SumsScale, whole_len}
+use Rattle.vol_tool.specs.Generating.{Generates, HasGenerated, IsRefusal, IsSmall, IsUnsummed, JudgesWhole, MayPut, Summarizes, SumsScale, whole_len}
 use Rattle.vol_tool.specs.Refusals.{cutout_status, generate_status, write_status, write_without}
 use Rattle.vol_tool.specs.Scales.{ReadsScale, stored_scale}
-use Rattle.vol_tool.specs.Storing.{AllReadBack, Counts, HasStored, IsReady, Judges, JudgesLimit, KeepsStore, puts, Listing, WritesScale}
+use Rattle.vol_tool.specs.Storing.{AllReadBack, Counts, FrontPut, HasStored, IsReady, Judges, JudgesLimit, KeepsStore, puts, Listing, WritesScale}
 use Rattle.vol_tool.specs.Sums.{sum_in, sum_of}
 use Rattle.vol_tool.specs.declared.generate.Summary.{Summary}
 use Rattle.vol_tool.specs.declared.refusal.CutoutRefusal.{CutoutRefusal}
@@ -120,16 +120,21 @@ untold : (m : Objects) (list : Result Writes PlanFault) (dataset key : Name) (s 
 untold m (Ok ws) dataset key s written h = h.1
 untold m (Err fault) dataset key s written h = h
 
-unsummed : (refusal : CutoutRefusal) (m : Objects) (now : Option Objects) (list : Listing) (dataset key : Name) (s : Scale) (written : Written) → IsUnsummed refusal → WritesScale (Ok written) m now (list s) dataset key s
+unsummed : (refusal : CutoutRefusal) (m : Objects) (now : Option Objects) (list : Listing) (dataset key : Name) (s : Scale) (written : Written) → IsSmall s → IsUnsummed refusal → WritesScale (Ok written) m now (list s) dataset key s
     → IfSome now (λ n. SumsScale (Err refusal) n dataset s) → Generates (Err (Cutout refusal)) (Ok s) m now list dataset key
-unsummed uncut.StoreFault m now list dataset key s written unsound writes sums = inr (written_front m now dataset key s (list s) written writes)
-unsummed uncut.NoMemory m now list dataset key s written unsound writes sums = inr (written_front m now dataset key s (list s) written writes)
-unsummed (uncut.Damaged cell fault) m (Some now) list dataset key s written unsound writes sums = let none = sound m now (list s) dataset key s written writes in cc (none, sums)
-unsummed (uncut.Damaged cell fault) m None list dataset key s written unsound writes sums = untold m (list s) dataset key s written writes
-unsummed (uncut.NoScale why) m now list dataset key s written unsound writes sums = absurd unsound
-unsummed (uncut.Outside told all) m now list dataset key s written unsound writes sums = absurd unsound
-unsummed (uncut.TooLarge bytes) m now list dataset key s written unsound writes sums = absurd unsound
-unsummed uncut.OutFault m now list dataset key s written unsound writes sums = absurd unsound
+unsummed uncut.StoreFault m now list dataset key s written small unsound writes sums = inr (small, written_front m now dataset key s (list s) written writes)
+unsummed uncut.NoMemory m now list dataset key s written small unsound writes sums = inr (small, written_front m now dataset key s (list s) written writes)
+unsummed (uncut.Damaged cell fault) m (Some now) list dataset key s written small unsound writes sums = let none = sound m now (list s) dataset key s written writes in cc (none, sums)
+unsummed (uncut.Damaged cell fault) m None list dataset key s written small unsound writes sums = untold m (list s) dataset key s written writes
+unsummed (uncut.NoScale why) m now list dataset key s written small unsound writes sums = absurd unsound
+unsummed (uncut.Outside told all) m now list dataset key s written small unsound writes sums = absurd unsound
+unsummed (uncut.TooLarge bytes) m now list dataset key s written small unsound writes sums = absurd unsound
+unsummed uncut.OutFault m now list dataset key s written small unsound writes sums = absurd unsound
+
+-- some objects may have been put into a scale that is small
+may_put : (m : Objects) (now : Option Objects) (list : Listing) (dataset : Name) (s : Scale) → IsSmall s → (now ≡ Some m) ⊎ FrontPut m now (list s) dataset s → MayPut (Ok s) m now list dataset
+may_put m now list dataset s small (inl kept) = inl kept
+may_put m now list dataset s small (inr front) = inr (small, front)
 
 -- a list that isn't written
 unwritten : (refusal : WriteRefusal) (m : Objects) (now : Option Objects) (list : Listing) (dataset key : Name) (s : Scale) → IsSmall s → (refusal ≡ FeedFault → ⊥) → Judges (Err refusal) (Ok s) m dataset
@@ -139,10 +144,10 @@ unwritten (TooManyVoxels voxels) m now list dataset key s small fed judges write
 unwritten NotEmpty m now list dataset key s small fed judges writes = judges
 unwritten (Stream fault) m now list dataset key s small fed judges writes = (judges, small, writes)
 unwritten (TooManyCells cells) m now list dataset key s small fed judges writes = (judges, small, writes)
-unwritten StoreFault m now list dataset key s small fed judges writes = writes
+unwritten StoreFault m now list dataset key s small fed judges writes = may_put m now list dataset s small writes
 unwritten FeedFault m now list dataset key s small fed judges writes = absurd (fed refl)
 unwritten OutFault m now list dataset key s small fed judges writes = absurd writes
-unwritten NoMemory m now list dataset key s small fed judges writes = writes
+unwritten NoMemory m now list dataset key s small fed judges writes = may_put m now list dataset s small writes
 
 -- the same where objects may be untold, and the list is read from a stream
 pub unwritten_told : (refusal : WriteRefusal) (o now : Option Objects) (read : Result Writes PlanFault) (list : Listing) (dataset key : Name) (s : Scale) → IsSmall s → (refusal ≡ FeedFault → ⊥) → read ≡ list s
@@ -152,13 +157,13 @@ unwritten_told refusal None now read list dataset key s small fed same judges wr
 unwritten_told refusal (Some m) now read list dataset key s small fed same judges writes =
     unwritten refusal m now list dataset key s small fed judges (subst (λ l. WritesScale (Err refusal) m now l dataset key s) same writes)
 
-pub unsummed_told : (refusal : CutoutRefusal) (o now after : Option Objects) (read : Result Writes PlanFault) (list : Listing) (dataset key : Name) (s : Scale) (written : Written) → IsUnsummed refusal → read ≡ list s → after ≡ now
+pub unsummed_told : (refusal : CutoutRefusal) (o now after : Option Objects) (read : Result Writes PlanFault) (list : Listing) (dataset key : Name) (s : Scale) (written : Written) → IsSmall s → IsUnsummed refusal → read ≡ list s → after ≡ now
     → IfSome o (λ m. WritesScale (Ok written) m now read dataset key s) → IfSome now (λ n. SumsScale (Err refusal) n dataset s)
     → IfSome o (λ m. Generates (Err (Cutout refusal)) (Ok s) m after list dataset key)
-unsummed_told refusal None now after read list dataset key s written unsound same kept writes sums = tt
-unsummed_told refusal (Some m) now after read list dataset key s written unsound same kept writes sums =
+unsummed_told refusal None now after read list dataset key s written small unsound same kept writes sums = tt
+unsummed_told refusal (Some m) now after read list dataset key s written small unsound same kept writes sums =
     subst (λ o. Generates (Err (Cutout refusal)) (Ok s) m o list dataset key) (sym kept)
-    (unsummed refusal m now list dataset key s written unsound (subst (λ l. WritesScale (Ok written) m now l dataset key s) same writes) sums)
+    (unsummed refusal m now list dataset key s written small unsound (subst (λ l. WritesScale (Ok written) m now l dataset key s) same writes) sums)
 
 pub summed_told : (written : Written) (sum : ℕ) (o now after : Option Objects) (read : Result Writes PlanFault) (list : Listing) (dataset key : Name) (s : Scale) → IsSmall s → read ≡ list s → after ≡ now
     → IfSome o (λ m. WritesScale (Ok written) m now read dataset key s) → IfSome now (λ n. SumsScale (Ok sum) n dataset s)

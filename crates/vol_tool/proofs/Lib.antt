@@ -8,7 +8,9 @@ pub mod InfoSteps
 pub mod MemorySteps
 pub mod PlanSteps
 pub mod ReportSteps
+pub mod ReshardSteps
 pub mod ServeSteps
 pub mod StreamSteps
 pub mod SumSteps
+pub mod VerifySteps
 pub mod WriteSteps

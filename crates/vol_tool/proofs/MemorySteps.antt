@@ -1,7 +1,7 @@
 -- Where there is no memory for the words themselves, each command says what it says at that status.
-use Rattle.std.proofs.Common.{◌∙◌, ◌≤◌, ◌+◌, ◌^◌, ℕ, [], Option, Some, None, ap, refl, sym, inl, inr, arith}
+use Rattle.std.proofs.Common.{◌≡◌, ◌∙◌, ◌≤◌, ◌+◌, ◌^◌, ℕ, [], Option, Some, None, ap, refl, subst, sym, inl, inr, arith}
 use Rattle.command_line.specs.declared.commands.Command.{Command}
-use Rattle.command_line.specs.declared.commands.Command.TheVariants.{Cutout, Generate, Serve, Write}
+use Rattle.command_line.specs.declared.commands.Command.TheVariants.{Cutout, Generate, Reshard, Serve, Verify, Write}
 use Rattle.vol_shell.specs.Lines.{memory_line}
 use Rattle.vol_spec.proofs.Told.{in_told}
 use Rattle.vol_spec.specs.Types.{Bytes}
@@ -11,6 +11,7 @@ use Rattle.vol_tool.specs.Cutouts.{cells_cost}
 use Rattle.vol_tool.specs.Scales.{stored_scale}
 use Rattle.vol_tool.specs.Runs.{Answers, Causes, Headline, IsCaused, Keeps, Leaves, Succeeds}
 use Rattle.vol_tool.specs.Seen.{Faults, LeavesStore, outlets, Seen, Tells}
+use Rattle.vol_tool.specs.Servings.{IsBoundTo}
 use Rattle.vol_tool.specs.declared.status.Status.TheVariants.{NoMemory}
 
 -- only the error outlet changed
@@ -22,6 +23,8 @@ memory_answers None before err count = inr refl
 memory_answers (Some (Cutout dataset key part)) before err count = in_told before.objects _ (λ m told. no_front before.out before.out _ refl)
 memory_answers (Some (Write dataset key workers)) before err count = in_told before.objects _ (λ m told. (tt, in_told before.left _ (λ bytes fed. (tt, inl told))))
 memory_answers (Some (Generate dataset key number writes workers)) before err count = in_told before.objects _ (λ m told. inl told)
+memory_answers (Some (Verify dataset key part)) before err count = in_told before.objects _ (λ m told. tt)
+memory_answers (Some (Reshard dataset key to_dataset to_key workers)) before err count = in_told before.objects _ (λ m told. inl told)
 memory_answers (Some (Serve dataset port connections)) before err count =
     in_told before.objects _ (λ m told. in_told before.door.served _ (λ list noted. ([], noted ∙ ap Some (sym (nothing_behind list)), omega arith, inl (omega arith))))
 
@@ -30,6 +33,8 @@ memory_succeeds None before err count = tt
 memory_succeeds (Some (Cutout dataset key part)) before err count = in_told before.objects _ (λ m told can store out. inr refl)
 memory_succeeds (Some (Write dataset key workers)) before err count = in_told before.objects _ (λ m told. in_told before.left _ (λ bytes fed can store feed out. inr refl))
 memory_succeeds (Some (Generate dataset key number writes workers)) before err count = in_told before.objects _ (λ m told can store out. inr refl)
+memory_succeeds (Some (Verify dataset key part)) before err count = in_told before.objects _ (λ m told can store out. inr refl)
+memory_succeeds (Some (Reshard dataset key to_dataset to_key workers)) before err count = in_told before.objects _ (λ m told can store out. inr refl)
 memory_succeeds (Some (Serve dataset port connections)) before err count = λ door out. inr refl
 
 pub memory_headline : (command : Option Command) (before : Seen) (err : Option Bytes) (count : ℕ) → Headline command NoMemory before (said_only before err count)
@@ -37,14 +42,18 @@ memory_headline None before err count = tt
 memory_headline (Some (Cutout dataset key part)) before err count = tt
 memory_headline (Some (Write dataset key workers)) before err count = λ done. absurd (cc done)
 memory_headline (Some (Generate dataset key number writes workers)) before err count = λ done. absurd (cc done)
+memory_headline (Some (Verify dataset key part)) before err count = tt
+memory_headline (Some (Reshard dataset key to_dataset to_key workers)) before err count = tt
 memory_headline (Some (Serve dataset port connections)) before err count = tt
 
-pub memory_leaves : (command : Option Command) (before : Seen) (err : Option Bytes) (count : ℕ) → Tells (outlets before (said_only before err count)) memory_line → Leaves command NoMemory before (said_only before err count)
-memory_leaves None before err count said = (refl, said)
-memory_leaves (Some (Cutout dataset key part)) before err count said = said
-memory_leaves (Some (Write dataset key workers)) before err count said = (refl, said)
-memory_leaves (Some (Generate dataset key number writes workers)) before err count said = (refl, said)
-memory_leaves (Some (Serve dataset port connections)) before err count said = (inl refl, said)
+pub memory_leaves : (command : Option Command) (before : Seen) (err : Option Bytes) (count : ℕ) → before.door.bound ≡ None → Tells (outlets before (said_only before err count)) memory_line → Leaves command NoMemory before (said_only before err count)
+memory_leaves None before err count unbound said = (refl, said)
+memory_leaves (Some (Cutout dataset key part)) before err count unbound said = said
+memory_leaves (Some (Write dataset key workers)) before err count unbound said = (refl, said)
+memory_leaves (Some (Generate dataset key number writes workers)) before err count unbound said = (refl, said)
+memory_leaves (Some (Verify dataset key part)) before err count unbound said = (refl, said)
+memory_leaves (Some (Reshard dataset key to_dataset to_key workers)) before err count unbound said = (refl, said)
+memory_leaves (Some (Serve dataset port connections)) before err count unbound said = (subst (IsBoundTo port) (sym unbound) tt, inl refl, said)
 
 reads : (before : Seen) (err : Option Bytes) (count : ℕ) → LeavesStore before (said_only before err count)
 reads before err count = record { same_objects = refl; same_draft = refl }
@@ -55,7 +64,9 @@ memory_keeps (Some (Cutout dataset key part)) before err count =
     (reads before err count, refl, refl, asks_none before.objects (λ m. 2 ^ 20 + 1 + cells_cost (stored_scale m dataset key) m dataset part) before.asked)
 memory_keeps (Some (Write dataset key workers)) before err count = (inr refl, λ no. reads before err count, λ done. absurd (cc done), λ refused. refl, refl)
 memory_keeps (Some (Generate dataset key number writes workers)) before err count = (inr refl, λ no. reads before err count, refl, refl)
-memory_keeps (Some (Serve dataset port connections)) before err count = (reads before err count, refl, (0, omega arith, omega arith))
+memory_keeps (Some (Verify dataset key part)) before err count = (reads before err count, refl, refl)
+memory_keeps (Some (Reshard dataset key to_dataset to_key workers)) before err count = (λ done. absurd (cc done), λ no. reads before err count, refl, refl)
+memory_keeps (Some (Serve dataset port connections)) before err count = (reads before err count, refl, (0, omega arith, omega arith), in_told before.out _ (λ bytes gained same. refl))
 
 caused : (before : Faults) (count : ℕ) → before.err ≤ count → IsCaused NoMemory before (record before { err = count })
 caused before count later = record {
@@ -72,4 +83,6 @@ memory_causes None before count later = (caused before count later, refl, refl, 
 memory_causes (Some (Cutout dataset key part)) before count later = (caused before count later, refl, refl)
 memory_causes (Some (Write dataset key workers)) before count later = (caused before count later, refl)
 memory_causes (Some (Generate dataset key number writes workers)) before count later = (caused before count later, refl, refl)
+memory_causes (Some (Verify dataset key part)) before count later = (caused before count later, refl, refl)
+memory_causes (Some (Reshard dataset key to_dataset to_key workers)) before count later = (caused before count later, refl, refl)
 memory_causes (Some (Serve dataset port connections)) before count later = (caused before count later, refl)

@@ -1,14 +1,18 @@
 -- What `serve` answers, by what opening the door and serving its ends answer.
-use Rattle.std.proofs.Common.{◌≡◌, ◌∙◌, ℕ, ◌+◌, List, ◌++◌, length, ◌≢◌, ◌-◌, Option, Some, None, IfSome, ap, sym, inr, subst, arith}
+use Rattle.std.proofs.Common.{◌≡◌, ◌∙◌, ℕ, ◌+◌, ◌<◌, List, [], ◌∷◌, ◌++◌, length, length-append, codes, ◌≢◌, ◌-◌, Option, Some, None, IfSome, ap, sym, inr, subst, arith}
 use Rattle.vol_base.specs.Outside.{Ended, Objects}
 use Rattle.range_server.specs.Bodies.{WhereTold}
 use Rattle.range_server.specs.Serving.{AddsServed, EndsBy, GaveBefore}
 use Rattle.range_server.specs.declared.fault.DoorRefusal.{DoorRefusal}
 use Rattle.range_server.specs.declared.fault.DoorRefusal.TheVariants as refusal
 use Rattle.vol_spec.proofs.Told.{in_told}
-use Rattle.vol_spec.specs.Types.{Name}
+use Rattle.std.specs.Fmt.{decimal}
+use Rattle.vol_base.specs.FaultTexts.{texts}
+use Rattle.vol_shell.specs.Effects.{Gains}
+use Rattle.vol_shell.specs.Lines.{line_feed, listening_line}
+use Rattle.vol_spec.specs.Types.{Bytes, Name}
 use Rattle.vol_tool.specs.Seen.{Doorway, Ends, Outlets, Tells}
-use Rattle.vol_tool.specs.Servings.{AcceptsEnds, AreServed, PortTold, SaysFixed, ServeLeaves, serve_status, ServeShows}
+use Rattle.vol_tool.specs.Servings.{AcceptsEnds, AreServed, IsBoundTo, PortTold, SaysFixed, ServeLeaves, serve_status, ServeShows, TellsFirst, TellsPort}
 use Rattle.vol_tool.specs.Statuses.{fixed_line}
 use Rattle.vol_tool.specs.declared.refusal.ServeRefusal.{ServeRefusal}
 use Rattle.vol_tool.specs.declared.refusal.ServeRefusal.TheVariants as refused
@@ -69,10 +73,10 @@ says_line refused.OutFault o said = said
 says_line refused.NoMemory o said = said
 says_line refused.DoorFault o said = said
 
-pub serve_left : (why : ServeRefusal) (status : Status) (bound : Option ℕ) (o : Outlets) → status ≡ serve_status why → PortTold (serve_status why) bound o.out_old o.out_new
-    → IfSome (fixed_line status) (Tells o) → ServeLeaves status bound o
-serve_left why status bound o e told said =
-    (subst (λ s. PortTold s bound o.out_old o.out_new) (sym e) told, subst (λ s. SaysFixed (fixed_line s) o) (sym e) (says_line why o (subst (λ s. IfSome (fixed_line s) (Tells o)) e said)))
+pub serve_left : (why : ServeRefusal) (status : Status) (port : ℕ) (bound : Option ℕ) (o : Outlets) → status ≡ serve_status why → IsBoundTo port bound
+    → PortTold (serve_status why) bound o.out_old o.out_new → IfSome (fixed_line status) (Tells o) → ServeLeaves status port bound o
+serve_left why status port bound o e asked told said =
+    (asked, subst (λ s. PortTold s bound o.out_old o.out_new) (sym e) told, subst (λ s. SaysFixed (fixed_line s) o) (sym e) (says_line why o (subst (λ s. IfSome (fixed_line s) (Tells o)) e said)))
 
 pub not_quiet : {A : Type 0} (why : ServeRefusal) (status : Status) → status ≡ serve_status why → status ≡ Ok → A
 not_quiet why status e done = by_case why (sym e ∙ done)
@@ -81,3 +85,17 @@ not_quiet why status e done = by_case why (sym e ∙ done)
     by_case refused.OutFault e = absurd (cc e)
     by_case refused.NoMemory e = absurd (cc e)
     by_case refused.DoorFault e = absurd (cc e)
+
+-- an output that gained the port's line gained something
+line_of_port : (port : ℕ) → 0 < length (listening_line port)
+line_of_port port = omega (arith, length-append (codes "listening ") (texts (decimal port ∷ line_feed ∷ [])))
+
+gained_some : (old new : Option Bytes) (line : Bytes) (before after : Doorway) → 0 < length line → Gains old new line → TellsFirst old new before after
+gained_some None new line before after some gains = tt
+gained_some (Some bytes) new line before after some gains = λ same.
+    let longer : bytes ++ line ≡ bytes = cc (gains, same) in
+    absurd (omega (arith, some, ap length longer, length-append bytes line))
+
+pub told_first : (bound : Option ℕ) (old new : Option Bytes) (before after : Doorway) → TellsPort bound old new → TellsFirst old new before after
+told_first None old new before after told = absurd told
+told_first (Some port) old new before after told = gained_some old new (listening_line port) before after (line_of_port port) told

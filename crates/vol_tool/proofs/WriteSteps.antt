@@ -192,7 +192,7 @@ stored_line Gained written m now list dataset key writes prints =
     (λ s ws stored back counts. (stored, subst Gained (line_is written dataset s ws counts) prints))
 
 -- and not printed
-front_all : (m : Objects) (now : Option Objects) (list : Listed) → now ≡ Some (put_in m list) → PutsFront list m now
+pub front_all : (m : Objects) (now : Option Objects) (list : Listed) → now ≡ Some (put_in m list) → PutsFront list m now
 front_all m now list put = record { count = length list; within = omega arith; put = put ∙ ap (λ xs. Some (put_in m xs)) (sym (take_all (length list) list (omega arith))) }
 
 pub stored_front : (m : Objects) (now : Option Objects) (dataset key : Name) (s : Scale) (list : Result Writes PlanFault) → IsOkAnd list (HasStored m now dataset key s) → FrontPut m now list dataset s

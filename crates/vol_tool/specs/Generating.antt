@@ -75,9 +75,13 @@ abbrev pub HasGenerated : Summary → Objects → Option Objects → Result Writ
 HasGenerated summary m now list dataset key s =
     IsSmall s × IsOkAnd list (λ writes. HasStored m now dataset key s writes × AllReadBack now dataset s writes × Summarizes summary dataset s writes)
 
--- some objects of a list may have been put
+-- a front of the objects of a list was put into a scale that is small
+abbrev pub SmallFront : Objects → Option Objects → Listing → Name → Scale → Type 0
+SmallFront m now list dataset s = IsSmall s × FrontPut m now (list s) dataset s
+
+-- some objects of a list may have been put, but none into a scale that isn't small
 abbrev pub MayPut : Result Scale NoScale → Objects → Option Objects → Listing → Name → Type 0
-MayPut told m now list dataset = (now ≡ Some m) ⊎ IsOkAnd told (λ s. FrontPut m now (list s) dataset s)
+MayPut told m now list dataset = (now ≡ Some m) ⊎ IsOkAnd told (SmallFront m now list dataset)
 
 -- what `generate` answers before it prints, by the scale that is told, and what stands after it. No cell is found damaged
 abbrev pub Generates : Result Summary GenerateRefusal → Result Scale NoScale → Objects → Option Objects → Listing → Name → Name → Type 0
@@ -130,7 +134,10 @@ GenerateShows Usage m now number count dataset key o = ⊥
 GenerateShows Damaged m now number count dataset key o = ⊥
 GenerateShows FeedFault m now number count dataset key o = ⊥
 GenerateShows DoorFault m now number count dataset key o = ⊥
-GenerateShows status m now number count dataset key o = ListShows status m now (drawn number count) dataset key (summary_line count dataset) o
+GenerateShows StoreFault m now number count dataset key o = MayPut (stored_scale m dataset key) m now (drawn number count) dataset
+GenerateShows NoMemory m now number count dataset key o = MayPut (stored_scale m dataset key) m now (drawn number count) dataset
+GenerateShows status m now number count dataset key o =
+    IsOkAnd (stored_scale m dataset key) IsSmall × ListShows status m now (drawn number count) dataset key (summary_line count dataset) o
 
 -- the scale is there, ready and small, and the list can be written
 abbrev pub CanGenerate : Objects → ℕ → ℕ → Name → Name → Type 0

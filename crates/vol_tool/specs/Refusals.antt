@@ -1,9 +1,9 @@
 -- The statuses and the lines of refusals.
 use Rattle.std.specs.Prelude.{codes}
-use Rattle.info_doc.specs.Texts.{fault_text as info_fault_text}
+use Rattle.info_doc.specs.Texts.{fault_text as info_fault_text, item_text}
 use Rattle.info_doc.specs.declared.fault.InfoFault.{InfoFault}
 use Rattle.info_doc.specs.declared.fault.InfoFault.TheVariants.{OutOfMemory as InfoMemory}
-use Rattle.vol_shell.specs.Lines.{cells_line, damaged_line, feed_line, folder_line, info_line, large_line, memory_line, outside_line, output_line, store_line, stream_line, voxels_line}
+use Rattle.vol_shell.specs.Lines.{cells_line, damaged_line, differs_line, feed_line, folder_line, info_line, large_line, memory_line, misplaced_line, outside_line, output_line, store_line, stream_line, voxels_line}
 use Rattle.vol_spec.specs.Types.{Bytes, Name}
 use Rattle.vol_tool.specs.declared.refusal.CutoutRefusal.{CutoutRefusal}
 use Rattle.vol_tool.specs.declared.refusal.CutoutRefusal.TheVariants as cutout
@@ -11,8 +11,12 @@ use Rattle.vol_tool.specs.declared.refusal.GenerateRefusal.{GenerateRefusal}
 use Rattle.vol_tool.specs.declared.refusal.GenerateRefusal.TheVariants.{Write, Cutout}
 use Rattle.vol_tool.specs.declared.refusal.NoScale.{NoScale}
 use Rattle.vol_tool.specs.declared.refusal.NoScale.TheVariants.{Absent, Refused}
+use Rattle.vol_tool.specs.declared.refusal.ReshardRefusal.{ReshardRefusal}
+use Rattle.vol_tool.specs.declared.refusal.ReshardRefusal.TheVariants as reshard
 use Rattle.vol_tool.specs.declared.refusal.ScaleRefusal.{ScaleRefusal}
 use Rattle.vol_tool.specs.declared.refusal.ScaleRefusal.TheVariants as scale
+use Rattle.vol_tool.specs.declared.refusal.VerifyRefusal.{VerifyRefusal}
+use Rattle.vol_tool.specs.declared.refusal.VerifyRefusal.TheVariants as verify
 use Rattle.vol_tool.specs.declared.refusal.WriteRefusal.{WriteRefusal}
 use Rattle.vol_tool.specs.declared.refusal.WriteRefusal.TheVariants as write
 use Rattle.vol_tool.specs.declared.status.Status.{Status}
@@ -103,3 +107,55 @@ generate_status (Cutout refusal) = cutout_status refusal
 abbrev pub generate_line : Name → GenerateRefusal → Bytes
 generate_line dataset (Write refusal) = write_line dataset refusal
 generate_line dataset (Cutout refusal) = cutout_line dataset refusal
+
+-- what a scale that isn't read is, as a refusal of a judgement
+abbrev pub verify_without : ScaleRefusal → VerifyRefusal
+verify_without (scale.NoScale why) = verify.NoScale why
+verify_without scale.StoreFault = verify.StoreFault
+verify_without scale.NoMemory = verify.NoMemory
+
+abbrev pub verify_status : VerifyRefusal → Status
+verify_status (verify.NoScale why) = InfoRefused
+verify_status (verify.Outside part whole) = RequestRefused
+verify_status (verify.TooManyCells cells) = RequestRefused
+verify_status (verify.Damaged cell fault) = Damaged
+verify_status (verify.Misplaced shard minishard id) = Damaged
+verify_status verify.StoreFault = StoreFault
+verify_status verify.NoMemory = NoMemory
+
+abbrev pub verify_line : Name → VerifyRefusal → Bytes
+verify_line dataset (verify.NoScale why) = info_line dataset (info_text why)
+verify_line dataset (verify.Outside part whole) = outside_line part whole
+verify_line dataset (verify.TooManyCells cells) = cells_line cells
+verify_line dataset (verify.Damaged cell fault) = damaged_line cell fault
+verify_line dataset (verify.Misplaced shard minishard id) = misplaced_line shard minishard id
+verify_line dataset verify.StoreFault = store_line
+verify_line dataset verify.NoMemory = memory_line
+
+-- what a scale that isn't read is, as a refusal of a copy of it
+abbrev pub reshard_without : ScaleRefusal → ReshardRefusal
+reshard_without (scale.NoScale why) = reshard.NoSource why
+reshard_without scale.StoreFault = reshard.StoreFault
+reshard_without scale.NoMemory = reshard.NoMemory
+
+abbrev pub reshard_status : ReshardRefusal → Status
+reshard_status (reshard.NoSource why) = InfoRefused
+reshard_status (reshard.NoTarget why) = InfoRefused
+reshard_status (reshard.TooManyVoxels voxels) = RequestRefused
+reshard_status (reshard.Differs item) = RequestRefused
+reshard_status (reshard.TooManyCells cells) = RequestRefused
+reshard_status reshard.NotEmpty = RequestRefused
+reshard_status (reshard.Damaged cell fault) = Damaged
+reshard_status reshard.StoreFault = StoreFault
+reshard_status reshard.NoMemory = NoMemory
+
+abbrev pub reshard_line : Name → ReshardRefusal → Bytes
+reshard_line dataset (reshard.NoSource why) = info_line dataset (info_text why)
+reshard_line dataset (reshard.NoTarget why) = info_line dataset (info_text why)
+reshard_line dataset (reshard.TooManyVoxels voxels) = voxels_line voxels
+reshard_line dataset (reshard.Differs item) = differs_line (item_text item)
+reshard_line dataset (reshard.TooManyCells cells) = cells_line cells
+reshard_line dataset reshard.NotEmpty = folder_line
+reshard_line dataset (reshard.Damaged cell fault) = damaged_line cell fault
+reshard_line dataset reshard.StoreFault = store_line
+reshard_line dataset reshard.NoMemory = memory_line

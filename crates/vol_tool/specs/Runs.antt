@@ -3,15 +3,17 @@ use Rattle.std.specs.Prelude.{◌≡◌, ◌⊎◌, false, [], Option, None, Som
 use Rattle.std.specs.Option.{option_map}
 use Rattle.vol_base.specs.Causes.{Rose}
 use Rattle.command_line.specs.declared.commands.Command.{Command}
-use Rattle.command_line.specs.declared.commands.Command.TheVariants.{Cutout, Generate, Serve, Write}
+use Rattle.command_line.specs.declared.commands.Command.TheVariants.{Cutout, Generate, Reshard, Serve, Verify, Write}
 use Rattle.shard_writer.specs.Writing.{Drops}
 use Rattle.write_plan.specs.Stream.{writes_of}
 use Rattle.vol_shell.specs.Lines.{memory_line, usage_line}
 use Rattle.vol_tool.specs.Cutouts.{AsksFor, CanCut, CutoutLeaves, CutoutShows}
 use Rattle.vol_tool.specs.Generating.{CanGenerate, drawn, GenerateLeaves, GenerateShows}
+use Rattle.vol_tool.specs.Resharding.{CanReshard, ReshardLeaves, ReshardShows}
 use Rattle.vol_tool.specs.Seen.{Faults, IsLater, LeavesStore, Outlets, outlets, Seen, Silent, Tells}
-use Rattle.vol_tool.specs.Servings.{AcceptsEnds, ServeLeaves, ServeShows}
+use Rattle.vol_tool.specs.Servings.{AcceptsEnds, ServeLeaves, ServeShows, TellsFirst}
 use Rattle.vol_tool.specs.Storing.{CanWrite, puts, WriteJudges, WriteLeaves, WriteShows, WrittenBack}
+use Rattle.vol_tool.specs.Verifying.{CanVerify, VerifyLeaves, VerifyShows}
 use Rattle.vol_tool.specs.declared.status.Status.{Status}
 use Rattle.vol_tool.specs.declared.status.Status.TheVariants.{Ok, Usage, InfoRefused, StoreFault, FeedFault, OutFault, NoMemory, DoorFault}
 
@@ -25,6 +27,10 @@ Answers (Some (Write dataset key workers)) status before after =
     × IfSome before.left (λ bytes. WriteShows status m after.objects bytes after.left dataset key (outlets before after)))
 Answers (Some (Generate dataset key number count workers)) status before after =
     IfSome before.objects (λ m. GenerateShows status m after.objects number count dataset key (outlets before after))
+Answers (Some (Verify dataset key part)) status before after =
+    IfSome before.objects (λ m. VerifyShows status m dataset key part (outlets before after))
+Answers (Some (Reshard dataset key to_dataset to_key workers)) status before after =
+    IfSome before.objects (λ m. ReshardShows status m after.objects dataset key to_dataset to_key (outlets before after))
 Answers (Some (Serve dataset port connections)) status before after =
     IfSome before.objects (λ m. ServeShows status m dataset before.door after.door before.faults.store after.faults.store)
 
@@ -45,6 +51,12 @@ Succeeds (Some (Write dataset key workers)) status before after =
 Succeeds (Some (Generate dataset key number count workers)) status before after =
     IfSome before.objects (λ m. CanGenerate m number count dataset key
     → ¬ Rose before.faults.store after.faults.store → ¬ Rose before.faults.out after.faults.out → EndsWell status)
+Succeeds (Some (Verify dataset key part)) status before after =
+    IfSome before.objects (λ m. CanVerify m dataset key part
+    → ¬ Rose before.faults.store after.faults.store → ¬ Rose before.faults.out after.faults.out → EndsWell status)
+Succeeds (Some (Reshard dataset key to_dataset to_key workers)) status before after =
+    IfSome before.objects (λ m. CanReshard m dataset key to_dataset to_key
+    → ¬ Rose before.faults.store after.faults.store → ¬ Rose before.faults.out after.faults.out → EndsWell status)
 Succeeds (Some (Serve dataset port connections)) status before after =
     ¬ Rose before.faults.door after.faults.door → ¬ Rose before.faults.out after.faults.out → EndsWell status
 
@@ -57,6 +69,8 @@ Headline (Some (Write dataset key workers)) status before after =
     status ≡ Ok → IfSome before.objects (λ m. IfSome before.left (λ bytes. WrittenBack m after.objects (writes_of bytes) dataset key))
 Headline (Some (Generate dataset key number count workers)) status before after =
     status ≡ Ok → IfSome before.objects (λ m. WrittenBack m after.objects (drawn number count) dataset key)
+Headline (Some (Verify dataset key part)) status before after = Unit {0}
+Headline (Some (Reshard dataset key to_dataset to_key workers)) status before after = Unit {0}
 Headline (Some (Serve dataset port connections)) status before after = Unit {0}
 
 -- what words that are no command line leave
@@ -71,7 +85,9 @@ Leaves None status before after = UsageLeaves status (outlets before after)
 Leaves (Some (Cutout dataset key part)) status before after = CutoutLeaves status dataset part (outlets before after)
 Leaves (Some (Write dataset key workers)) status before after = WriteLeaves status dataset (outlets before after)
 Leaves (Some (Generate dataset key number count workers)) status before after = GenerateLeaves status dataset count (outlets before after)
-Leaves (Some (Serve dataset port connections)) status before after = ServeLeaves status after.door.bound (outlets before after)
+Leaves (Some (Verify dataset key part)) status before after = VerifyLeaves status dataset part (outlets before after)
+Leaves (Some (Reshard dataset key to_dataset to_key workers)) status before after = ReshardLeaves status dataset to_dataset (outlets before after)
+Leaves (Some (Serve dataset port connections)) status before after = ServeLeaves status port after.door.bound (outlets before after)
 
 -- What stays of the store, the feed and the door.
 abbrev pub Keeps : Option Command → Status → Seen → Seen → Type 0
@@ -90,9 +106,17 @@ Keeps (Some (Write dataset key workers)) status before after =
 Keeps (Some (Generate dataset key number count workers)) status before after =
     Drops before.draft after.draft × (puts status ≡ false → LeavesStore before after)
     × (after.left ≡ before.left) × (after.door ≡ before.door)
--- no more ends are taken from the door than were asked for
+-- nothing but an outlet changes
+Keeps (Some (Verify dataset key part)) status before after =
+    LeavesStore before after × (after.left ≡ before.left) × (after.door ≡ before.door)
+-- no object stays half written that was begun in a call that succeeds, and the feed isn't read
+Keeps (Some (Reshard dataset key to_dataset to_key workers)) status before after =
+    (status ≡ Ok → Drops before.draft after.draft) × (puts status ≡ false → LeavesStore before after)
+    × (after.left ≡ before.left) × (after.door ≡ before.door)
+-- no more ends are taken from the door than were asked for, and none before the port is told
 Keeps (Some (Serve dataset port connections)) status before after =
     LeavesStore before after × (after.left ≡ before.left) × AcceptsEnds status connections before.door after.door
+    × TellsFirst before.out after.out before.door after.door
 
 -- no count falls, a fault comes only where its count rose, and at success nothing was told, so nothing failed to be
 pub record IsCaused (status : Status) (before after : Faults) : Type 0 where
@@ -112,5 +136,9 @@ Causes (Some (Cutout dataset key part)) status before after =
     IsCaused status before after × (after.feed ≡ before.feed) × (after.door ≡ before.door)
 Causes (Some (Write dataset key workers)) status before after = IsCaused status before after × (after.door ≡ before.door)
 Causes (Some (Generate dataset key number count workers)) status before after =
+    IsCaused status before after × (after.feed ≡ before.feed) × (after.door ≡ before.door)
+Causes (Some (Verify dataset key part)) status before after =
+    IsCaused status before after × (after.feed ≡ before.feed) × (after.door ≡ before.door)
+Causes (Some (Reshard dataset key to_dataset to_key workers)) status before after =
     IsCaused status before after × (after.feed ≡ before.feed) × (after.door ≡ before.door)
 Causes (Some (Serve dataset port connections)) status before after = IsCaused status before after × (after.feed ≡ before.feed)

@@ -1,5 +1,5 @@
 -- What `serve` answers, and what stands after it.
-use Rattle.std.specs.Prelude.{◌≡◌, ◌⊎◌, ℕ, ◌+◌, ◌<◌, ◌≤◌, ◌++◌, length, Option, Some, None, Result, Ok as Done, Err, ⊤, IfSome, IsSomeAnd}
+use Rattle.std.specs.Prelude.{◌≡◌, ◌≢◌, ◌⊎◌, ℕ, ◌+◌, ◌<◌, ◌≤◌, ◌++◌, length, Option, Some, None, Result, Ok as Done, Err, ⊤, IfSome, IsSomeAnd}
 use Rattle.vol_base.specs.Outside.{Objects}
 use Rattle.range_server.specs.Serving.{EndsCutShort, EndsServed}
 use Rattle.vol_shell.specs.Effects.{Gains, GainsFront}
@@ -56,6 +56,10 @@ GivesEnds other wanted given = ⊥
 abbrev pub AcceptsEnds : Status → ℕ → Doorway → Doorway → Type 0
 AcceptsEnds status wanted before after = (given : ℕ) × (after.accepted ≡ before.accepted + given) × GivesEnds status wanted given
 
+-- no end is given before the port is told: none where the output gained nothing
+abbrev pub TellsFirst : Option Bytes → Option Bytes → Doorway → Doorway → Type 0
+TellsFirst old new before after = IfSome old (λ bytes. new ≡ Some bytes → after.accepted ≡ before.accepted)
+
 -- how ends were served, while the store's count of faults went from one number to another: to the end, or until the link or the store
 -- failed; where memory ran out, perhaps amid the last of them
 abbrev pub AreServed : Status → Objects → Name → ℕ → ℕ → Ends → Type 0
@@ -73,6 +77,10 @@ abbrev pub SaysFixed : Option Bytes → Outlets → Type 0
 SaysFixed None o = o.err_new ≡ o.err_old
 SaysFixed (Some line) o = Tells o line
 
+-- a door that is bound is bound to the port that was asked for, or to any where that was 0
+abbrev pub IsBoundTo : ℕ → Option ℕ → Type 0
+IsBoundTo port = λ bound. IfSome bound (λ found. port ≢ 0 → found ≡ port)
+
 -- what `serve` leaves, also where nothing is told
-abbrev pub ServeLeaves : Status → Option ℕ → Outlets → Type 0
-ServeLeaves status bound o = PortTold status bound o.out_old o.out_new × SaysFixed (fixed_line status) o
+abbrev pub ServeLeaves : Status → ℕ → Option ℕ → Outlets → Type 0
+ServeLeaves status port bound o = IsBoundTo port bound × PortTold status bound o.out_old o.out_new × SaysFixed (fixed_line status) o

@@ -2,11 +2,15 @@
 use Rattle.std.specs.Prelude.{◌≡◌, ◌⊎◌, ℕ, Option, Some, None, IfSome, refl}
 use Rattle.vol_shell.specs.Lines.{door_line, feed_line, memory_line, output_line, store_line, usage_line}
 use Rattle.vol_spec.specs.Types.{Bytes, Name}
-use Rattle.vol_tool.specs.Refusals.{cutout_line, cutout_status, generate_line, generate_status, write_line, write_status}
+use Rattle.vol_tool.specs.Refusals.{cutout_line, cutout_status, generate_line, generate_status, reshard_line, reshard_status, verify_line, verify_status, write_line, write_status}
 use Rattle.vol_tool.specs.declared.refusal.CutoutRefusal.{CutoutRefusal}
 use Rattle.vol_tool.specs.declared.refusal.CutoutRefusal.TheVariants as cutout
 use Rattle.vol_tool.specs.declared.refusal.GenerateRefusal.{GenerateRefusal}
 use Rattle.vol_tool.specs.declared.refusal.GenerateRefusal.TheVariants.{Write, Cutout}
+use Rattle.vol_tool.specs.declared.refusal.ReshardRefusal.{ReshardRefusal}
+use Rattle.vol_tool.specs.declared.refusal.ReshardRefusal.TheVariants as reshard
+use Rattle.vol_tool.specs.declared.refusal.VerifyRefusal.{VerifyRefusal}
+use Rattle.vol_tool.specs.declared.refusal.VerifyRefusal.TheVariants as verify
 use Rattle.vol_tool.specs.declared.refusal.WriteRefusal.{WriteRefusal}
 use Rattle.vol_tool.specs.declared.refusal.WriteRefusal.TheVariants as write
 use Rattle.vol_tool.specs.declared.status.Status.{Status}
@@ -66,3 +70,23 @@ write_fixed dataset write.NoMemory = refl
 pub generate_fixed : (dataset : Name) (refusal : GenerateRefusal) → IfSome (fixed_line (generate_status refusal)) (λ text. generate_line dataset refusal ≡ text)
 generate_fixed dataset (Write refusal) = write_fixed dataset refusal
 generate_fixed dataset (Cutout refusal) = cutout_fixed dataset refusal
+
+pub verify_fixed : (dataset : Name) (refusal : VerifyRefusal) → IfSome (fixed_line (verify_status refusal)) (λ text. verify_line dataset refusal ≡ text)
+verify_fixed dataset (verify.NoScale why) = tt
+verify_fixed dataset (verify.Outside part whole) = tt
+verify_fixed dataset (verify.TooManyCells cells) = tt
+verify_fixed dataset (verify.Damaged cell fault) = tt
+verify_fixed dataset (verify.Misplaced shard minishard id) = tt
+verify_fixed dataset verify.StoreFault = refl
+verify_fixed dataset verify.NoMemory = refl
+
+pub reshard_fixed : (dataset : Name) (refusal : ReshardRefusal) → IfSome (fixed_line (reshard_status refusal)) (λ text. reshard_line dataset refusal ≡ text)
+reshard_fixed dataset (reshard.NoSource why) = tt
+reshard_fixed dataset (reshard.NoTarget why) = tt
+reshard_fixed dataset (reshard.TooManyVoxels voxels) = tt
+reshard_fixed dataset (reshard.Differs item) = tt
+reshard_fixed dataset (reshard.TooManyCells cells) = tt
+reshard_fixed dataset reshard.NotEmpty = tt
+reshard_fixed dataset (reshard.Damaged cell fault) = tt
+reshard_fixed dataset reshard.StoreFault = refl
+reshard_fixed dataset reshard.NoMemory = refl

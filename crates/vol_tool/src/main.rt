@@ -8,12 +8,14 @@ mod generate;
 mod info;
 mod refusal;
 mod report;
+mod reshard;
 mod serving;
 mod status;
 mod sums;
 #[cfg(test)]
 mod tests;
 mod top;
+mod verify;
 mod write;
 
 use report::tell;

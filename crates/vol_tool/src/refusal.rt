@@ -1,7 +1,7 @@
 //! Why a command was refused.
 
 use crate::status::Status;
-use info_doc::InfoFault;
+use info_doc::{InfoFault, Item};
 use std::alloc::AllocError;
 use vol_base::{Box3, Fault, OutOfMemory};
 use write_plan::{PlanFault, PlanRefusal};
@@ -63,6 +63,45 @@ pub(crate) enum WriteRefusal {
 pub(crate) enum GenerateRefusal {
     Write(WriteRefusal),
     Cutout(CutoutRefusal),
+}
+
+/// Why `verify` was refused.
+#[derive(Clone, Copy, Debug, PartialEq, Eq)]
+pub(crate) enum VerifyRefusal {
+    /// There is no scale.
+    NoScale(NoScale),
+    /// The box isn't inside the scale, all of which is the whole.
+    Outside { part: Box3, whole: Box3 },
+    /// More cells meet the box than are judged: so many.
+    TooManyCells(u128),
+    /// The first cell with which something is wrong, where that is a fault.
+    Damaged { cell: [u64; 3], fault: Fault },
+    /// Or else a row of its index whose id belongs into another: the shard and the minishard that have the row, and the
+    /// id.
+    Misplaced { shard: u64, minishard: u64, id: u64 },
+    StoreFault,
+    NoMemory,
+}
+
+/// Why `reshard` was refused.
+#[derive(Clone, Copy, Debug, PartialEq, Eq)]
+pub(crate) enum ReshardRefusal {
+    /// There is no scale that is copied,
+    NoSource(NoScale),
+    /// or none that is copied into.
+    NoTarget(NoScale),
+    /// The target has more padded voxels times channels than are written: so many.
+    TooManyVoxels(u64),
+    /// The first item in which the scales differ.
+    Differs(Item),
+    /// The first grid that has more cells than are copied: so many.
+    TooManyCells(u128),
+    /// An object stands under the folder of the target.
+    NotEmpty,
+    /// The first cell of the source that has a fault.
+    Damaged { cell: [u64; 3], fault: Fault },
+    StoreFault,
+    NoMemory,
 }
 
 /// Why `serve` was refused.
@@ -162,6 +201,36 @@ impl From<ScaleRefusal> for WriteRefusal {
             ScaleRefusal::NoScale(why) => WriteRefusal::NoScale(why),
             ScaleRefusal::StoreFault => WriteRefusal::StoreFault,
             ScaleRefusal::NoMemory => WriteRefusal::NoMemory,
+        }
+    }
+}
+
+impl From<ScaleRefusal> for VerifyRefusal {
+    ghost use Rattle.std.specs.Prelude.{◌≡◌};
+    ghost use Rattle.vol_tool.specs.Refusals.{verify_without};
+
+    ghost from_gives = { λ refusal e. e ≡ verify_without refusal };
+
+    fn from(refusal: ScaleRefusal) -> VerifyRefusal {
+        match refusal {
+            ScaleRefusal::NoScale(why) => VerifyRefusal::NoScale(why),
+            ScaleRefusal::StoreFault => VerifyRefusal::StoreFault,
+            ScaleRefusal::NoMemory => VerifyRefusal::NoMemory,
+        }
+    }
+}
+
+impl From<ScaleRefusal> for ReshardRefusal {
+    ghost use Rattle.std.specs.Prelude.{◌≡◌};
+    ghost use Rattle.vol_tool.specs.Refusals.{reshard_without};
+
+    ghost from_gives = { λ refusal e. e ≡ reshard_without refusal };
+
+    fn from(refusal: ScaleRefusal) -> ReshardRefusal {
+        match refusal {
+            ScaleRefusal::NoScale(why) => ReshardRefusal::NoSource(why),
+            ScaleRefusal::StoreFault => ReshardRefusal::StoreFault,
+            ScaleRefusal::NoMemory => ReshardRefusal::NoMemory,
         }
     }
 }

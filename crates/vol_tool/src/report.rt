@@ -2,17 +2,20 @@
 ghost use Rattle.std.specs.Prelude.{◌≡◌, ◌≢◌, ◌≤◌, List, ℕ, None, IfOk, IfSome};
 ghost use Rattle.vol_shell.specs.Effects.{Says};
 ghost use Rattle.vol_shell.specs.Lines.{folder_line, info_line};
-ghost use Rattle.vol_tool.specs.Refusals.{cutout_line, cutout_status, generate_line, generate_status, info_text, write_line as line_of_write, write_status};
-ghost use Rattle.vol_tool.specs.Statuses.{cutout_fixed, fixed_line, generate_fixed, Reports, write_fixed};
+ghost use Rattle.vol_tool.specs.Refusals.{cutout_line, cutout_status, generate_line, generate_status, info_text, reshard_line, reshard_status, verify_line, verify_status, write_line as line_of_write, write_status};
+ghost use Rattle.vol_tool.specs.Statuses.{cutout_fixed, fixed_line, generate_fixed, Reports, reshard_fixed, verify_fixed, write_fixed};
 ghost use Rattle.vol_tool.specs.declared.status.Status.{Status};
 
-use crate::refusal::{CutoutRefusal, GenerateRefusal, NoScale, WriteRefusal};
+use crate::refusal::{
+    CutoutRefusal, GenerateRefusal, NoScale, ReshardRefusal, VerifyRefusal, WriteRefusal,
+};
 use crate::status::Status;
 use std::alloc::{AllocError, Global};
 use vol_base::{Name, Outlet};
 use vol_shell::{
-    FOLDER_LINE, say, tell_lines, write_cells_line, write_damaged_line, write_info_line,
-    write_large_line, write_outside_line, write_stream_line, write_voxels_line,
+    FOLDER_LINE, say, tell_lines, write_cells_line, write_damaged_line, write_differs_line,
+    write_info_line, write_large_line, write_misplaced_line, write_outside_line, write_stream_line,
+    write_voxels_line,
 };
 
 /// Why a command was refused: a status, and a line.
@@ -121,7 +124,7 @@ impl Refusal for WriteRefusal {
             WriteRefusal::NotEmpty => write_folder_line(alloc),
             WriteRefusal::Stream(fault) => Ok(write_stream_line(alloc, *fault)?.into_bytes()),
             WriteRefusal::TooManyCells(cells) => {
-                Ok(write_cells_line(alloc, *cells)?.into_bytes())
+                Ok(write_cells_line(alloc, u128::from(*cells))?.into_bytes())
             }
             WriteRefusal::StoreFault
             | WriteRefusal::FeedFault
@@ -149,6 +152,91 @@ impl Refusal for GenerateRefusal {
         match self {
             GenerateRefusal::Write(refusal) => refusal.write_line(alloc, dataset),
             GenerateRefusal::Cutout(refusal) => refusal.write_line(alloc, dataset),
+        }
+    }
+}
+
+impl Refusal for VerifyRefusal {
+    ghost ends = { verify_status };
+
+    ghost line = { verify_line };
+
+    ghost fixed = { verify_fixed };
+
+    fn status(&self) -> Status {
+        match self {
+            VerifyRefusal::NoScale(_) => Status::InfoRefused,
+            VerifyRefusal::Outside { .. } | VerifyRefusal::TooManyCells(_) => {
+                Status::RequestRefused
+            }
+            VerifyRefusal::Damaged { .. } | VerifyRefusal::Misplaced { .. } => Status::Damaged,
+            VerifyRefusal::StoreFault => Status::StoreFault,
+            VerifyRefusal::NoMemory => Status::NoMemory,
+        }
+    }
+
+    fn write_line(&self, alloc: Global, dataset: &Name) -> Result<Vec<u8>, AllocError> {
+        match self {
+            VerifyRefusal::NoScale(why) => write_why(alloc, dataset, why),
+            VerifyRefusal::Outside { part, whole } => {
+                Ok(write_outside_line(alloc, part, whole)?.into_bytes())
+            }
+            VerifyRefusal::TooManyCells(cells) => {
+                Ok(write_cells_line(alloc, *cells)?.into_bytes())
+            }
+            VerifyRefusal::Damaged { cell, fault } => {
+                Ok(write_damaged_line(alloc, *cell, *fault)?.into_bytes())
+            }
+            VerifyRefusal::Misplaced {
+                shard,
+                minishard,
+                id,
+            } => Ok(write_misplaced_line(alloc, *shard, *minishard, *id)?.into_bytes()),
+            VerifyRefusal::StoreFault | VerifyRefusal::NoMemory => unreachable!(),
+        }
+    }
+}
+
+impl Refusal for ReshardRefusal {
+    ghost ends = { reshard_status };
+
+    ghost line = { reshard_line };
+
+    ghost fixed = { reshard_fixed };
+
+    fn status(&self) -> Status {
+        match self {
+            ReshardRefusal::NoSource(_) | ReshardRefusal::NoTarget(_) => Status::InfoRefused,
+            ReshardRefusal::TooManyVoxels(_)
+            | ReshardRefusal::Differs(_)
+            | ReshardRefusal::TooManyCells(_)
+            | ReshardRefusal::NotEmpty => Status::RequestRefused,
+            ReshardRefusal::Damaged { .. } => Status::Damaged,
+            ReshardRefusal::StoreFault => Status::StoreFault,
+            ReshardRefusal::NoMemory => Status::NoMemory,
+        }
+    }
+
+    fn write_line(&self, alloc: Global, dataset: &Name) -> Result<Vec<u8>, AllocError> {
+        match self {
+            ReshardRefusal::NoSource(why) | ReshardRefusal::NoTarget(why) => {
+                write_why(alloc, dataset, why)
+            }
+            ReshardRefusal::TooManyVoxels(voxels) => {
+                Ok(write_voxels_line(alloc, *voxels)?.into_bytes())
+            }
+            ReshardRefusal::Differs(item) => {
+                let text = item.to_string(alloc)?;
+                Ok(write_differs_line(alloc, &text)?.into_bytes())
+            }
+            ReshardRefusal::TooManyCells(cells) => {
+                Ok(write_cells_line(alloc, *cells)?.into_bytes())
+            }
+            ReshardRefusal::NotEmpty => write_folder_line(alloc),
+            ReshardRefusal::Damaged { cell, fault } => {
+                Ok(write_damaged_line(alloc, *cell, *fault)?.into_bytes())
+            }
+            ReshardRefusal::StoreFault | ReshardRefusal::NoMemory => unreachable!(),
         }
     }
 }

@@ -3,7 +3,7 @@ ghost use Rattle.std.specs.Prelude.{◌≡◌, ◌≤◌, IfSome, None};
 ghost use Rattle.vol_base.specs.Causes.{Rose};
 ghost use Rattle.vol_base.specs.Outside.{OnlyReads};
 ghost use Rattle.vol_tool.specs.Seen.{doorway};
-ghost use Rattle.vol_tool.specs.Servings.{AcceptsEnds, Announces, PortTold, ServeShows, status_of};
+ghost use Rattle.vol_tool.specs.Servings.{AcceptsEnds, Announces, IsBoundTo, PortTold, ServeShows, status_of, TellsFirst};
 
 use crate::refusal::ServeRefusal;
 use range_server::{DoorRefusal, serve_ends};
@@ -20,6 +20,7 @@ fn announce<O: Outlet, D: Door>(
 ) -> Result<(), ServeRefusal>
     requires { D.bound door.old ≡ None }
     ensures told { Announces result (D.bound door.new) (O.written out.old) (O.written out.new) }
+    ensures bound { IsBoundTo port (D.bound door.new) }
     ensures served { D.served door.new ≡ D.served door.old }
     ensures accepted { D.accepted door.new ≡ D.accepted door.old }
     ensures out_later { O.faults out.old ≤ O.faults out.new }
@@ -55,7 +56,9 @@ pub(crate) fn serve<S: Store, O: Outlet, D: Door>(
     ensures shows { IfSome (S.objects store.old) (λ m. ServeShows (status_of result) m dataset.now (doorway D.bound D.accepted D.served door.old)
         (doorway D.bound D.accepted D.served door.new) (S.faults store.old) (S.faults store.new)) }
     ensures told { PortTold (status_of result) (D.bound door.new) (O.written out.old) (O.written out.new) }
+    ensures bound { IsBoundTo port (D.bound door.new) }
     ensures given { AcceptsEnds (status_of result) connections (doorway D.bound D.accepted D.served door.old) (doorway D.bound D.accepted D.served door.new) }
+    ensures first { TellsFirst (O.written out.old) (O.written out.new) (doorway D.bound D.accepted D.served door.old) (doorway D.bound D.accepted D.served door.new) }
     ensures kept { OnlyReads (S.objects store.old) (S.objects store.new) (S.draft store.old) (S.draft store.new) }
     ensures store_later { S.faults store.old ≤ S.faults store.new }
     ensures out_later { O.faults out.old ≤ O.faults out.new }

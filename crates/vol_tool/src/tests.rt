@@ -1,5 +1,6 @@
 //! Calls of the tool over stand-ins in memory. What each answers was worked out by hand.
 
+mod copies;
 mod damages;
 mod generate;
 mod plain;
@@ -60,6 +61,8 @@ const TWO_PLANES: [&str; 2] = ["[8,4,1]", "[4,4,1]"];
 
 const LARGE: [&str; 2] = ["[2048,1024,1024]", "[64,64,64]"];
 
+const MANY: [&str; 2] = ["[4194305,1,1]", "[1,1,1]"];
+
 const PLANE_CHUNK: [(&str, &[u8]); 1] = [("d/s/0-2_0-2_0-1", &[1, 2, 3, 4])];
 
 const ROW_CHUNKS: [(&str, &[u8]); 2] = [
@@ -76,8 +79,8 @@ const PLANE_CHUNKS: [(&str, &[u8]); 2] = [
     ("d/s/4-8_0-4_0-1", &[0, 0, 0]),
 ];
 
-// A scale, objects and words, and the bytes of the cutout.
-const CUTOUTS: [([&str; 2], &[(&str, &[u8])], &str, &[u8]); 6] = [
+// A scale, objects and words, and what is printed.
+const ANSWERS: [([&str; 2], &[(&str, &[u8])], &str, &[u8]); 9] = [
     (CUBE, &[], "cutout d s [0:4,0:4,0:4]", &[0; 64]),
     (
         PLANE,
@@ -99,10 +102,23 @@ const CUTOUTS: [([&str; 2], &[(&str, &[u8])], &str, &[u8]); 6] = [
         "cutout d s [2:4,1:3,0:1]",
         &[6, 7, 10, 11],
     ),
+    (CUBE, &[], "verify d s", b"cells 1 stored 0 absent 1\n"),
+    (
+        TWO_ROWS,
+        &ROW_CHUNKS,
+        "verify d s",
+        b"cells 2 stored 2 absent 0\n",
+    ),
+    (
+        TWO_PLANES,
+        &PLANE_CHUNKS,
+        "verify d s [0:4,0:4,0:1]",
+        b"cells 1 stored 1 absent 0\n",
+    ),
 ];
 
 // A scale, objects and words, and the status and the line of the refusal.
-const REFUSALS: [([&str; 2], &[(&str, &[u8])], &str, u8, &str); 16] = [
+const REFUSALS: [([&str; 2], &[(&str, &[u8])], &str, u8, &str); 20] = [
     (PLANE, &[], "", 1, "usage\n"),
     (PLANE, &[], "cutout", 1, "usage\n"),
     (PLANE, &[], "cutout d s [0:1,0:1]", 1, "usage\n"),
@@ -179,13 +195,23 @@ const REFUSALS: [([&str; 2], &[(&str, &[u8])], &str, u8, &str); 16] = [
         4,
         "damaged 1,0,0: chunk length 3 wanted 16\n",
     ),
+    (PLANE, &[], "verify d s [0:1,0:1,0:1] s", 1, "usage\n"),
+    (UNTOLD, &PLANE_CHUNK, "verify d s", 2, "info of d: absent\n"),
+    (MANY, &[], "verify d s", 3, "too many cells 4194305\n"),
+    (
+        TWO_PLANES,
+        &PLANE_CHUNKS,
+        "verify d s",
+        4,
+        "damaged 1,0,0: chunk length 3 wanted 16\n",
+    ),
 ];
 
 // All of two rows: call 0 of the store reads the document, calls 1 and 2 read the chunks.
 const WHOLE: &str = "cutout d s [0:5,0:1,0:1]";
 
 // Words, the calls that fail over two rows, the status, and the front of the refusal's line.
-const ERR_FAULTS: [(&str, Faults, u8, &str); 5] = [
+const ERR_FAULTS: [(&str, Faults, u8, &str); 7] = [
     (
         "cutout",
         Faults {
@@ -233,6 +259,24 @@ const ERR_FAULTS: [(&str, Faults, u8, &str); 5] = [
         },
         7,
         "",
+    ),
+    (
+        "verify d s",
+        Faults {
+            store: &[1],
+            ..NO_FAULTS
+        },
+        5,
+        "store fault\n",
+    ),
+    (
+        "verify d s",
+        Faults {
+            out: &[0],
+            ..NO_FAULTS
+        },
+        7,
+        "output fault\n",
     ),
 ];
 
@@ -334,7 +378,7 @@ fn check<R: Threads + Wait + Abort + Sync>(
 
 #[test]
 fn answers_calls(rt: HostRuntime) -> Result<(), Fail> {
-    for (sizes, objects, words, out) in CUTOUTS {
+    for (sizes, objects, words, out) in ANSWERS {
         let row = Row {
             sizes,
             objects,

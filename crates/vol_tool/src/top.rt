@@ -8,16 +8,20 @@ ghost use Rattle.shard_writer.specs.Writing.{Drops};
 ghost use Rattle.write_plan.specs.Stream.{writes_of};
 ghost use Rattle.vol_tool.specs.Cutouts.{AsksFor, CanCut, CutoutLeaves, CutoutShows};
 ghost use Rattle.vol_tool.specs.Generating.{CanGenerate, drawn, GenerateLeaves, GenerateShows};
+ghost use Rattle.vol_tool.specs.Resharding.{CanReshard, ReshardLeaves, ReshardShows};
 ghost use Rattle.vol_tool.specs.Runs.{Answers, Causes, Headline, Keeps, Leaves, Succeeds};
 ghost use Rattle.vol_tool.specs.Seen.{doorway, outlets_of, Seen, view};
-ghost use Rattle.vol_tool.specs.Servings.{AcceptsEnds, ServeLeaves, ServeShows};
+ghost use Rattle.vol_tool.specs.Servings.{AcceptsEnds, ServeLeaves, ServeShows, TellsFirst};
 ghost use Rattle.vol_tool.specs.Storing.{CanWrite, puts, WriteJudges, WriteLeaves, WriteShows, WrittenBack};
+ghost use Rattle.vol_tool.specs.Verifying.{CanVerify, VerifyLeaves, VerifyShows};
 
 use crate::cut_out::cut_out;
 use crate::generate::{generate_objects, print_summary};
 use crate::report::{report, tell};
+use crate::reshard::{copy_stored, find_named};
 use crate::serving::serve;
 use crate::status::Status;
+use crate::verify::{judge_stored, print_report};
 use crate::write::{print_written, write_objects};
 use command_line::{Command, read_words};
 use std::alloc::Global;
@@ -161,6 +165,92 @@ where
     }
 }
 
+// The command `verify`.
+fn run_verify<S: Store, O: Outlet, E: Outlet>(
+    alloc: Global,
+    store: &mut S,
+    out: &mut O,
+    err: &mut E,
+    dataset: &Name,
+    key: &Name,
+    part: &Option<Box3>,
+) -> Status
+    requires dataset { length dataset.now ≤ 200 }
+    requires key { length key.now ≤ 200 }
+    ensures shows { IfSome (S.objects store.old) (λ m. VerifyShows result m dataset.now key.now part.now
+        (outlets_of O.written O.faults E.written E.faults out.old out.new err.old err.new)) }
+    ensures leaves { VerifyLeaves result dataset.now part.now
+        (outlets_of O.written O.faults E.written E.faults out.old out.new err.old err.new) }
+    ensures complete { (m : Objects) → S.objects store.old ≡ Some m → CanVerify m dataset.now key.now part.now
+        → (Rose (S.faults store.old) (S.faults store.new) → ⊥) → (Rose (O.faults out.old) (O.faults out.new) → ⊥) → (result ≡ Status.Ok) ⊎ (result ≡ Status.NoMemory) }
+    ensures kept { OnlyReads (S.objects store.old) (S.objects store.new) (S.draft store.old) (S.draft store.new) }
+    ensures store_later { S.faults store.old ≤ S.faults store.new }
+    ensures out_later { O.faults out.old ≤ O.faults out.new }
+    ensures err_later { E.faults err.old ≤ E.faults err.new }
+    ensures quiet { result ≡ Status.Ok → E.faults err.new ≡ E.faults err.old }
+    ensures store_fault { result ≡ Status.StoreFault → Rose (S.faults store.old) (S.faults store.new) }
+    ensures out_fault { result ≡ Status.OutFault → Rose (O.faults out.old) (O.faults out.new) }
+{
+    let found = match judge_stored(alloc, store, dataset, key, part) {
+        Ok(found) => found,
+        Err(refusal) => return report(alloc, err, dataset, &refusal),
+    };
+    match print_report(alloc, out, &found) {
+        Ok(()) => Status::Ok,
+        Err(refusal) => report(alloc, err, dataset, &refusal),
+    }
+}
+
+// The command `reshard`.
+fn run_reshard<R, S: Store, O: Outlet, E: Outlet, G: Gate + Sync>(
+    rt: &R,
+    alloc: Global,
+    store: &mut S,
+    out: &mut O,
+    err: &mut E,
+    dataset: &Name,
+    key: &Name,
+    to_dataset: &Name,
+    to_key: &Name,
+    workers: u32,
+    gate: &G,
+) -> Status
+where
+    R: Threads + Wait + Sync,
+    requires dataset { length dataset.now ≤ 200 }
+    requires key { length key.now ≤ 200 }
+    requires to_dataset { length to_dataset.now ≤ 200 }
+    requires to_key { length to_key.now ≤ 200 }
+    ensures shows { IfSome (S.objects store.old) (λ m. ReshardShows result m (S.objects store.new) dataset.now key.now to_dataset.now to_key.now
+        (outlets_of O.written O.faults E.written E.faults out.old out.new err.old err.new)) }
+    ensures leaves { ReshardLeaves result dataset.now to_dataset.now
+        (outlets_of O.written O.faults E.written E.faults out.old out.new err.old err.new) }
+    ensures complete { (m : Objects) → S.objects store.old ≡ Some m → CanReshard m dataset.now key.now to_dataset.now to_key.now
+        → (Rose (S.faults store.old) (S.faults store.new) → ⊥) → (Rose (O.faults out.old) (O.faults out.new) → ⊥) → (result ≡ Status.Ok) ⊎ (result ≡ Status.NoMemory) }
+    ensures draft { result ≡ Status.Ok → Drops (S.draft store.old) (S.draft store.new) }
+    ensures kept { puts result ≡ false → OnlyReads (S.objects store.old) (S.objects store.new) (S.draft store.old) (S.draft store.new) }
+    ensures store_later { S.faults store.old ≤ S.faults store.new }
+    ensures out_later { O.faults out.old ≤ O.faults out.new }
+    ensures err_later { E.faults err.old ≤ E.faults err.new }
+    ensures quiet { result ≡ Status.Ok → E.faults err.new ≡ E.faults err.old }
+    ensures store_fault { result ≡ Status.StoreFault → Rose (S.faults store.old) (S.faults store.new) }
+    ensures out_fault { result ≡ Status.OutFault → Rose (O.faults out.old) (O.faults out.new) }
+{
+    let written = match copy_stored(
+        rt, alloc, store, dataset, key, to_dataset, to_key, workers, gate,
+    ) {
+        Ok(written) => written,
+        Err(refusal) => {
+            let named = find_named(&refusal, dataset, to_dataset);
+            return report(alloc, err, named, &refusal);
+        }
+    };
+    match print_written(alloc, out, &written) {
+        Ok(()) => Status::Ok,
+        Err(refusal) => report(alloc, err, dataset, &refusal),
+    }
+}
+
 // The command `serve`.
 fn run_serve<S: Store, O: Outlet, E: Outlet, D: Door>(
     alloc: Global,
@@ -176,9 +266,10 @@ fn run_serve<S: Store, O: Outlet, E: Outlet, D: Door>(
     requires some { 1 ≤ connections }
     ensures shows { IfSome (S.objects store.old) (λ m. ServeShows result m dataset.now (doorway D.bound D.accepted D.served door.old)
         (doorway D.bound D.accepted D.served door.new) (S.faults store.old) (S.faults store.new)) }
-    ensures leaves { ServeLeaves result (D.bound door.new)
+    ensures leaves { ServeLeaves result port (D.bound door.new)
         (outlets_of O.written O.faults E.written E.faults out.old out.new err.old err.new) }
     ensures given { AcceptsEnds result connections (doorway D.bound D.accepted D.served door.old) (doorway D.bound D.accepted D.served door.new) }
+    ensures first { TellsFirst (O.written out.old) (O.written out.new) (doorway D.bound D.accepted D.served door.old) (doorway D.bound D.accepted D.served door.new) }
     ensures complete { (Rose (D.faults door.old) (D.faults door.new) → ⊥) → (Rose (O.faults out.old) (O.faults out.new) → ⊥)
         → (result ≡ Status.Ok) ⊎ (result ≡ Status.NoMemory) }
     ensures kept { OnlyReads (S.objects store.old) (S.objects store.new) (S.draft store.old) (S.draft store.new) }
@@ -298,6 +389,32 @@ where
             run_generate(
                 rt, alloc, store, out, err, &dataset, &key, number, writes, workers, gate,
             )
+        }
+        Ok(
+            Some(
+                Command::Reshard {
+                    dataset,
+                    key,
+                    to_dataset,
+                    to_key,
+                    workers,
+                },
+            ),
+        ) => run_reshard(
+            rt,
+            alloc,
+            store,
+            out,
+            err,
+            &dataset,
+            &key,
+            &to_dataset,
+            &to_key,
+            workers,
+            gate,
+        ),
+        Ok(Some(Command::Verify { dataset, key, part })) => {
+            run_verify(alloc, store, out, err, &dataset, &key, &part)
         }
         Ok(
             Some(

@@ -3,7 +3,7 @@
 
 use super::shards::{
     NONE_FAILS, ONE_INDEX, ONE_MINISHARD, SIX_CELLS, SIX_CHUNKS, TWO_INDEXES, TWO_MINISHARDS,
-    check_cutout, check_plain, store_of,
+    check_call, check_cutout, check_plain, store_of,
 };
 use std::alloc::{AllocError, Global};
 use std::process::Abort;
@@ -572,6 +572,86 @@ const FOUR_DAMAGES: [Damage; 6] = [
     },
 ];
 
+// The same of judgements: without a box of all of the scale.
+const TWO_JUDGED: [Damage; 8] = [
+    Damage {
+        numbers: &[],
+        len: 82,
+        part: "",
+        out: b"cells 2 stored 2 absent 0\n",
+        err: "",
+    },
+    // An id of the other minishard, in the first index and in the second.
+    Damage {
+        numbers: &[(33, 1)],
+        len: 82,
+        part: "",
+        out: &[],
+        err: "misplaced 0 0 1\n",
+    },
+    Damage {
+        numbers: &[(58, 0)],
+        len: 82,
+        part: "",
+        out: &[],
+        err: "misplaced 0 1 0\n",
+    },
+    Damage {
+        numbers: &[(58, 0)],
+        len: 82,
+        part: "[0:1,0:1,0:1]",
+        out: b"cells 1 stored 1 absent 0\n",
+        err: "",
+    },
+    // A length of 9 for a chunk of one voxel; an empty minishard; one that is cut short.
+    Damage {
+        numbers: &[(49, 9)],
+        len: 82,
+        part: "",
+        out: &[],
+        err: "damaged 0,0,0: chunk too long 9 limit 1\n",
+    },
+    Damage {
+        numbers: &[(16, 0), (24, 0)],
+        len: 82,
+        part: "",
+        out: b"cells 2 stored 1 absent 1\n",
+        err: "",
+    },
+    Damage {
+        numbers: &[],
+        len: 81,
+        part: "",
+        out: &[],
+        err: "damaged 1,0,0: shard short minishard\n",
+    },
+    Damage {
+        numbers: &[],
+        len: 82,
+        part: "[0:3,0:1,0:1]",
+        out: &[],
+        err: "box [0:3,0:1,0:1] outside [0:2,0:1,0:1]\n",
+    },
+];
+
+// A first id past which the second has no number, and a second id that is the first.
+const ONE_JUDGED: [Damage; 2] = [
+    Damage {
+        numbers: &[(18, u64::MAX)],
+        len: 66,
+        part: "",
+        out: &[],
+        err: "damaged 0,0,0: index id 1\n",
+    },
+    Damage {
+        numbers: &[(26, 0)],
+        len: 66,
+        part: "",
+        out: &[],
+        err: "damaged 0,0,0: index id 1\n",
+    },
+];
+
 fn put_number(bytes: &mut [u8], at: u8, number: u64) {
     for (i, byte) in number.to_le_bytes().iter().enumerate() {
         if let Some(place) = bytes.get_mut((at as usize).wrapping_add(i)) {
@@ -622,6 +702,37 @@ fn check_damages<R: Threads + Wait + Abort + Sync>(
         check_damage(rt, alloc, info, shard, damage)?;
     }
     Ok(())
+}
+
+fn check_judged<R: Threads + Wait + Abort + Sync>(
+    rt: &R,
+    alloc: Global,
+    info: &str,
+    shard: &[u8],
+    damages: &[Damage],
+) -> Result<(), Fail> {
+    for damage in damages {
+        let bytes = damaged(alloc, shard, damage)?;
+        let mut store = store_of(alloc, info, &bytes, NONE_FAILS)?;
+        let part = damage.part;
+        let words = format!(in alloc; "verify d s {part}")?;
+        let status = match damage.err.as_bytes().first() {
+            None => 0,
+            Some(b'b') => 3,
+            Some(_) => 4,
+        };
+        check_call(
+            rt, alloc, &mut store, &words, status, damage.out, damage.err,
+        )?;
+    }
+    Ok(())
+}
+
+#[test]
+fn judges_damaged_indexes(rt: HostRuntime) -> Result<(), Fail> {
+    let alloc = rt.alloc();
+    check_judged(&rt, alloc, TWO_MINISHARDS, &TWO_INDEXES, &TWO_JUDGED)?;
+    check_judged(&rt, alloc, ONE_MINISHARD, &ONE_INDEX, &ONE_JUDGED)
 }
 
 #[test]

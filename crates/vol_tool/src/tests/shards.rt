@@ -114,7 +114,27 @@ pub(super) fn store_of(
     Ok(store)
 }
 
-// A cutout by the tool: its status, what it prints and what it tells.
+// A call of the tool: its status, what it prints and what it tells.
+pub(super) fn check_call<R: Threads + Wait + Abort + Sync>(
+    rt: &R,
+    alloc: Global,
+    store: &mut MemoryStore,
+    words: &str,
+    status: u8,
+    out: &[u8],
+    err: &str,
+) -> Result<(), Fail> {
+    let mut printed = outlet_of(alloc, 7, &[])?;
+    let mut told = outlet_of(alloc, 7, &[])?;
+    let mut feed = no_feed(alloc);
+    let found = call(rt, alloc, words, store, &mut feed, &mut printed, &mut told)?;
+    assert_eq!(rt; found, status, "at {words}");
+    assert!(rt; printed.written() == out, "out at {words}");
+    assert!(rt; told.written() == err.as_bytes(), "err at {words}");
+    Ok(())
+}
+
+// A cutout by the tool.
 pub(super) fn check_cutout<R: Threads + Wait + Abort + Sync>(
     rt: &R,
     alloc: Global,
@@ -125,14 +145,7 @@ pub(super) fn check_cutout<R: Threads + Wait + Abort + Sync>(
     err: &str,
 ) -> Result<(), Fail> {
     let words = format!(in alloc; "cutout d s {part}")?;
-    let mut printed = outlet_of(alloc, 7, &[])?;
-    let mut told = outlet_of(alloc, 7, &[])?;
-    let mut feed = no_feed(alloc);
-    let found = call(rt, alloc, &words, store, &mut feed, &mut printed, &mut told)?;
-    assert_eq!(rt; found, status, "at {part}");
-    assert!(rt; printed.written() == out, "out at {part}");
-    assert!(rt; told.written() == err.as_bytes(), "err at {part}");
-    Ok(())
+    check_call(rt, alloc, store, &words, status, out, err)
 }
 
 // The same by the plain program: the values, or the first fault along x.

@@ -15,3 +15,6 @@ read_generate-requires c = ap (list_all is_plain) (ap (map (λ word. word.now)) 
 
 pub read_serve-requires : goal.read_serve-requires
 read_serve-requires c = ap (list_all is_plain) (ap (map (λ word. word.now)) c.deref-in-serve.ensures.value ∙ c.in_ok-sorted.ensures.plain) ∙ filter_all is_plain (map (string_bytes {Z = Global}) c.args.words.now)
+
+pub read_reshard-requires : goal.read_reshard-requires
+read_reshard-requires c = ap (list_all is_plain) (ap (map (λ word. word.now)) c.deref-in-reshard.ensures.value ∙ c.in_ok-sorted.ensures.plain) ∙ filter_all is_plain (map (string_bytes {Z = Global}) c.args.words.now)

@@ -1,6 +1,8 @@
+use Rattle.std.proofs.Common.{rules}
 use Rattle.range_server.specs.declared.fault.DoorRefusal.TheVariants as refusal
-use Rattle.vol_tool.proofs.ServeSteps.{all_shown, some_given, some_shown}
+use Rattle.vol_tool.proofs.ServeSteps.{all_shown, some_given, some_shown, told_first}
 use Rattle.vol_tool.specs.Seen.{doorway}
+use Rattle.vol_tool.specs.Servings.{TellsPort}
 use Rattle.vol_tool.proofs.serving.serve.Goals as goal
 
 pub returns-in-Ok-clause-shows : goal.returns-in-Ok-clause-shows
@@ -39,3 +41,21 @@ returns-in-Err-OutOfMemory-clause-given g c =
     some_given (g.S.Source.objects c.args.store.now) c.args.dataset.now before (doorway g.D.Door.bound g.D.Door.accepted g.D.Door.served c.announce.new.door) after
     (g.S.Source.faults c.args.store.now) (g.S.Source.faults c.serve_ends.new.store) c.announce.ensures.served c.announce.ensures.accepted c.in-Err-OutOfMemory.field-0 refusal.OutOfMemory c.args.connections c.from.result
     c.in-Err-OutOfMemory.field-0-is c.from.ensures c.in-Err-OutOfMemory.ensures.refused
+
+pub returns-in-Ok-clause-first : goal.returns-in-Ok-clause-first
+returns-in-Ok-clause-first g c =
+    let told : TellsPort (g.D.Door.bound c.announce.new.door) (g.O.Outlet.written c.args.out.now) (g.O.Outlet.written c.announce.new.out) = search rules in
+    told_first (g.D.Door.bound c.announce.new.door) (g.O.Outlet.written c.args.out.now) (g.O.Outlet.written c.announce.new.out)
+    (doorway g.D.Door.bound g.D.Door.accepted g.D.Door.served c.args.door.now) (doorway g.D.Door.bound g.D.Door.accepted g.D.Door.served c.serve_ends.new.door) told
+
+pub returns-in-Err-DoorFault-clause-first : goal.returns-in-Err-DoorFault-clause-first
+returns-in-Err-DoorFault-clause-first g c =
+    let told : TellsPort (g.D.Door.bound c.announce.new.door) (g.O.Outlet.written c.args.out.now) (g.O.Outlet.written c.announce.new.out) = search rules in
+    told_first (g.D.Door.bound c.announce.new.door) (g.O.Outlet.written c.args.out.now) (g.O.Outlet.written c.announce.new.out)
+    (doorway g.D.Door.bound g.D.Door.accepted g.D.Door.served c.args.door.now) (doorway g.D.Door.bound g.D.Door.accepted g.D.Door.served c.serve_ends.new.door) told
+
+pub returns-in-Err-OutOfMemory-clause-first : goal.returns-in-Err-OutOfMemory-clause-first
+returns-in-Err-OutOfMemory-clause-first g c =
+    let told : TellsPort (g.D.Door.bound c.announce.new.door) (g.O.Outlet.written c.args.out.now) (g.O.Outlet.written c.announce.new.out) = search rules in
+    told_first (g.D.Door.bound c.announce.new.door) (g.O.Outlet.written c.args.out.now) (g.O.Outlet.written c.announce.new.out)
+    (doorway g.D.Door.bound g.D.Door.accepted g.D.Door.served c.args.door.now) (doorway g.D.Door.bound g.D.Door.accepted g.D.Door.served c.serve_ends.new.door) told

@@ -22,7 +22,7 @@ pub returns-in-Err-clause-headline : goal.returns-in-Err-clause-headline
 returns-in-Err-clause-headline g c = memory_headline _ _ (g.E.Outlet.written c.tell.new.err) (g.E.Outlet.faults c.tell.new.err)
 
 pub returns-in-Err-clause-leaves : goal.returns-in-Err-clause-leaves
-returns-in-Err-clause-leaves g c = memory_leaves _ _ (g.E.Outlet.written c.tell.new.err) (g.E.Outlet.faults c.tell.new.err) c.tell.ensures.told
+returns-in-Err-clause-leaves g c = memory_leaves _ _ (g.E.Outlet.written c.tell.new.err) (g.E.Outlet.faults c.tell.new.err) c.requires c.tell.ensures.told
 
 pub returns-in-Err-clause-keeps : goal.returns-in-Err-clause-keeps
 returns-in-Err-clause-keeps g c = memory_keeps _ _ (g.E.Outlet.written c.tell.new.err) (g.E.Outlet.faults c.tell.new.err)

@@ -1,0 +1,110 @@
+-- Which cells are found to be there, and which are copied.
+use Rattle.std.proofs.Common.{◌≡◌, ◌&&◌, ℕ, List, Bool, true, false, Option, Some, None, IfSome, refl, ap, ◌∙◌, sym, subst}
+use Rattle.std.specs.Prelude.{Err, Ok, Result, filter}
+use Rattle.std.specs.FinMap as fin
+use Rattle.vol_base.specs.Boxes.{Covers}
+use Rattle.vol_base.specs.Outside.{Objects}
+use Rattle.vol_base.specs.declared.boxes.Box3.{Box3}
+use Rattle.vol_base.specs.declared.faults.Fault.{Fault}
+use Rattle.vol_spec.specs.Chunks.{chunk_in}
+use Rattle.vol_spec.specs.Copies.{AreOfOneVolume, copied_cells, is_copied, is_there}
+use Rattle.vol_spec.specs.Encodings.{cell_limit}
+use Rattle.vol_spec.specs.FoundChunks.{found}
+use Rattle.vol_spec.specs.Grid.{Inside, IsCell, cell_box, cells_on, meets, numbers_on}
+use Rattle.vol_spec.specs.Places.{id_of}
+use Rattle.vol_spec.specs.StoredBytes.{held, held_by, object_of, spanned, stored_bytes}
+use Rattle.vol_spec.specs.declared.scale.Scale.{Scale}
+use Rattle.vol_spec.specs.declared.sharding.Sharding.{Sharding}
+use Rattle.vol_spec.specs.declared.span.ChunkSpan.{ChunkSpan}
+use Rattle.chunk_grid.proofs.GridSteps.{cell_box-Inside}
+use Rattle.copy_laws.proofs.CopyValues.{there_held, whole_same}
+use Rattle.cutout.specs.Reading.{Locates, span_by, span_in, span_of}
+use Rattle.cutout.specs.declared.fault.CutFault.{CutFault}
+use Rattle.cutout.specs.declared.fault.CutFault.TheVariants.{Damaged}
+use Rattle.cutout.specs.declared.found.Found.{Found}
+use Rattle.cutout.specs.declared.found.Found.TheVariants.{Absent, At}
+use Rattle.copier.specs.Marks.{AddsMarks, AreMarked, marked}
+use Rattle.copier.proofs.MarkSteps.{marked_list, stored_in, unstored_in}
+
+-- whether a search for a chunk finds something
+abbrev has_span : Result (Option ChunkSpan) Fault → Bool
+has_span (Ok None) = false
+has_span (Ok (Some span)) = true
+has_span (Err fault) = true
+
+by_span : (object : List ℕ) (span : Result (Option ChunkSpan) Fault) → is_there (spanned object span) ≡ has_span span
+by_span object (Ok None) = refl
+by_span object (Ok (Some span)) = refl
+by_span object (Err fault) = refl
+
+by_sharding : (o : Option Sharding) (s : Scale) (cell object : List ℕ) → is_there (held_by o s cell object) ≡ has_span (span_by o s cell object)
+by_sharding None s cell object = refl
+by_sharding (Some sharding) s cell object = by_span object (found object sharding (cell_limit s cell) (id_of s cell))
+
+by_object : (s : Scale) (cell : List ℕ) (object : Option (List ℕ)) → is_there (held s cell object) ≡ has_span (span_of s cell object)
+by_object s cell None = refl
+by_object s cell (Some object) = by_sharding s.sharding s cell object
+
+stored_span : (m : Objects) (dataset : List ℕ) (s : Scale) (cell : List ℕ) → is_there (stored_bytes m dataset s cell) ≡ has_span (span_in m dataset s cell)
+unfolding stored_bytes
+stored_span m dataset s cell = by_object s cell (fin.get m (object_of dataset s cell))
+
+-- a cell is there exactly where the search for its chunk finds something
+there_span : (m : Objects) (dataset : List ℕ) (s : Scale) (cell : List ℕ) → is_there (chunk_in m dataset s cell) ≡ has_span (span_in m dataset s cell)
+there_span m dataset s cell = there_held m dataset s cell ∙ stored_span m dataset s cell
+
+absent_one : (m : Objects) (dataset : List ℕ) (s : Scale) (cell : List ℕ) → Locates (Ok Absent) m dataset s cell → false ≡ is_there (chunk_in m dataset s cell)
+absent_one m dataset s cell h = sym (there_span m dataset s cell ∙ ap has_span h)
+
+found_one : (m : Objects) (dataset : List ℕ) (s : Scale) (cell name : List ℕ) (start len : ℕ) → Locates (Ok (At name start len)) m dataset s cell → true ≡ is_there (chunk_in m dataset s cell)
+found_one m dataset s cell name start len h = sym (there_span m dataset s cell ∙ ap has_span h.1)
+
+faulty_one : (m : Objects) (dataset : List ℕ) (s : Scale) (cell at : List ℕ) (fault : Fault) → Locates (Err (Damaged at fault)) m dataset s cell → true ≡ is_there (chunk_in m dataset s cell)
+faulty_one m dataset s cell at fault h = sym (there_span m dataset s cell ∙ ap has_span h.1)
+
+pub absent_there : (o : Option Objects) (dataset : List ℕ) (s : Scale) (cell : List ℕ) (f : Found) → f ≡ Absent → IfSome o (λ m. Locates (Ok f) m dataset s cell)
+    → IfSome o (λ m. false ≡ is_there (chunk_in m dataset s cell))
+absent_there None dataset s cell f e h = tt
+absent_there (Some m) dataset s cell f e h = absent_one m dataset s cell (subst (λ x. Locates (Ok x) m dataset s cell) e h)
+
+pub found_there : (o : Option Objects) (dataset : List ℕ) (s : Scale) (cell : List ℕ) (f : Found) (name : List ℕ) (start len : ℕ) → f ≡ At name start len → IfSome o (λ m. Locates (Ok f) m dataset s cell)
+    → IfSome o (λ m. true ≡ is_there (chunk_in m dataset s cell))
+found_there None dataset s cell f name start len e h = tt
+found_there (Some m) dataset s cell f name start len e h = found_one m dataset s cell name start len (subst (λ x. Locates (Ok x) m dataset s cell) e h)
+
+pub faulty_there : (o : Option Objects) (dataset : List ℕ) (s : Scale) (cell : List ℕ) (refusal : CutFault) (at : List ℕ) (fault : Fault) → refusal ≡ Damaged at fault
+    → IfSome o (λ m. Locates (Err refusal) m dataset s cell)
+    → IfSome o (λ m. true ≡ is_there (chunk_in m dataset s cell))
+faulty_there None dataset s cell refusal at fault e h = tt
+faulty_there (Some m) dataset s cell refusal at fault e h = faulty_one m dataset s cell at fault (subst (λ x. Locates (Err x) m dataset s cell) e h)
+
+-- the box of a cell of the source lies in the target
+inside_back : (from to : Scale) → AreOfOneVolume from to → (b : Box3) → Inside from b → Inside to b
+inside_back from to same b h = record { some = h.some; within = λ p c. subst (λ w. Covers w p) (whole_same from to same) (h.within p c) }
+
+pub source_inside : (from to : Scale) (cell : List ℕ) (b : Box3) → AreOfOneVolume from to → IsCell from cell → b ≡ cell_box from cell → Inside to b
+source_inside from to cell b same is e = subst (Inside to) (sym e) (inside_back from to same (cell_box from cell) (cell_box-Inside from cell is))
+
+-- the cells that are marked are those that are copied
+listed_are : (m : Objects) (dataset : List ℕ) (from to : Scale) (marks : List Bool) → AreMarked to (is_copied m dataset from to) marks → filter (marked to marks) (numbers_on (cells_on to)) ≡ copied_cells m dataset from to
+unfolding copied_cells
+listed_are m dataset from to marks h = marked_list to (is_copied m dataset from to) marks h
+
+pub found_copied : (o : Option Objects) (dataset : List ℕ) (from to : Scale) (marks : List Bool) (list : List (List ℕ)) → list ≡ filter (marked to marks) (numbers_on (cells_on to))
+    → IfSome o (λ m. AreMarked to (is_copied m dataset from to) marks) → IfSome o (λ m. list ≡ copied_cells m dataset from to)
+found_copied None dataset from to marks list e h = tt
+found_copied (Some m) dataset from to marks list e h = e ∙ listed_are m dataset from to marks h
+
+-- a cell of the source that it has nothing of marks nothing; another one marks those that its box meets
+pub source_skipped : (o : Option Objects) (dataset : List ℕ) (s from to : Scale) (cell : List ℕ) (marks : List Bool) (stored : Bool) → stored ≡ false → s ≡ from
+    → IfSome o (λ m. stored ≡ is_there (chunk_in m dataset s cell)) → IfSome o (λ m. AddsMarks to (λ c. is_there (chunk_in m dataset from cell) && meets to (cell_box from cell) c) marks marks)
+source_skipped o dataset s from to cell marks stored is same h =
+    unstored_in o (λ m. is_there (chunk_in m dataset from cell)) to (meets to (cell_box from cell)) marks
+    (subst (λ b. IfSome o (λ m. b ≡ is_there (chunk_in m dataset from cell))) is (subst (λ x. IfSome o (λ m. stored ≡ is_there (chunk_in m dataset x cell))) same h))
+
+pub source_marked : (o : Option Objects) (dataset : List ℕ) (s from to : Scale) (cell : List ℕ) (b : Box3) (old new : List Bool) (stored : Bool) → stored ≡ true → s ≡ from → b ≡ cell_box from cell
+    → IfSome o (λ m. stored ≡ is_there (chunk_in m dataset s cell)) → AddsMarks to (meets to b) old new → IfSome o (λ m. AddsMarks to (λ c. is_there (chunk_in m dataset from cell) && meets to (cell_box from cell) c) old new)
+source_marked o dataset s from to cell b old new stored is same here h marks =
+    stored_in o (λ m. is_there (chunk_in m dataset from cell)) to (meets to (cell_box from cell)) old new
+    (subst (λ q. IfSome o (λ m. q ≡ is_there (chunk_in m dataset from cell))) is (subst (λ x. IfSome o (λ m. stored ≡ is_there (chunk_in m dataset x cell))) same h))
+    (subst (λ x. AddsMarks to (meets to x) old new) here marks)

@@ -1,0 +1,92 @@
+-- Reading one job more.
+use Rattle.std.proofs.Common.{◌≡◌, ◌≢◌, ℕ, zero, suc, ◌+◌, ◌<◌, List, [], ◌∷◌, Vec, Global, length, take, map, Option, Some, None, Ok, Err, refl, ap, ◌∙◌, sym, subst, arith}
+use Rattle.std.specs.Prelude.{slice_index_or}
+use Rattle.std.specs.List.{range_with_len, slice_set}
+use Rattle.std.proofs.lemmas.Bool.{cases_eq}
+use Rattle.std.proofs.Common.{⊎_elim}
+use Rattle.std.specs.Vec.{with_items}
+use Rattle.std.proofs.lemmas.List.{get_or-map, length-map, take_at, map-set, get_or-set_same, get_or-set_other}
+use Rattle.std.proofs.lemmas.List.Elements.{All-set}
+use Rattle.std.proofs.lemmas.List.FromFn.{map-range_with_len_more}
+use Rattle.vol_base.specs.Outside.{Objects}
+use Rattle.vol_spec.specs.BoxValues.{first_some}
+use Rattle.vol_spec.specs.Cut.{first_fault}
+use Rattle.vol_spec.specs.Encodings.{raw_size}
+use Rattle.vol_spec.specs.Grid.{cell_box}
+use Rattle.vol_spec.specs.Limits.{first_bytes}
+use Rattle.vol_spec.specs.StoredCells.{cell_of}
+use Rattle.vol_spec.specs.declared.scale.Scale.{Scale}
+use Rattle.vol_spec.proofs.Firsts.{first_some-append}
+use Rattle.vol_spec.specs.Copies.{copied_raw}
+use Rattle.copier.specs.Held.{AreRead, HasLens, ReadsJob, ReadsJobs}
+use Rattle.write_plan.specs.declared.chunks.PrepareFault.{PrepareFault}
+use Rattle.write_plan.specs.declared.chunks.PrepareFault.TheVariants.{StoreFault, Damaged}
+
+abbrev Frames : Type 0
+Frames = List (Vec ℕ Global)
+
+pub lens_set : (to : Scale) (frames : Frames) (k : ℕ) (v : Vec ℕ Global) → HasLens to (map (λ f. f.items) frames) → length v.items ≡ first_bytes to.width to.channels to.size to.chunk
+    → HasLens to (map (λ f. f.items) (slice_set frames k v))
+lens_set to frames k v h len =
+    subst (HasLens to) (sym (map-set (λ (f : Vec ℕ Global). f.items) frames k v))
+    (All-set (λ frame. length frame ≡ first_bytes to.width to.channels to.size to.chunk) (map (λ f. f.items) frames) k v.items len h)
+
+pub items_same : (v : Vec ℕ Global) (xs : List ℕ) → length xs ≡ length v.items → (with_items v xs).items ≡ xs
+items_same v xs e = take_at xs _ v.len (e ∙ sym v.ok.0)
+
+pub frame_len : (to : Scale) (frames : Frames) (k : ℕ) (d : Vec ℕ Global) → HasLens to (map (λ f. f.items) frames) → k < length frames → length (slice_index_or frames k d).items ≡ first_bytes to.width to.channels to.size to.chunk
+frame_len to frames k d h l =
+    ap length (sym (get_or-map (λ (f : Vec ℕ Global). f.items) frames k d [] l))
+    ∙ h k [] (omega (arith, length-map frames (λ (f : Vec ℕ Global). f.items)))
+
+pub job_step : (m : Objects) (dataset : List ℕ) (from to : Scale) (cell : List ℕ) (v : Vec ℕ Global) (xs : List ℕ) → length xs ≡ length v.items
+    → ReadsJob (Ok tt) m dataset from to cell (take (raw_size to cell) xs) → ReadsJob (Ok tt) m dataset from to cell (take (raw_size to cell) (with_items v xs).items)
+job_step m dataset from to cell v xs e h = subst (λ ys. ReadsJob (Ok tt) m dataset from to cell (take (raw_size to cell) ys)) (sym (items_same v xs e)) h
+
+module _ (m : Objects) (dataset : List ℕ) (from to : Scale) (jobs : List (List ℕ)) (first : ℕ) where
+  abbrev fault : ℕ → Option (List ℕ × Rattle.vol_base.specs.declared.faults.Fault.Fault)
+  fault job = first_fault m dataset from (cell_box to (cell_of jobs job))
+
+  pub read_none : (frames : List (List ℕ)) → AreRead m dataset from to jobs first 0 frames
+  read_none frames = record { sound = refl; bytes = λ k h. absurd (omega arith) }
+
+  pub read_more : (k : ℕ) (frames : Frames) (v : Vec ℕ Global) (cell : List ℕ) → cell ≡ cell_of jobs (first + k) → k < length frames → AreRead m dataset from to jobs first k (map (λ f. f.items) frames)
+      → ReadsJob (Ok tt) m dataset from to cell (take (raw_size to cell) v.items) → AreRead m dataset from to jobs first (k + 1) (map (λ f. f.items) (slice_set frames k v))
+  read_more k frames v cell here h old new = record {
+    sound =
+        ap first_some (map-range_with_len_more fault first k (first + k) refl)
+        ∙ first_some-append (map fault (range_with_len first k)) (fault (first + k) ∷ []) old.sound
+        ∙ ap (λ o. first_some (o ∷ [])) (ap (λ c. first_fault m dataset from (cell_box to c)) (sym here) ∙ new.0);
+    bytes = λ j l.
+        ap (λ fs. take (raw_size to (cell_of jobs (first + j))) (slice_index_or fs j [])) (map-set (λ (f : Vec ℕ Global). f.items) frames k v)
+        ∙ ⊎_elim
+        (λ (e : j ≡ k).
+        ap (λ i. take (raw_size to (cell_of jobs (first + i))) (slice_index_or (slice_set (map (λ (f : Vec ℕ Global). f.items) frames) k v.items) i [])) e
+        ∙ ap (take (raw_size to (cell_of jobs (first + k)))) (get_or-set_same (map (λ (f : Vec ℕ Global). f.items) frames) k v.items [] (omega (arith, length-map frames (λ (f : Vec ℕ Global). f.items))))
+        ∙ subst (λ c. take (raw_size to c) v.items ≡ copied_raw m dataset from to c) here new.1
+        ∙ ap (λ i. copied_raw m dataset from to (cell_of jobs (first + i))) (sym e))
+        (λ (n : j ≢ k).
+        ap (take (raw_size to (cell_of jobs (first + j)))) (get_or-set_other (map (λ (f : Vec ℕ Global). f.items) frames) k j v.items [] n)
+        ∙ old.bytes j (omega (arith, n)))
+        (cases_eq j k);
+  }
+
+  heads : {Y : Type 0} (o : Option Y) (rest : List (Option Y)) → first_some (o ∷ rest) ≡ None → (o ≡ None) × (first_some rest ≡ None)
+  heads None rest e = (refl, e)
+  heads (Some y) rest e = absurd (cc e)
+
+  first_at : {Y : Type 0} (f : ℕ → Option Y) (a k n : ℕ) (y : Y) → k < n → first_some (map f (range_with_len a k)) ≡ None → f (a + k) ≡ Some y → first_some (map f (range_with_len a n)) ≡ Some y
+  first_at f a k zero y h none some = absurd (omega arith)
+  first_at f a zero (suc n) y h none some =
+      let z : a + 0 ≡ a = omega arith in
+      ap (λ o. first_some (o ∷ map f (range_with_len (a + 1) n))) (ap f (sym z) ∙ some)
+  first_at f a (suc k) (suc n) y h none some =
+      let parts = heads (f a) (map f (range_with_len (a + 1) k)) none in
+      let z : a + 1 + k ≡ a + suc k = omega arith in
+      ap (λ o. first_some (o ∷ map f (range_with_len (a + 1) n))) parts.0 ∙ first_at f (a + 1) k n y (omega arith) parts.1 (ap f z ∙ some)
+
+  pub read_failed : (k count : ℕ) (frames other : List (List ℕ)) (cell out : List ℕ) (e : PrepareFault) → cell ≡ cell_of jobs (first + k) → k < count → AreRead m dataset from to jobs first k frames
+      → ReadsJob (Err e) m dataset from to cell out → ReadsJobs (Err e) m dataset from to jobs first count other
+  read_failed k count frames other cell out StoreFault here h old new = tt
+  read_failed k count frames other cell out (Damaged at found) here h old new =
+      first_at fault first k count (at, found) h old.sound (ap (λ c. first_fault m dataset from (cell_box to c)) (sym here) ∙ new)

@@ -1,0 +1,185 @@
+-- What preparing jobs leaves, and what a copier begins with.
+use Rattle.std.proofs.Common.{◌≡◌, ℕ, ◌+◌, ◌-◌, ◌^◌, ◌<◌, ◌≤◌, ◌&&◌, nat_le, nat_lt, min, Bool, true, false, List, [], Vec, Global, length, take, map, Option, Some, None, IfSome, Result, Ok, Err, refl, ap, ◌∙◌, sym, subst, arith}
+use Rattle.std.specs.Prelude.{All, Contains, ⊤, filter, slice_index_or, replicate, IsSome, IsSomeAnd, if◌then◌else◌}
+use Rattle.std.specs.Vec.{with_items}
+use Rattle.std.proofs.lemmas.Bool.Decides.{nat_tests}
+use Rattle.std.proofs.lemmas.List.{length-map, take-append-le, take_at}
+use Rattle.std.proofs.lemmas.List.Elements.{All-contains_itself, All-map, All-weaker}
+use Rattle.vol_base.specs.Outside.{Objects}
+use Rattle.vol_spec.specs.Copies.{AreOfOneVolume, copied_cells, copied_raw}
+use Rattle.vol_spec.specs.Encodings.{raw_size}
+use Rattle.vol_spec.specs.Grid.{IsCell, cells_on, numbers_on}
+use Rattle.vol_spec.specs.Limits.{first_bytes}
+use Rattle.vol_spec.specs.StoredCells.{AreInOrder, cell_of}
+use Rattle.vol_spec.specs.StoredLists.{in_key_order}
+use Rattle.vol_spec.specs.declared.scale.Scale.{Scale}
+use Rattle.chunk_grid.proofs.GridSteps.{cell_box-short}
+use Rattle.chunk_grid.proofs.OrderSteps.{cells_in_order}
+use Rattle.chunk_laws.specs.Told.{is_listed}
+use Rattle.write_plan.proofs.KeySteps.{cells_back, distinct_cells, from_key_order, length-in_key_order, to_key_order}
+use Rattle.write_plan.specs.Jobs.{Prepares, cells_in, job_of, jobs_fault, jobs_of, window_of}
+use Rattle.write_plan.specs.declared.jobs.Job.{Job}
+use Rattle.write_plan.specs.declared.chunks.PrepareFault.{PrepareFault}
+use Rattle.write_plan.specs.declared.chunks.PrepareFault.TheVariants.{StoreFault, Damaged}
+use Rattle.copier.specs.Held.{AreRead, HasLens, Held, IsHeld, ReadsJobs, cells_of, front, raw_of, ready_of, work_of}
+use Rattle.copier.specs.HeldLaws.{held_jobs, length-front}
+use Rattle.copier.proofs.MarkSteps.{listed_at, listed_from}
+
+-- the jobs of cells in the order of their keys are those that a copier of these jobs has
+pub held_cells : (to : Scale) (cells : List (List ℕ)) (jobs : List Job) → AreInOrder to cells → jobs ≡ jobs_of to (in_key_order to cells)
+    → in_key_order to (filter (is_listed (cells_in jobs)) (numbers_on (cells_on to))) ≡ in_key_order to cells
+held_cells to cells jobs order is =
+    let keyed : List (List ℕ) = in_key_order to cells in
+    let here : cells_in jobs ≡ keyed = ap cells_in is ∙ cells_back to keyed in
+    ap (λ ks. in_key_order to (filter (is_listed ks) (numbers_on (cells_on to)))) here
+    ∙ ap (in_key_order to) (sym (cells_in_order to (is_listed keyed) cells order
+    (All-weaker (Contains cells) (λ cell. is_listed keyed cell ≡ true) (λ cell c. listed_at keyed cell (to_key_order to cells cell order.each c)) cells (All-contains_itself cells))
+    (λ cell in_grid e. from_key_order to cells cell (listed_from keyed cell e))))
+
+pub held_of : (h : Held) (jobs : List Job) → jobs ≡ jobs_of h.to (cells_of h) → cells_in jobs ≡ cells_of h
+held_of h jobs is = ap cells_in is ∙ cells_back h.to (cells_of h)
+
+pub held_len : (h : Held) (jobs : List Job) → jobs ≡ jobs_of h.to (cells_of h) → length jobs ≡ length (cells_of h)
+held_len h jobs is = ap length is ∙ length-map (cells_of h) (job_of h.to)
+
+pub all_cells : (h : Held) (jobs : List Job) → jobs ≡ jobs_of h.to (cells_of h) → All (IsCell h.to) (cells_in jobs)
+all_cells h jobs is = subst (All (IsCell h.to)) (sym (held_of h jobs is)) (held_jobs h).each
+
+-- a copier that is new: of the jobs of these cells, none of which is prepared
+pub held_new : (dataset : List ℕ) (from to : Scale) (cells : List (List ℕ)) (jobs : List Job) (frames : List (Vec ℕ Global)) → AreOfOneVolume from to → AreInOrder to cells → jobs ≡ jobs_of to (in_key_order to cells)
+    → length frames ≡ min (window_of to) (length jobs) → All (λ f. length f.items ≡ first_bytes to.width to.channels to.size to.chunk) frames
+    → IsHeld (record { dataset = dataset; from = from; to = to; cells = cells_in jobs; first = 0; count = 0; frames = map (λ f. f.items) frames }) jobs
+held_new dataset from to cells jobs frames volume order is count lens =
+    let same = held_cells to cells jobs order is in
+    let len : length jobs ≡ length (in_key_order to cells) = ap length is ∙ length-map (in_key_order to cells) (job_of to) in
+    let all : length (map (λ (f : Vec ℕ Global). f.items) frames) ≡ length frames = length-map frames (λ (f : Vec ℕ Global). f.items) in
+    let held : length (in_key_order to (filter (is_listed (cells_in jobs)) (numbers_on (cells_on to)))) ≡ length (in_key_order to cells) = ap length same in
+    record {
+      volume = volume;
+      jobs_are = is ∙ ap (jobs_of to) (sym same);
+      room = omega (arith, count, len, all, held);
+      within = omega arith;
+      lens = All-map (λ frame. length frame ≡ first_bytes to.width to.channels to.size to.chunk) (λ (f : Vec ℕ Global). f.items) frames lens;
+    }
+
+pub held_few : (to : Scale) (cells : List (List ℕ)) (jobs : List Job) → AreInOrder to cells → jobs ≡ jobs_of to (in_key_order to cells) → length cells ≤ 2 ^ 22
+    → length (in_key_order to (filter (is_listed (cells_in jobs)) (numbers_on (cells_on to)))) ≤ 2 ^ 22
+held_few to cells jobs order is few =
+    let same = ap length (held_cells to cells jobs order is) in
+    let len = length-in_key_order to cells order.each (distinct_cells to cells order) in
+    omega (arith, same, len, few)
+
+pub held_told : (o : Option Objects) (dataset : List ℕ) (from to : Scale) (cells : List (List ℕ)) (jobs : List Job) → AreInOrder to cells → jobs ≡ jobs_of to (in_key_order to cells)
+    → IfSome o (λ m. cells ≡ copied_cells m dataset from to) → IfSome o (λ m. in_key_order to (filter (is_listed (cells_in jobs)) (numbers_on (cells_on to))) ≡ in_key_order to (copied_cells m dataset from to))
+held_told None dataset from to cells jobs order is h = tt
+held_told (Some m) dataset from to cells jobs order is h = held_cells to cells jobs order is ∙ ap (in_key_order to) h
+
+-- what reading jobs answers is what preparing them answers
+by_cells : (r : Result ⊤ PrepareFault) (m : Objects) (h : Held) (first count : ℕ) (frames : List (List ℕ)) → ReadsJobs r m h.dataset h.from h.to (cells_of h) first count frames
+    → Prepares r (jobs_fault (work_of h) m first count)
+by_cells (Ok done) m h first count frames e = e.sound
+by_cells (Err StoreFault) m h first count frames e = tt
+by_cells (Err (Damaged at fault)) m h first count frames e = e
+
+pub prepare_of : (o : Option Objects) (r : Result ⊤ PrepareFault) (h old : Held) (cells : List (List ℕ)) (first count : ℕ) (frames : List (List ℕ)) → h ≡ old → cells ≡ cells_of h
+    → IfSome o (λ m. ReadsJobs r m h.dataset h.from h.to cells first count frames) → IfSome o (λ m. Prepares r (jobs_fault (work_of old) m first count))
+prepare_of None r h old cells first count frames e is read = tt
+prepare_of (Some m) r h old cells first count frames e is read =
+    subst (λ x. Prepares r (jobs_fault (work_of x) m first count)) e
+    (by_cells r m h first count frames (subst (λ cs. ReadsJobs r m h.dataset h.from h.to cs first count frames) is read))
+
+pub same_items : {X : Type 0} (v : Vec X Global) (xs : List X) → length xs ≡ length v.items → (with_items v xs).items ≡ xs
+same_items v xs e = take_at xs _ v.len (e ∙ sym v.ok.0)
+
+-- a copier with other bytes in its frames
+pub held_again : (h : Held) (jobs : List Job) (first count : ℕ) (frames : Vec (Vec ℕ Global) Global) (fs : List (Vec ℕ Global))
+    → IsHeld h jobs → h.frames ≡ map (λ v. v.items) frames.items → length fs ≡ length frames.items → count ≤ length frames.items → HasLens h.to (map (λ v. v.items) fs)
+    → IsHeld (record { dataset = h.dataset; from = h.from; to = h.to; cells = h.cells; first = first; count = count; frames = map (λ v. v.items) (with_items frames fs).items }) jobs
+held_again h jobs first count frames fs held frames_are len within lens =
+    let same : (with_items frames fs).items ≡ fs = same_items frames fs len in
+    let all : length (map (λ (v : Vec ℕ Global). v.items) (with_items frames fs).items) ≡ length frames.items = length-map (with_items frames fs).items (λ (v : Vec ℕ Global). v.items) ∙ ap length same ∙ len in
+    let before : length h.frames ≡ length frames.items = ap length frames_are ∙ length-map frames.items (λ (v : Vec ℕ Global). v.items) in
+    record {
+      volume = held.volume;
+      jobs_are = held.jobs_are;
+      room = let room = held.room in omega (arith, room, before, all);
+      within = omega (arith, all, within);
+      lens = subst (λ xs. HasLens h.to (map (λ v. v.items) xs)) (sym same) lens;
+    }
+
+held_in : (lo hi : Bool) (bytes : List ℕ) → lo ≡ true → hi ≡ true → (if lo && hi then Some bytes else None) ≡ Some bytes
+held_in true true bytes e f = refl
+held_in true false bytes e f = absurd (cc f)
+held_in false hi bytes e f = absurd (cc e)
+
+-- jobs that were read are ready
+ready_in : (m : Objects) (h : Held) (first last : ℕ) (fs : List (List ℕ)) → HasLens h.to fs → last - first ≤ length fs → AreRead m h.dataset h.from h.to (cells_of h) first (last - first) fs
+    → (job : ℕ) → first ≤ job → job < last
+    → ready_of (record { dataset = h.dataset; from = h.from; to = h.to; cells = h.cells; first = first; count = last - first; frames = fs }) job ≡ Some (raw_of h m job)
+ready_in m h first last fs lens within read job low high =
+    let place : first + (job - first) ≡ job = omega arith in
+    let cell : List ℕ = cell_of (cells_of h) job in
+    let frame : List ℕ = slice_index_or fs (job - first) [] in
+    let long = lens (job - first) [] (omega arith) in
+    let short = cell_box-short h.to cell in
+    let lo : nat_le first job ≡ true = grind (arith, nat_tests) in
+    let hi : nat_lt job (first + (last - first)) ≡ true = grind (arith, nat_tests) in
+    held_in (nat_le first job) (nat_lt job (first + (last - first))) (front (raw_size h.to cell) frame) lo hi
+    ∙ ap Some (take-append-le (raw_size h.to cell) frame (replicate (raw_size h.to cell) 0) (omega (arith, long, short))
+    ∙ subst (λ j. take (raw_size h.to (cell_of (cells_of h) j)) frame ≡ copied_raw m h.dataset h.from h.to (cell_of (cells_of h) j)) place (read.bytes (job - first) (omega arith)))
+
+pub ready_held : (o : Option Objects) (h old : Held) (cells : List (List ℕ)) (first last : ℕ) (fs fr : List (List ℕ)) → h ≡ old → cells ≡ cells_of h → fr ≡ fs → HasLens h.to fs → last - first ≤ length fs
+    → IfSome o (λ m. ReadsJobs (Ok tt) m h.dataset h.from h.to cells first (last - first) fs)
+    → IfSome o (λ m. (job : ℕ) → first ≤ job → job < last
+    → ready_of (record { dataset = h.dataset; from = h.from; to = h.to; cells = h.cells; first = first; count = last - first; frames = fr }) job ≡ Some (raw_of old m job))
+ready_held None h old cells first last fs fr e is same lens within read = tt
+ready_held (Some m) h old cells first last fs fr e is same lens within read = λ job low high.
+    ap (λ xs. ready_of (record { dataset = h.dataset; from = h.from; to = h.to; cells = h.cells; first = first; count = last - first; frames = xs }) job) same
+    ∙ ready_in m h first last fs lens within (subst (λ cs. AreRead m h.dataset h.from h.to cs first (last - first) fs) is read) job low high
+    ∙ ap (λ x. Some (raw_of x m job)) e
+
+-- and those from one number up to another are some
+pub ready_some : (h : Held) (first last : ℕ) (fr : List (List ℕ)) (job : ℕ) → first ≤ job → job < last
+    → IsSome (ready_of (record { dataset = h.dataset; from = h.from; to = h.to; cells = h.cells; first = first; count = last - first; frames = fr }) job)
+ready_some h first last fr job low high =
+    let lo : nat_le first job ≡ true = grind (arith, nat_tests) in
+    let hi : nat_lt job (first + (last - first)) ≡ true = grind (arith, nat_tests) in
+    subst IsSome (sym (held_in (nat_le first job) (nat_lt job (first + (last - first))) (front (raw_size h.to (cell_of (cells_of h) job)) (slice_index_or fr (job - first) [])) lo hi)) refl
+
+-- what is known of a job that is ready
+split_some : (lo hi : Bool) (bytes : List ℕ) (n : ℕ) → IsSomeAnd (if lo && hi then Some bytes else None) (λ b. length b ≡ n) → (lo ≡ true) × (hi ≡ true) × (length bytes ≡ n)
+split_some true true bytes n h = (refl, refl, h)
+split_some true false bytes n h = absurd h
+split_some false hi bytes n h = absurd h
+
+le_from : (a b : ℕ) → nat_le a b ≡ true → a ≤ b
+le_from a b e = grind (arith, nat_tests)
+
+lt_from : (a b : ℕ) → nat_lt a b ≡ true → a < b
+lt_from a b e = grind (arith, nat_tests)
+
+pub ready_facts : (h : Held) (job n : ℕ) → IsSomeAnd (ready_of h job) (λ b. length b ≡ n) → (h.first ≤ job) × (job < h.first + h.count) × (raw_size h.to (cell_of (cells_of h) job) ≡ n)
+ready_facts h job n some =
+    let parts = split_some (nat_le h.first job) (nat_lt job (h.first + h.count)) (front (raw_size h.to (cell_of (cells_of h) job)) (slice_index_or h.frames (job - h.first) [])) n some in
+    (le_from h.first job parts.0, lt_from job (h.first + h.count) parts.1, sym (length-front (raw_size h.to (cell_of (cells_of h) job)) (slice_index_or h.frames (job - h.first) [])) ∙ parts.2)
+
+pub ready_is : (h : Held) (job n : ℕ) (frame : List ℕ) → IsSomeAnd (ready_of h job) (λ b. length b ≡ n) → slice_index_or h.frames (job - h.first) [] ≡ frame → n ≤ length frame → ready_of h job ≡ Some (take n frame)
+ready_is h job n frame some e long =
+    let facts = ready_facts h job n some in
+    let size = facts.2 in
+    let parts = split_some (nat_le h.first job) (nat_lt job (h.first + h.count)) (front (raw_size h.to (cell_of (cells_of h) job)) (slice_index_or h.frames (job - h.first) [])) n some in
+    held_in (nat_le h.first job) (nat_lt job (h.first + h.count)) (front (raw_size h.to (cell_of (cells_of h) job)) (slice_index_or h.frames (job - h.first) [])) parts.0 parts.1
+    ∙ ap (λ k. Some (front k (slice_index_or h.frames (job - h.first) []))) size
+    ∙ ap (λ xs. Some (front n xs)) e
+    ∙ ap Some (take-append-le n frame (replicate n 0) long)
+
+pub frame_long : (h : Held) (job n : ℕ) (frame : List ℕ) → HasLens h.to h.frames → IsSomeAnd (ready_of h job) (λ b. length b ≡ n) → h.count ≤ length h.frames → slice_index_or h.frames (job - h.first) [] ≡ frame → n ≤ length frame
+frame_long h job n frame lens some within e =
+    let facts = ready_facts h job n some in
+    let low = facts.0 in
+    let high = facts.1 in
+    let size = facts.2 in
+    let long = lens (job - h.first) [] (omega arith) in
+    let short = cell_box-short h.to (cell_of (cells_of h) job) in
+    let same = ap length e in
+    omega (arith, long, short, size, same)

@@ -1,0 +1,5 @@
+pub mod FoundSteps
+pub mod FrameSteps
+pub mod HeldSteps
+pub mod JobSteps
+pub mod MarkSteps

@@ -1,0 +1,44 @@
+use Rattle.std.proofs.Common.{◌≡◌, ◌≤◌, ◌^◌, IfSome, arith, length, map, subst, sym}
+use Rattle.std.specs.Prelude.{filter}
+use Rattle.vol_spec.specs.Copies.{AreOfOneVolume, copied_cells}
+use Rattle.vol_spec.specs.Grid.{cells_on, numbers_on}
+use Rattle.vol_spec.specs.StoredLists.{in_key_order}
+use Rattle.vol_spec.specs.declared.scale.Scale.{Scale}
+use Rattle.chunk_laws.specs.Told.{is_listed}
+use Rattle.cutout.specs.Opened.{Opened}
+use Rattle.write_plan.specs.Jobs.{cells_in}
+use Rattle.write_plan.proofs.KeySteps.{distinct_cells}
+use Rattle.copier.specs.Held.{IsHeld}
+use Rattle.copier.proofs.HeldSteps.{held_few, held_new, held_told}
+use Rattle.copier.proofs.copier.Copier.of.Goals as goal
+
+pub find_copied-requires-clause-source : goal.find_copied-requires-clause-source
+find_copied-requires-clause-source g c = c.in-Ok.ensures.scale
+
+pub of-requires-clause-each : goal.of-requires-clause-each
+of-requires-clause-each g c = c.in-Ok-find_copied.ensures.order.each
+
+pub of-requires-clause-distinct : goal.of-requires-clause-distinct
+of-requires-clause-distinct g c = distinct_cells c.args.to.now c.in-Ok-find_copied.cells.items c.in-Ok-find_copied.ensures.order
+
+pub invariant_of-result : goal.invariant_of-result
+invariant_of-result g c =
+    subst (λ (r : Opened). IsHeld (record { dataset = r.dataset; from = r.scale; to = c.duplicate.result; cells = cells_in c.in-Ok-of.jobs; first = 0; count = 0; frames = map (λ f. f.items) c.in-Ok-reserve_frames.frames.items }) c.in-Ok-of.jobs)
+    (sym c.find_copied.ensures.same)
+    (subst (λ (s : Scale). IsHeld (record { dataset = c.in-Ok.reader.dataset; from = c.in-Ok.reader.scale; to = s; cells = cells_in c.in-Ok-of.jobs; first = 0; count = 0; frames = map (λ f. f.items) c.in-Ok-reserve_frames.frames.items }) c.in-Ok-of.jobs)
+    (sym c.duplicate.ensures)
+    (held_new c.in-Ok.reader.dataset c.in-Ok.reader.scale c.args.to.now c.in-Ok-find_copied.cells.items c.in-Ok-of.jobs c.in-Ok-reserve_frames.frames.items
+    (subst (λ s. AreOfOneVolume s c.args.to.now) (sym c.in-Ok.ensures.scale) c.requires.volume) c.in-Ok-find_copied.ensures.order c.in-Ok-of.ensures.jobs
+    (omega (arith, c.in-Ok-reserve_frames.ensures.count, c.min.ensures, c.window.ensures, c.len.ensures)) c.in-Ok-reserve_frames.ensures.lens))
+
+pub returns-clause-few : goal.returns-clause-few
+returns-clause-few g c =
+    subst (λ (s : Scale). length (in_key_order s (filter (is_listed (cells_in c.in-Ok-of.jobs)) (numbers_on (cells_on s)))) ≤ 2 ^ 22) (sym c.duplicate.ensures)
+    (held_few c.args.to.now c.in-Ok-find_copied.cells.items c.in-Ok-of.jobs c.in-Ok-find_copied.ensures.order c.in-Ok-of.ensures.jobs c.in-Ok-find_copied.ensures.few)
+
+pub returns-clause-jobs : goal.returns-clause-jobs
+returns-clause-jobs g c =
+    subst (λ (s : Scale). IfSome (g.S.Source.objects c.args.store.now) (λ m. in_key_order s (filter (is_listed (cells_in c.in-Ok-of.jobs)) (numbers_on (cells_on s))) ≡ in_key_order c.args.to.now (copied_cells m c.args.dataset.now c.args.from.now c.args.to.now)))
+    (sym c.duplicate.ensures)
+    (held_told (g.S.Source.objects c.args.store.now) c.args.dataset.now c.args.from.now c.args.to.now c.in-Ok-find_copied.cells.items c.in-Ok-of.jobs c.in-Ok-find_copied.ensures.order c.in-Ok-of.ensures.jobs
+    (subst (λ name. IfSome (g.S.Source.objects c.args.store.now) (λ m. c.in-Ok-find_copied.cells.items ≡ copied_cells m name c.args.from.now c.args.to.now)) c.in-Ok.ensures.dataset c.in-Ok-find_copied.ensures.copied))

@@ -1,0 +1,34 @@
+use Rattle.std.proofs.Common.{◌∙◌, Err, ap, length}
+use Rattle.copy_laws.proofs.CopyValues.{job_inside}
+use Rattle.copier.proofs.JobSteps.{job_damaged, job_len, job_read, job_short}
+use Rattle.copier.proofs.reading.read_job.Goals as goal
+
+pub cutout-requires-clause-len : goal.cutout-requires-clause-len
+cutout-requires-clause-len g c = job_len c.args.reader.now.scale c.args.to.now c.args.cell c.cell_box-part.result (length c.args.out.now) c.requires.volume c.cell_box-part.ensures.positions c.requires.len
+
+pub cutout-requires-clause-limit : goal.cutout-requires-clause-limit
+cutout-requires-clause-limit g c inside = job_short c.args.to.now c.args.cell (length c.args.out.now) c.requires.len
+
+pub returns-in-Ok-clause-read : goal.returns-in-Ok-clause-read
+returns-in-Ok-clause-read g c =
+    job_read (g.S.Source.objects c.args.store.now) c.args.reader.now.dataset c.args.reader.now.scale c.args.to.now c.args.cell c.cell_box-part.result c.cutout.new.out c.requires.volume c.requires.cell c.cell_box-part.ensures.positions
+    c.in-Ok.ensures.cut
+
+pub returns-in-Err-Damaged-clause-read : goal.returns-in-Err-Damaged-clause-read
+returns-in-Err-Damaged-clause-read g c =
+    job_damaged (g.S.Source.objects c.args.store.now) c.args.reader.now.dataset c.args.reader.now.scale c.args.to.now c.args.cell c.in-Err-Damaged.cell c.cutout.new.out c.cell_box-part.result c.in-Err-Damaged.field-0
+    c.in-Err-Damaged.fault c.cell_box-part.ensures.positions c.in-Err-Damaged.field-0-is c.in-Err-Damaged.ensures.cut
+
+pub returns-in-Err-StoreFault-clause-cause : goal.returns-in-Err-StoreFault-clause-cause
+returns-in-Err-StoreFault-clause-cause g c = record {
+  later = c.cutout.ensures.later;
+  failed = λ told. c.cutout.ensures.fault (c.in-Err-StoreFault.is ∙ ap Err c.in-Err-StoreFault.field-0-is);
+}
+
+pub returns-in-Err-Damaged-clause-cause : goal.returns-in-Err-Damaged-clause-cause
+returns-in-Err-Damaged-clause-cause g c = record { later = c.cutout.ensures.later; failed = λ told. absurd (cc told) }
+
+pub unreachable-requires : goal.unreachable-requires
+unreachable-requires g c =
+    c.cutout.ensures.outside.0 (c.in-Err-OutsideScale.is ∙ ap Err c.in-Err-OutsideScale.field-0-is)
+    (job_inside c.args.reader.now.scale c.args.to.now c.requires.volume c.args.cell c.cell_box-part.result c.requires.cell c.cell_box-part.ensures.positions)

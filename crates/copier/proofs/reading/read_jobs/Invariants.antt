@@ -1,0 +1,15 @@
+use Rattle.std.proofs.Common.{◌≡◌, ◌≤◌, length, map, Some}
+use Rattle.vol_base.specs.Outside.{Objects, OnlyReads}
+use Rattle.write_plan.specs.Jobs.{cells_in}
+use Rattle.copier.specs.Held.{AreRead, HasLens}
+use Rattle.copier.proofs.reading.read_jobs.Given as goal
+
+abbrev pub invariant-loop-k : goal.invariant-loop-k
+invariant-loop-k g l = record {
+  lens : HasLens l.to (map (λ f. f.items) l.frames);
+  frames : length l.frames ≡ length l.fn.frames;
+  read : (m : Objects) → g.S.Source.objects l.fn.store ≡ Some m → AreRead m l.fn.reader.dataset l.fn.reader.scale l.to (cells_in l.jobs) l.first l.k (map (λ f. f.items) l.frames);
+  same : l.reader ≡ l.fn.reader;
+  kept : OnlyReads (g.S.Source.objects l.fn.store) (g.S.Source.objects l.store) (g.S.Source.draft l.fn.store) (g.S.Source.draft l.store);
+  later : g.S.Source.faults l.fn.store ≤ g.S.Source.faults l.store;
+}

@@ -1,0 +1,92 @@
+-- What a copier holds, and the jobs that it has.
+use Rattle.std.specs.Prelude.{◌≡◌, ℕ, ◌+◌, ◌-◌, ◌<◌, ◌≤◌, ◌++◌, ◌&&◌, min, nat_le, nat_lt, List, [], take, map, filter, length, Option, Some, None, Result, Ok, Err, ⊤, if◌then◌else◌, slice_index_or, replicate, All}
+use Rattle.std.specs.List.{range_with_len}
+use Rattle.vol_base.specs.Outside.{Objects}
+use Rattle.vol_base.specs.declared.faults.Fault.{Fault}
+use Rattle.vol_spec.specs.BoxValues.{first_some}
+use Rattle.vol_spec.specs.Copies.{AreOfOneVolume, copied_raw}
+use Rattle.vol_spec.specs.Cut.{first_fault}
+use Rattle.vol_spec.specs.Encodings.{raw_size}
+use Rattle.vol_spec.specs.Grid.{cell_box, cells_on, numbers_on}
+use Rattle.vol_spec.specs.Limits.{first_bytes}
+use Rattle.vol_spec.specs.StoredCells.{cell_of}
+use Rattle.vol_spec.specs.StoredLists.{in_key_order}
+use Rattle.vol_spec.specs.Types.{Bytes, Cell, Name}
+use Rattle.vol_spec.specs.declared.scale.Scale.{Scale}
+use Rattle.chunk_laws.specs.Told.{is_listed}
+use Rattle.copy_laws.specs.Agreement.{AreApart}
+use Rattle.write_plan.specs.Jobs.{Work, jobs_of, window_of}
+use Rattle.write_plan.specs.declared.jobs.Job.{Job}
+use Rattle.write_plan.specs.declared.chunks.PrepareFault.{PrepareFault}
+use Rattle.write_plan.specs.declared.chunks.PrepareFault.TheVariants.{StoreFault, Damaged}
+
+-- where it reads and what it makes, which cells of the target, the first job that is prepared, how many are, and frames with their bytes
+pub record Held : Type 0 where
+  pub dataset : Name
+  pub from : Scale
+  pub to : Scale
+  pub cells : List Cell
+  pub first : ℕ
+  pub count : ℕ
+  pub frames : List Bytes
+
+-- the cells of the jobs: those of the target's grid that are held, in the order of their keys
+abbrev pub cells_of : Held → List Cell
+cells_of h = in_key_order h.to (filter (is_listed h.cells) (numbers_on (cells_on h.to)))
+
+-- over objects the source's values in the box of a job's cell, and the first fault there
+abbrev pub raw_of : Held → Objects → ℕ → Bytes
+raw_of h m job = copied_raw m h.dataset h.from h.to (cell_of (cells_of h) job)
+
+abbrev pub fault_of : Held → Objects → ℕ → Option (Cell × Fault)
+fault_of h m job = first_fault m h.dataset h.from (cell_box h.to (cell_of (cells_of h) job))
+
+abbrev pub work_of : Held → Work
+work_of h = record { scale = h.to; cells = cells_of h; raw = raw_of h; fault = fault_of h }
+
+-- where there is a job, the source's folder isn't that of the other scale
+abbrev pub IsApart : Held → Name → Scale → Type 0
+IsApart h dataset s = 0 < length (cells_of h) → AreApart h.dataset h.from dataset s
+
+-- so many bytes in front of a frame, with zeros where there are no more
+abbrev pub front : ℕ → Bytes → Bytes
+front n frame = take n (frame ++ replicate n 0)
+
+-- the bytes of a job that is prepared
+abbrev pub ready_of : Held → ℕ → Option Bytes
+ready_of h job =
+    if nat_le h.first job && nat_lt job (h.first + h.count)
+    then Some (front (raw_size h.to (cell_of (cells_of h) job)) (slice_index_or h.frames (job - h.first) [])) else None
+
+-- each frame has room for the values of each cell
+abbrev pub HasLens : Scale → List Bytes → Type 0
+HasLens to frames = All (λ frame. length frame ≡ first_bytes to.width to.channels to.size to.chunk) frames
+
+-- both scales are of one volume, the jobs are those of its cells, and there is a frame for each job that is prepared at once
+pub record IsHeld (h : Held) (jobs : List Job) : Type 0 where
+  pub volume : AreOfOneVolume h.from h.to
+  pub jobs_are : jobs ≡ jobs_of h.to (cells_of h)
+  pub room : min (window_of h.to) (length (cells_of h)) ≤ length h.frames
+  pub within : h.count ≤ length h.frames
+  pub lens : HasLens h.to h.frames
+
+-- reading a job: its raw bytes, or its first fault
+abbrev pub ReadsJob : Result ⊤ PrepareFault → Objects → Name → Scale → Scale → Cell → Bytes → Type 0
+ReadsJob (Ok done) m dataset from to cell out = (first_fault m dataset from (cell_box to cell) ≡ None) × (out ≡ copied_raw m dataset from to cell)
+ReadsJob (Err (Damaged at fault)) m dataset from to cell out = first_fault m dataset from (cell_box to cell) ≡ Some (at, fault)
+ReadsJob (Err StoreFault) m dataset from to cell out = Unit {0}
+
+-- the first fault of so many jobs, from a number on
+abbrev pub first_of : Objects → Name → Scale → Scale → List Cell → ℕ → ℕ → Option (Cell × Fault)
+first_of m dataset from to cells first count = first_some (map (λ job. first_fault m dataset from (cell_box to (cell_of cells job))) (range_with_len first count))
+
+-- jobs are read: none has a fault, and each frame has its job's raw bytes
+pub record AreRead (m : Objects) (dataset : Name) (from to : Scale) (cells : List Cell) (first count : ℕ) (frames : List Bytes) : Type 0 where
+  pub sound : first_of m dataset from to cells first count ≡ None
+  pub bytes : (k : ℕ) → k < count → take (raw_size to (cell_of cells (first + k))) (slice_index_or frames k []) ≡ copied_raw m dataset from to (cell_of cells (first + k))
+
+-- reading jobs: all of them, or the first fault
+abbrev pub ReadsJobs : Result ⊤ PrepareFault → Objects → Name → Scale → Scale → List Cell → ℕ → ℕ → List Bytes → Type 0
+ReadsJobs (Ok done) m dataset from to cells first count frames = AreRead m dataset from to cells first count frames
+ReadsJobs (Err (Damaged at fault)) m dataset from to cells first count frames = first_of m dataset from to cells first count ≡ Some (at, fault)
+ReadsJobs (Err StoreFault) m dataset from to cells first count frames = Unit {0}

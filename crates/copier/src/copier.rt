@@ -1,0 +1,158 @@
+//! The copier.
+ghost use Rattle.std.specs.Prelude.{◌≡◌, ◌≤◌, ◌^◌, All, length, IfOk, IfSome};
+ghost use Rattle.vol_base.specs.Causes.{HasStoreCause};
+ghost use Rattle.vol_base.specs.Outside.{OnlyReads};
+ghost use Rattle.vol_spec.specs.Copies.{AreOfOneVolume, copied_cells};
+ghost use Rattle.vol_spec.specs.Limits.{first_bytes};
+ghost use Rattle.vol_spec.specs.StoredLists.{in_key_order};
+ghost use Rattle.write_plan.specs.Pairs.{cell_count};
+ghost use Rattle.copier.specs.Held.{cells_of};
+
+use crate::found::find_copied;
+use crate::reading::read_jobs;
+use cutout::Reader;
+use std::alloc::{AllocError, Global};
+use std::marker::Model;
+use vol_base::{Name, Store, StoreRefusal};
+use vol_spec::Scale;
+use write_plan::{Chunks, JobList, PrepareFault, window};
+
+// So many frames, each with room for the values of each cell of a scale.
+fn reserve_frames(alloc: Global, scale: &Scale, count: u64) -> Result<Vec<Vec<u8>>, AllocError>
+    ensures count { IfOk result (λ frames. length frames.items ≡ count) }
+    ensures lens { IfOk result (λ frames. All (λ f. length f.items ≡ first_bytes scale.now.width scale.now.channels scale.now.size scale.now.chunk) frames.items) }
+{
+    let len = scale.raw_limit() as usize;
+    let mut frames = Vec::with_capacity(alloc, count as usize)?;
+    for _ in 0..count {
+        let frame = vec![in alloc; 0; len]?;
+        frames.push(frame)?;
+    }
+    Ok(frames)
+}
+
+/// What makes the chunks of a copy: the source's values in the boxes of the target's cells. It is seen
+/// as what it holds.
+#[derive(Drop)]
+pub struct Copier {
+    reader: Reader,
+    to: Scale,
+    jobs: JobList,
+    first: u64,
+    count: u64,
+    frames: Vec<Vec<u8>>,
+}
+
+impl Model for Copier {
+    ghost use Rattle.std.specs.Prelude.{map};
+    ghost use Rattle.write_plan.specs.Jobs.{cells_in};
+    ghost use Rattle.copier.specs.Held.{Held, IsHeld};
+
+    ghost Value = { Held };
+
+    ghost view = { λ c. record { dataset = c.reader.dataset; from = c.reader.scale; to = c.to; cells = cells_in c.jobs; first = c.first; count = c.count; frames = map (λ f. f.items) c.frames.items } };
+
+    ghost invariant = { λ c. IsHeld (record { dataset = c.reader.dataset; from = c.reader.scale; to = c.to; cells = cells_in c.jobs; first = c.first; count = c.count; frames = map (λ f. f.items) c.frames.items }) c.jobs };
+}
+
+impl Copier {
+    /// A copier of a scale of a data set into another scale of the same volume, whose grid has at most 2^22
+    /// cells. It has a job for each cell that meets the box of a cell of the source, of which there is a chunk
+    /// or a fault. All the memory that it needs is taken here.
+    ///
+    /// # Errors
+    /// `Failed` only where the store failed, and `OutOfMemory`.
+    pub fn of<S: Store>(
+        alloc: Global,
+        store: &mut S,
+        dataset: &Name,
+        from: &Scale,
+        to: &Scale,
+    ) -> Result<Copier, StoreRefusal>
+        requires dataset { length dataset.now ≤ 200 }
+        requires volume { AreOfOneVolume from.now to.now }
+        requires few { cell_count to.now ≤ 2 ^ 22 }
+        ensures dataset { IfOk result (λ copier. copier.dataset ≡ dataset.now) }
+        ensures from { IfOk result (λ copier. copier.from ≡ from.now) }
+        ensures to { IfOk result (λ copier. copier.to ≡ to.now) }
+        ensures few { IfOk result (λ copier. length (cells_of copier) ≤ 2 ^ 22) }
+        ensures jobs { IfOk result (λ copier. IfSome (S.objects store.old) (λ m. cells_of copier ≡ in_key_order to.now (copied_cells m dataset.now from.now to.now))) }
+        ensures kept { OnlyReads (S.objects store.old) (S.objects store.new) (S.draft store.old) (S.draft store.new) }
+        ensures cause { HasStoreCause (S.faults store.old) (S.faults store.new) result }
+    {
+        let Ok(mut reader) = Reader::open(alloc, dataset, from) else {
+            return Err(StoreRefusal::OutOfMemory);
+        };
+        let cells = match find_copied(alloc, &mut reader, store, from, to) {
+            Ok(cells) => cells,
+            Err(refusal) => return Err(refusal),
+        };
+        let Ok(jobs) = JobList::of(alloc, to, cells) else {
+            return Err(StoreRefusal::OutOfMemory);
+        };
+        let Ok(frames) = reserve_frames(alloc, to, window(to).min(jobs.len())) else {
+            return Err(StoreRefusal::OutOfMemory);
+        };
+        Ok(Copier {
+            reader,
+            to: to.duplicate(),
+            jobs,
+            first: 0,
+            count: 0,
+            frames,
+        })
+    }
+}
+
+impl Chunks for Copier {
+    ghost use Rattle.copier.specs.Held.{IsApart, ready_of, work_of};
+    ghost use Rattle.copier.specs.HeldLaws.{held_jobs, held_keeps, raw_fits, ready_fits};
+
+    ghost work = { work_of };
+
+    ghost apart = { IsApart };
+
+    ghost sure = { λ c. ⊥ };
+
+    ghost ready = { ready_of };
+
+    ghost ordered = { held_jobs };
+
+    ghost fits = { ready_fits };
+
+    ghost lens = { λ c m job low. raw_fits c m job };
+
+    ghost kept = { held_keeps };
+
+    fn jobs(&self) -> &JobList {
+        &self.jobs
+    }
+
+    /// Cuts the boxes of the jobs out of the source. It takes no memory.
+    fn prepare<S: Store>(&mut self, store: &mut S, from: u64, to: u64) -> Result<(), PrepareFault> {
+        self.count = 0;
+        let count = to - from;
+        match read_jobs(
+            &mut self.reader,
+            store,
+            &self.to,
+            &self.jobs,
+            &mut self.frames,
+            from,
+            count as usize,
+        ) {
+            Ok(()) => {
+                self.first = from;
+                self.count = count;
+                Ok(())
+            }
+            Err(fault) => Err(fault),
+        }
+    }
+
+    /// Puts the bytes of a job's frame. It takes no memory.
+    fn fill(&self, job: u64, raw: &mut [u8]) {
+        let frame = &self.frames[(job - self.first) as usize];
+        raw.copy_from_slice(&frame[..raw.len()]);
+    }
+}

@@ -1,0 +1,134 @@
+//! Which cells are copied.
+ghost use Rattle.std.specs.Prelude.{◌≡◌, ◌&&◌, ◌≤◌, ◌^◌, All, false, length, replicate, IfOk, IfSome, OnOk};
+ghost use Rattle.vol_base.specs.Causes.{HasCause, HasStoreCause};
+ghost use Rattle.vol_base.specs.Outside.{OnlyReads};
+ghost use Rattle.vol_spec.specs.Chunks.{chunk_in};
+ghost use Rattle.vol_spec.specs.Copies.{AreOfOneVolume, copied_cells, is_copied, is_there};
+ghost use Rattle.vol_spec.specs.Grid.{IsCell, cell_box as box_of, meets};
+ghost use Rattle.vol_spec.specs.StoredCells.{AreInOrder};
+ghost use Rattle.write_plan.specs.Pairs.{cell_count};
+ghost use Rattle.copier.specs.Marks.{AddsMarks, AreMarked};
+
+use crate::marks::{list_marked, mark_cells};
+use chunk_grid::{cell_box, cells, count_cells, whole};
+use cutout::{CutFault, Found, Reader};
+use std::alloc::{AllocError, Global};
+use vol_base::{Failed, Source, StoreRefusal};
+use vol_spec::Scale;
+
+// Whether the source has something of a cell: a chunk, or a fault.
+fn is_stored<S: Source>(reader: &mut Reader, store: &mut S, cell: [u64; 3]) -> Result<bool, Failed>
+    requires { IsCell reader.old.scale cell }
+    ensures stored { IfOk result (λ stored. IfSome (S.objects store.old) (λ m. stored ≡ is_there (chunk_in m reader.old.dataset reader.old.scale cell))) }
+    ensures same { reader.new ≡ reader.old }
+    ensures kept { OnlyReads (S.objects store.old) (S.objects store.new) (S.draft store.old) (S.draft store.new) }
+    ensures cause { HasCause (S.faults store.old) (S.faults store.new) result }
+{
+    match reader.locate(store, cell) {
+        Ok(Found::Absent) => Ok(false),
+        Ok(Found::At { .. }) => Ok(true),
+        Err(CutFault::Damaged { .. }) => Ok(true),
+        Err(CutFault::StoreFault) => Err(Failed),
+        Err(CutFault::OutsideScale) => unreachable!(),
+    }
+}
+
+// Marks the cells of the target that the box of a cell of the source meets, if it has something of it.
+fn mark_source<S: Source>(
+    reader: &mut Reader,
+    store: &mut S,
+    from: &Scale,
+    to: &Scale,
+    cell: [u64; 3],
+    marks: &mut [bool],
+) -> Result<(), Failed>
+    requires source { reader.old.scale ≡ from.now }
+    requires volume { AreOfOneVolume from.now to.now }
+    requires few { cell_count to.now ≤ 2 ^ 22 }
+    requires len { length marks.old ≡ cell_count to.now }
+    requires cell { IsCell from.now cell }
+    ensures marks { OnOk result (IfSome (S.objects store.old) (λ m. AddsMarks to.now
+        (λ c. is_there (chunk_in m reader.old.dataset from.now cell) && meets to.now (box_of from.now cell) c) marks.old marks.new)) }
+    ensures same { reader.new ≡ reader.old }
+    ensures kept { OnlyReads (S.objects store.old) (S.objects store.new) (S.draft store.old) (S.draft store.new) }
+    ensures cause { HasCause (S.faults store.old) (S.faults store.new) result }
+{
+    match is_stored(reader, store, cell) {
+        Err(fault) => Err(fault),
+        Ok(false) => Ok(()),
+        Ok(true) => {
+            mark_cells(to, &cell_box(from, cell), marks);
+            Ok(())
+        }
+    }
+}
+
+// Marks the cells that are copied.
+fn mark_copied<S: Source>(
+    reader: &mut Reader,
+    store: &mut S,
+    from: &Scale,
+    to: &Scale,
+    marks: &mut [bool],
+) -> Result<(), Failed>
+    requires source { reader.old.scale ≡ from.now }
+    requires volume { AreOfOneVolume from.now to.now }
+    requires few { cell_count to.now ≤ 2 ^ 22 }
+    requires len { length marks.old ≡ cell_count to.now }
+    requires clear { All (λ mark. mark ≡ false) marks.old }
+    ensures marks { OnOk result (IfSome (S.objects store.old) (λ m. AreMarked to.now (is_copied m reader.old.dataset from.now to.now) marks.new)) }
+    ensures same { reader.new ≡ reader.old }
+    ensures kept { OnlyReads (S.objects store.old) (S.objects store.new) (S.draft store.old) (S.draft store.new) }
+    ensures cause { HasCause (S.faults store.old) (S.faults store.new) result }
+{
+    for cell in cells(from, &whole(from)) {
+        match mark_source(reader, store, from, to, cell, marks) {
+            Ok(()) => {}
+            Err(fault) => return Err(fault),
+        }
+    }
+    Ok(())
+}
+
+// So many marks, of which none is set.
+fn reserve_marks(alloc: Global, count: usize) -> Result<Vec<bool>, AllocError>
+    ensures { IfOk result (λ marks. marks.items ≡ replicate count false) }
+{
+    vec![in alloc; false; count]
+}
+
+/// The cells of the target that are copied, in the order of the grid: those that the box of a cell of the
+/// source meets, of which the source has a chunk or a fault. Each cell of the source is located.
+///
+/// # Errors
+/// `Failed` only where the store failed, and `OutOfMemory`.
+pub(crate) fn find_copied<S: Source>(
+    alloc: Global,
+    reader: &mut Reader,
+    store: &mut S,
+    from: &Scale,
+    to: &Scale,
+) -> Result<Vec<[u64; 3]>, StoreRefusal>
+    requires source { reader.old.scale ≡ from.now }
+    requires volume { AreOfOneVolume from.now to.now }
+    requires few { cell_count to.now ≤ 2 ^ 22 }
+    ensures order { IfOk result (λ list. AreInOrder to.now list.items) }
+    ensures few { IfOk result (λ list. length list.items ≤ 2 ^ 22) }
+    ensures copied { IfOk result (λ list. IfSome (S.objects store.old) (λ m. list.items ≡ copied_cells m reader.old.dataset from.now to.now)) }
+    ensures same { reader.new ≡ reader.old }
+    ensures kept { OnlyReads (S.objects store.old) (S.objects store.new) (S.draft store.old) (S.draft store.new) }
+    ensures cause { HasStoreCause (S.faults store.old) (S.faults store.new) result }
+{
+    let count = count_cells(to, &whole(to)) as usize;
+    let Ok(mut marks) = reserve_marks(alloc, count) else {
+        return Err(StoreRefusal::OutOfMemory);
+    };
+    match mark_copied(reader, store, from, to, &mut marks) {
+        Ok(()) => {}
+        Err(_) => return Err(StoreRefusal::Failed),
+    }
+    match list_marked(alloc, to, &marks) {
+        Ok(list) => Ok(list),
+        Err(_) => Err(StoreRefusal::OutOfMemory),
+    }
+}

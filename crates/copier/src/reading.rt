@@ -1,0 +1,103 @@
+//! Reading the bytes of jobs.
+ghost use Rattle.std.specs.Prelude.{◌≡◌, ◌+◌, ◌<◌, ◌≤◌, ◌^◌, Err, length, map, take, All, IfSome};
+ghost use Rattle.vol_base.specs.Causes.{Rose};
+ghost use Rattle.vol_base.specs.Outside.{OnlyReads};
+ghost use Rattle.vol_spec.specs.Copies.{AreOfOneVolume};
+ghost use Rattle.vol_spec.specs.Encodings.{raw_size};
+ghost use Rattle.vol_spec.specs.Grid.{IsCell};
+ghost use Rattle.write_plan.specs.Jobs.{HasPrepareCause, cells_in};
+ghost use Rattle.copier.specs.Held.{HasLens, ReadsJob, ReadsJobs};
+
+use chunk_grid::{byte_len, cell_box};
+use cutout::{CutFault, Reader};
+use vol_base::Source;
+use vol_spec::Scale;
+use write_plan::{JobList, PrepareFault};
+
+// Reads the source's values in the box of a cell of the target.
+fn read_job<S: Source>(
+    reader: &mut Reader,
+    store: &mut S,
+    to: &Scale,
+    cell: [u64; 3],
+    out: &mut [u8],
+) -> Result<(), PrepareFault>
+    requires volume { AreOfOneVolume reader.old.scale to.now }
+    requires cell { IsCell to.now cell }
+    requires len { length out.old ≡ raw_size to.now cell }
+    ensures read { IfSome (S.objects store.old) (λ m. ReadsJob result m reader.old.dataset reader.old.scale to.now cell out.new) }
+    ensures same { reader.new ≡ reader.old }
+    ensures kept { OnlyReads (S.objects store.old) (S.objects store.new) (S.draft store.old) (S.draft store.new) }
+    ensures cause { HasPrepareCause (S.faults store.old) (S.faults store.new) result }
+{
+    let part = cell_box(to, cell);
+    match reader.cutout(store, &part, out) {
+        Ok(()) => Ok(()),
+        Err(CutFault::StoreFault) => Err(PrepareFault::StoreFault),
+        Err(CutFault::Damaged { cell, fault }) => Err(PrepareFault::Damaged { cell, fault }),
+        Err(CutFault::OutsideScale) => unreachable!(),
+    }
+}
+
+// How many bytes the values of a cell have.
+fn values_len(scale: &Scale, cell: [u64; 3]) -> usize
+    requires { IsCell scale.now cell }
+    ensures { result ≡ raw_size scale.now cell }
+{
+    let part = cell_box(scale, cell);
+    byte_len(&part, scale.channels, scale.width) as usize
+}
+
+// Reads the source's values in the box of a cell of the target into the front of a frame.
+fn read_into<S: Source>(
+    reader: &mut Reader,
+    store: &mut S,
+    to: &Scale,
+    cell: [u64; 3],
+    frame: &mut [u8],
+) -> Result<(), PrepareFault>
+    requires volume { AreOfOneVolume reader.old.scale to.now }
+    requires cell { IsCell to.now cell }
+    requires len { raw_size to.now cell ≤ length frame.old }
+    ensures read { IfSome (S.objects store.old) (λ m. ReadsJob result m reader.old.dataset reader.old.scale to.now cell (take (raw_size to.now cell) frame.new)) }
+    ensures len { length frame.new ≡ length frame.old }
+    ensures same { reader.new ≡ reader.old }
+    ensures kept { OnlyReads (S.objects store.old) (S.objects store.new) (S.draft store.old) (S.draft store.new) }
+    ensures cause { HasPrepareCause (S.faults store.old) (S.faults store.new) result }
+{
+    let len = values_len(to, cell);
+    read_job(reader, store, to, cell, &mut frame[..len])
+}
+
+/// Reads so many jobs, one after the other from a number on, into frames.
+pub(crate) fn read_jobs<S: Source>(
+    reader: &mut Reader,
+    store: &mut S,
+    to: &Scale,
+    jobs: &JobList,
+    frames: &mut [Vec<u8>],
+    first: u64,
+    count: usize,
+) -> Result<(), PrepareFault>
+    requires volume { AreOfOneVolume reader.old.scale to.now }
+    requires cells { All (IsCell to.now) (cells_in jobs.now) }
+    requires lens { HasLens to.now (map (λ f. f.items) frames.old) }
+    requires within { first + count ≤ length jobs.now }
+    requires fits { first + count < 2 ^ 64 }
+    requires room { count ≤ length frames.old }
+    ensures read { IfSome (S.objects store.old) (λ m. ReadsJobs result m reader.old.dataset reader.old.scale to.now (cells_in jobs.now) first count (map (λ f. f.items) frames.new)) }
+    ensures lens { HasLens to.now (map (λ f. f.items) frames.new) }
+    ensures frames { length frames.new ≡ length frames.old }
+    ensures same { reader.new ≡ reader.old }
+    ensures kept { OnlyReads (S.objects store.old) (S.objects store.new) (S.draft store.old) (S.draft store.new) }
+    ensures cause { HasPrepareCause (S.faults store.old) (S.faults store.new) result }
+{
+    for k in 0..count {
+        let cell = jobs.get(first + k as u64).cell;
+        match read_into(reader, store, to, cell, &mut frames[k]) {
+            Ok(()) => {}
+            Err(fault) => return Err(fault),
+        }
+    }
+    Ok(())
+}

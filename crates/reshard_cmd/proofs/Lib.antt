@@ -1,0 +1,4 @@
+pub mod AnswerSteps
+pub mod CopyingSteps
+pub mod FaultSteps
+pub mod ObjectSteps

@@ -1,0 +1,82 @@
+-- What copying a scale into another layout answers, and what stands after it.
+use Rattle.std.specs.Prelude.{◌≡◌, ◌⊎◌, true, false, map, length, Option, Some, Result, Ok, Err}
+use Rattle.vol_base.specs.Outside.{Draft, Objects, OnlyReads, any_under}
+use Rattle.vol_base.specs.declared.faults.Fault.{Fault}
+use Rattle.vol_spec.specs.BoxValues.{first_some}
+use Rattle.vol_spec.specs.CellNames.{folder_of}
+use Rattle.vol_spec.specs.Chunks.{fault_in}
+use Rattle.vol_spec.specs.Copies.{copied_cells, copy}
+use Rattle.vol_spec.specs.Cut.{first_fault}
+use Rattle.vol_spec.specs.Grid.{IsCell, cell_box}
+use Rattle.vol_spec.specs.StoredLists.{in_key_order, stored_list}
+use Rattle.vol_spec.specs.Types.{Cell, Listed, Name}
+use Rattle.vol_spec.specs.declared.scale.Scale.{Scale}
+use Rattle.chunk_laws.specs.Told.{HasNoFault}
+use Rattle.copy_laws.specs.Copied.{KeepsValues, copied_in}
+use Rattle.copier.specs.Held.{Held, cells_of}
+use Rattle.shard_writer.specs.Writing.{PutsFront, joint_len}
+use Rattle.shard_writer.specs.declared.written.Written.{Written}
+use Rattle.reshard_cmd.specs.declared.fault.ReshardFault.{ReshardFault}
+use Rattle.reshard_cmd.specs.declared.fault.ReshardFault.TheVariants.{Differs, TooManyCells, NotEmpty, StoreFault, Damaged, OutOfMemory}
+
+-- the objects that the copy is stored as
+abbrev pub copy_list : Objects → Name → Scale → Name → Scale → Listed
+copy_list m from_dataset from to_dataset to = stored_list to_dataset to (copy m from_dataset from to)
+
+-- the first fault of the source on the way: the cells that are copied are made in the order of their keys, and of each its box is read, x
+-- fastest
+abbrev pub copy_fault : Objects → Name → Scale → Scale → Option (Cell × Fault)
+copy_fault m dataset from to = first_some (map (λ cell. first_fault m dataset from (cell_box to cell)) (in_key_order to (copied_cells m dataset from to)))
+
+-- a cell of the source that has a fault, the first on the way
+pub record IsFirstFault (m : Objects) (dataset : Name) (from to : Scale) (cell : Cell) (fault : Fault) : Type 0 where
+  pub first : copy_fault m dataset from to ≡ Some (cell, fault)
+  pub of_source : IsCell from cell
+  pub its_own : fault_in m dataset from cell ≡ Some fault
+
+-- a copy was stored: its objects were put in and nothing else was changed, as many as are told; the source had no fault, each value of the
+-- target is the source's, and the target has no fault
+pub record IsCopied (m : Objects) (now : Option Objects) (from_dataset : Name) (from : Scale) (to_dataset : Name) (to : Scale) (written : Written) : Type 0 where
+  pub put : now ≡ Some (copied_in m from_dataset from to_dataset to)
+  pub objects : written.objects ≡ length (copy_list m from_dataset from to_dataset to)
+  pub cells : written.cells ≡ length (copied_cells m from_dataset from to)
+  pub bytes : written.bytes ≡ joint_len (copy_list m from_dataset from to_dataset to)
+  pub source : HasNoFault m from_dataset from
+  pub values : KeepsValues m from_dataset from to_dataset to
+  pub target : HasNoFault (copied_in m from_dataset from to_dataset to) to_dataset to
+
+-- a copier has a job for each cell that is copied
+abbrev pub HasCopyJobs : Objects → Held → Scale → Type 0
+HasCopyJobs m copier to = cells_of copier ≡ in_key_order to (copied_cells m copier.dataset copier.from to)
+
+-- a fault that is found only once the copy is begun
+abbrev pub IsLate : ReshardFault → Type 0
+IsLate (Damaged cell fault) = Unit {0}
+IsLate StoreFault = Unit {0}
+IsLate OutOfMemory = Unit {0}
+IsLate other = ⊥
+
+-- what storing a copy in an empty folder answers over objects that are told
+abbrev pub Copies : Result Written ReshardFault → Objects → Option Objects → Name → Scale → Name → Scale → Type 0
+Copies (Ok written) m now from_dataset from to_dataset to = IsCopied m now from_dataset from to_dataset to written
+Copies (Err (Damaged cell fault)) m now from_dataset from to_dataset to =
+    IsFirstFault m from_dataset from to cell fault × PutsFront (copy_list m from_dataset from to_dataset to) m now
+Copies (Err StoreFault) m now from_dataset from to_dataset to = PutsFront (copy_list m from_dataset from to_dataset to) m now
+Copies (Err OutOfMemory) m now from_dataset from to_dataset to = PutsFront (copy_list m from_dataset from to_dataset to) m now
+Copies (Err other) m now from_dataset from to_dataset to = ⊥
+
+-- what copying a scale answers over objects that are told: the folder is judged after the scales, and nothing is put where it isn't empty
+abbrev pub Reshards : Result Written ReshardFault → Objects → Option Objects → Name → Scale → Name → Scale → Type 0
+Reshards (Err (Differs item)) m now from_dataset from to_dataset to = now ≡ Some m
+Reshards (Err (TooManyCells cells)) m now from_dataset from to_dataset to = now ≡ Some m
+Reshards (Err NotEmpty) m now from_dataset from to_dataset to = (any_under m (folder_of to_dataset to) ≡ true) × (now ≡ Some m)
+Reshards (Err StoreFault) m now from_dataset from to_dataset to =
+    (now ≡ Some m) ⊎ ((any_under m (folder_of to_dataset to) ≡ false) × PutsFront (copy_list m from_dataset from to_dataset to) m now)
+Reshards result m now from_dataset from to_dataset to = (any_under m (folder_of to_dataset to) ≡ false) × Copies result m now from_dataset from to_dataset to
+
+-- what stands after a refusal, also where nothing is told: the store is only read before the copy is begun
+abbrev pub KeepsStore : ReshardFault → Option Objects → Option Objects → Option Draft → Option Draft → Type 0
+KeepsStore (Differs item) old now before after = OnlyReads old now before after
+KeepsStore (TooManyCells cells) old now before after = OnlyReads old now before after
+KeepsStore NotEmpty old now before after = OnlyReads old now before after
+KeepsStore other old now before after = Unit {0}

@@ -1,0 +1,12 @@
+use Rattle.vol_tool.proofs.ReshardSteps.{source_copied, unsourced}
+use Rattle.vol_tool.proofs.reshard.copy_stored.Goals as goal
+
+pub returns-in-Ok-clause-copies : goal.returns-in-Ok-clause-copies
+returns-in-Ok-clause-copies g c =
+    source_copied c.copy_into.result (g.S.Source.objects c.args.store.now) (g.S.Source.objects c.read_scale.new.store) (g.S.Source.objects c.copy_into.new.store) c.args.from_dataset.now c.args.from_key.now c.args.to_dataset.now
+    c.args.to_key.now c.in-Ok.from c.read_scale.ensures.kept.same_objects c.in-Ok.ensures.read c.copy_into.ensures.copies
+
+pub returns-in-Err-clause-copies : goal.returns-in-Err-clause-copies
+returns-in-Err-clause-copies g c =
+    unsourced c.in-Err.refusal c.from.result (g.S.Source.objects c.args.store.now) (g.S.Source.objects c.read_scale.new.store) c.args.from_dataset.now c.args.from_key.now c.args.to_dataset.now c.args.to_key.now
+    c.from.ensures c.read_scale.ensures.kept.same_objects c.in-Err.ensures.read

@@ -1,0 +1,93 @@
+#!/usr/bin/env python3
+"""Checks that docs/trusted.md lists exactly the modules of definitions, and the types of the code, that the contract of `run`
+reaches, and that each word that it names for a module is defined there.
+
+    tests/trusted.py
+
+It reads docs/ and crates/, and runs nothing. A module is reached where the contract, or a module that is reached, names it in a
+`use` line. The last line is 'N passed, N failed', and the status is 1 where a module is missing, or listed and not reached.
+"""
+import pathlib
+import re
+import sys
+
+ROOT = pathlib.Path(__file__).resolve().parent.parent
+CRATES = ROOT / "crates"
+USE = re.compile(r"^\s*(?:ghost )?use Rattle\.(\w+)\.specs\.(declared\.)?(\w+)", re.M)
+
+
+def path_of(crate, module):
+    return CRATES / crate / "specs" / f"{module}.antt"
+
+
+def find_reached():
+    """The modules of definitions and the files of types that are reached, each as a crate and a name."""
+    modules, files = set(), {("vol_base", "outside")}
+    waiting = [CRATES / "vol_tool/src/top.rt"]
+    while waiting:
+        for crate, is_type, name in USE.findall(waiting.pop().read_text()):
+            if not (CRATES / crate).is_dir():
+                continue
+            if is_type:
+                files.add((crate, name))
+            elif (crate, name) not in modules:
+                modules.add((crate, name))
+                waiting.append(path_of(crate, name))
+    return modules, files
+
+
+def read_page():
+    """The rows of the page's tables: whether it is of types, the crate, the name and the sentence."""
+    is_type = False
+    for line in (ROOT / "docs/trusted.md").read_text().splitlines():
+        if line.startswith("| Crate"):
+            is_type = "| File |" in line
+        elif line.startswith("| ") and line.count(" | ") == 2:
+            crate, names, says = (cell.strip() for cell in line.strip().strip("|").split(" | "))
+            for name in names.split(", "):
+                yield is_type, crate, name, says
+
+
+def undefined(crate, name, says):
+    """The words of a sentence that the module doesn't define. What is cited of the code or of a port is no word of its."""
+    path = path_of(crate, name)
+    text = path.read_text() if path.exists() else ""
+    for word in re.findall(r"`(\w+)`", says):
+        if not re.search(rf"^\s*(?:\w+ )*{word}(?: |$)", text, re.M) and word not in NOT_DEFINED:
+            yield word
+
+
+# commands, the program's call, a port and a member of a field
+NOT_DEFINED = {"cutout", "write", "generate", "serve", "verify", "run", "serde_json", "close"}
+
+
+def judge_all():
+    modules, files = find_reached()
+    listed = {False: set(), True: set()}
+    for is_type, crate, name, says in read_page():
+        wrong = []
+        if (crate, name) not in (files if is_type else modules):
+            wrong.append("it isn't reached")
+        if (crate, name) in listed[is_type]:
+            wrong.append("it is listed twice")
+        if not is_type:
+            wrong += [f"{word} isn't defined there" for word in undefined(crate, name, says)]
+        listed[is_type].add((crate, name))
+        yield f"{crate} {name}", wrong
+    for crate, name in sorted(modules - listed[False]) + sorted(files - listed[True]):
+        yield f"{crate} {name}", ["it isn't listed"]
+
+
+def main():
+    passed = failed = 0
+    for title, wrong in judge_all():
+        passed += not wrong
+        failed += bool(wrong)
+        for why in wrong:
+            print(f"{title}: {why}")
+    print(f"{passed} passed, {failed} failed")
+    return 1 if failed or not passed else 0
+
+
+if __name__ == "__main__":
+    sys.exit(main())
