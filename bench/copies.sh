@@ -6,9 +6,8 @@
 # each (the line "plain" is the cutout's). Wanted: a ratio of at most 1.3.
 #
 # Then `reshard` of it into an empty unsharded scale of raw chunks of 128 x 128 x 64, against the plain program beside this
-# script: five tries in turn, the best of each. Wanted: a ratio of at most 1.5, and a peak of at most the window of chunks that
-# are made at once (here all 128 MiB of values) and 32 MiB. The objects are compared at the end, and the values of the copy
-# with those of the source.
+# script: five tries in turn, the best of each. Wanted: a ratio of at most 1.5, and a peak of at most 32 MiB above the chunk
+# that is being made. The objects are compared at the end, and the values of the copy with those of the source.
 #
 #     bench/copies.sh [PROGRAM [TRIES]]
 #

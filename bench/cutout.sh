@@ -1,8 +1,9 @@
 #!/bin/sh
 # The cutout of whole scales by vol_tool and by the plain program beside this script, with the files in the page cache
 # and the output to a file: three tries in turn, the best of each. The scales are 512 x 512 x 512 bytes in chunks of
-# 64 x 64 x 64, and 128 x 128 x 128 voxels of four channels of 64-bit numbers in chunks of 32 x 32 x 32. Wanted: a ratio
-# of at most 1.5, and a peak of at most the box (128 MiB and 64 MiB), one chunk and 32 MiB.
+# 64 x 64 x 64, and 128 x 128 x 128 voxels of four channels of 64-bit numbers in chunks of 32 x 32 x 32. Both write by layers
+# of cells. Wanted: a ratio of at most 1.1, and a peak of at most one channel of one layer (16 MiB and 4 MiB), the frames (a
+# chunk: 256 KiB and 1 MiB) and 8 MiB.
 #
 #     bench/cutout.sh [PROGRAM]
 #

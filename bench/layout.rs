@@ -91,8 +91,16 @@ impl Layout {
         cells
     }
 
-    /// Copies by rows, in each channel, what two boxes have in common.
-    pub fn copy_rows(&self, from_box: &Spans, from: &[u8], to_box: &Spans, to: &mut [u8]) {
+    /// The parts of a box that lie in one layer of cells along z each.
+    pub fn layers(&self, part: &Spans) -> Vec<Spans> {
+        let [x, y, (begin, end)] = *part;
+        let layers = begin / self.chunk..end.div_ceil(self.chunk);
+        let span = |layer: usize| (begin.max(layer * self.chunk), end.min((layer + 1) * self.chunk));
+        layers.map(|layer| [x, y, span(layer)]).collect()
+    }
+
+    /// Copies by rows what two boxes have in common of one channel, of the source's several, to where that channel is alone.
+    pub fn copy_channel(&self, channel: usize, from_box: &Spans, from: &[u8], to_box: &Spans, to: &mut [u8]) {
         let [x, y, z] = [0, 1, 2].map(|axis| {
             (from_box[axis].0.max(to_box[axis].0), from_box[axis].1.min(to_box[axis].1))
         });
@@ -102,14 +110,20 @@ impl Layout {
             let line = j - part[1].0 + height * (k - part[2].0 + depth * channel);
             self.width * (x.0 - part[0].0 + width * line)
         };
-        for channel in 0..self.channels {
-            for k in z.0..z.1 {
-                for j in y.0..y.1 {
-                    let begin = place(from_box, channel, j, k);
-                    let goal = place(to_box, channel, j, k);
-                    to[goal..goal + row].copy_from_slice(&from[begin..begin + row]);
-                }
+        for k in z.0..z.1 {
+            for j in y.0..y.1 {
+                let begin = place(from_box, channel, j, k);
+                let goal = place(to_box, 0, j, k);
+                to[goal..goal + row].copy_from_slice(&from[begin..begin + row]);
             }
+        }
+    }
+
+    /// The same in each channel.
+    pub fn copy_rows(&self, from_box: &Spans, from: &[u8], to_box: &Spans, to: &mut [u8]) {
+        let channels = to.chunks_exact_mut(voxels(to_box) * self.width);
+        for (channel, values) in channels.enumerate() {
+            self.copy_channel(channel, from_box, from, to_box, values);
         }
     }
 

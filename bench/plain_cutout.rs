@@ -3,8 +3,10 @@
 //!     plain_cutout LAYOUT make DATASET                 writes the dataset, with the scale s
 //!     plain_cutout LAYOUT cutout DATASET KEY BOX       writes the values of the box to standard output
 //!
-//! The whole result is made in memory. Each chunk costs one open, one fstat and one pread, and is copied by rows.
+//! It is written channel by channel, and within a channel by layers of cells along z, each made in memory. Each chunk costs
+//! one open, one fstat and one pread for each channel, and is copied by rows.
 
+#[allow(dead_code)]
 mod layout;
 
 use layout::{Layout, Noise, Spans};
@@ -28,15 +30,24 @@ fn read_chunk(path: &Path, chunk: &mut [u8]) -> io::Result<bool> {
     Ok(true)
 }
 
-fn cut(layout: &Layout, folder: &Path, part: &Spans) -> io::Result<Vec<u8>> {
-    let mut out = vec![0; layout.bytes_of(part)];
+fn cut(layout: &Layout, folder: &Path, part: &Spans) -> io::Result<()> {
+    let layers = layout.layers(part);
+    let room = layers.iter().map(layout::voxels).max().unwrap_or(0) * layout.width;
+    let mut values = vec![0; room];
     let mut chunk = vec![0; layout.bytes_of(&layout.cell_box([0, 0, 0]))];
-    for cell in layout.cells(part) {
-        if read_chunk(&folder.join(layout.chunk_name(cell)), &mut chunk)? {
-            layout.copy_rows(&layout.cell_box(cell), &chunk, part, &mut out);
+    let absent = vec![0; chunk.len()];
+    for channel in 0..layout.channels {
+        for layer in &layers {
+            let values = &mut values[..layout::voxels(layer) * layout.width];
+            for cell in layout.cells(layer) {
+                let there = read_chunk(&folder.join(layout.chunk_name(cell)), &mut chunk)?;
+                let bytes = if there { &chunk } else { &absent };
+                layout.copy_channel(channel, &layout.cell_box(cell), bytes, layer, values);
+            }
+            layout::write_out(values)?;
         }
     }
-    Ok(out)
+    Ok(())
 }
 
 fn make(layout: &Layout, dataset: &Path) -> io::Result<()> {
@@ -57,7 +68,7 @@ fn main() -> ExitCode {
         ["cutout", dataset, key, part] => {
             let part = layout.parse_box(part)?;
             let folder = Path::new(dataset).join(key);
-            Some(cut(layout, &folder, &part).and_then(|values| layout::write_out(&values)))
+            Some(cut(layout, &folder, &part))
         }
         _ => None,
     })

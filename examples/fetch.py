@@ -1,12 +1,12 @@
 #!/usr/bin/env python3
 """Copies a part of a volume that a web server has into a local folder.
 
-    fetch.py LINK DATASET             copies the info, and says of each scale what it is, and why vol_tool can't read it
+    fetch.py LINK DATASET             copies the info, and says of each scale what it is, and which members vol_tool can't read
     fetch.py LINK DATASET KEY BOX     copies the chunks of an unsharded scale that a box meets
 
-LINK is the volume's address over HTTP, without a `/` at the end; DATASET is the local folder; BOX is [x0:x1,y0:y1,z0:z1]. A chunk that
-the server hasn't isn't copied. What comes compressed is refused, and so is a scale in shards: copy the whole files of its folder then.
-Nothing but Python's standard library is wanted. The status is 1 where the script refuses.
+LINK is the volume's address, which begins with http:// or https://; DATASET is the local folder; BOX is [x0:x1,y0:y1,z0:z1]. A chunk
+that the server hasn't (404, 403) isn't copied. What comes compressed is refused, and so is a scale in shards: copy the whole files of
+its folder then. Nothing but Python's standard library is wanted. The status is 1 where the script refuses.
 """
 import itertools
 import json
@@ -25,6 +25,10 @@ class Refused(Exception):
     """Why the script refuses, in a line."""
 
 
+# What servers say of what they haven't: stores that don't let everyone list them say the latter.
+NOT_THERE = (404, 403)
+
+
 def fetch(address):
     """The bytes behind an address, or None where there are none."""
     try:
@@ -33,7 +37,7 @@ def fetch(address):
                 raise Refused(f"{address} comes compressed")
             return reply.read()
     except urllib.error.HTTPError as error:
-        if error.code != 404:
+        if error.code not in NOT_THERE:
             raise
         return None
 
@@ -71,7 +75,7 @@ def describe(volume, scale):
 def fetch_info(link, dataset):
     values = fetch(f"{link}/info")
     if values is None:
-        raise Refused(f"there is no {link}/info")
+        raise Refused(f"there is no {link}/info, or not for everyone")
     volume = json.loads(values)
     save(pathlib.Path(dataset) / "info", values)
     for scale in volume["scales"]:
@@ -120,12 +124,23 @@ def fetch_box(link, dataset, key, text):
     print(f"copied {copied} absent {absent}")
 
 
+def check_link(link):
+    """Refuses what is no address over HTTP."""
+    bucket = re.match(r"(?:precomputed://)?gs://(.*)", link)
+    if bucket:
+        raise Refused(f"{link} is no address over HTTP; where it is public it is https://storage.googleapis.com/{bucket[1]}")
+    if not link.startswith(("http://", "https://")):
+        raise Refused(f"{link} doesn't begin with http:// or https://")
+
+
 def main():
     words = sys.argv[1:]
     if len(words) not in (2, 4):
         print(__doc__, file=sys.stderr)
         return 1
+    words[0] = words[0].rstrip("/")
     try:
+        check_link(words[0])
         (fetch_info if len(words) == 2 else fetch_box)(*words)
     except (Refused, OSError, KeyError, json.JSONDecodeError) as why:
         print(f"fetch.py: {why}", file=sys.stderr)

@@ -5,13 +5,20 @@
               [--encoding raw|compressed_segmentation] [--block X,Y,Z] [--sharding PRESHIFT,HASH,MINISHARD_BITS,SHARD_BITS]
               [--workers N]
     volume.py get DATASET KEY BOX OUT.npy [--axes AXES]
+    volume.py add DATASET KEY KEY2 [--chunk X,Y,Z] [--encoding raw|compressed_segmentation] [--block X,Y,Z]
+              [--sharding PRESHIFT,HASH,MINISHARD_BITS,SHARD_BITS]
 
 `put` writes a whole array into the scale KEY, whose folder has to be empty. It makes DATASET/info where there is none, and
-adds the scale to one that has no such scale. `get` reads a box, as [x0:x1,y0:y1,z0:z1] or `all`. Arrays are of uint8, uint16,
-uint32 or uint64 and have the axes z, y, x, or channel, z, y, x (AXES is czyx); with `--axes xyzc` they have x, y, z, or x, y,
-z, channel, as CloudVolume's. HASH is identity or murmur. Numbers that begin with `-` want a `=`: --offset=-3,0,0. The program
-is the one beside this script, or the one that the variable VOL_TOOL names. Nothing but Python's standard library is wanted, and an array is
-never whole in memory. The status is vol_tool's, or 1 where this script refuses.
+adds the scale to one that has no such scale; the layout of a scale that is there stays, whatever the options say. `get` reads a
+box, as [x0:x1,y0:y1,z0:z1] or `all`. `add` adds to DATASET/info a scale KEY2 of the same voxels as KEY in another layout, and stores
+nothing: `vol_tool reshard DATASET KEY DATASET KEY2` fills it.
+
+Arrays are of uint8, uint16, uint32 or uint64 and have the axes z, y, x, or channel, z, y, x (AXES is czyx); with `--axes xyzc`
+they have x, y, z, or x, y, z, channel, as CloudVolume's. `put` takes z, y, x, channel too (zyxc), and refuses an array that looks so
+where no axes are named. HASH is identity or murmur. Numbers that begin with `-` want a `=`:
+--offset=-3,0,0. The program is the one beside this script, or the one that the variable VOL_TOOL names. Nothing but Python's
+standard library is wanted, and an array is never whole in memory. The status is vol_tool's; it is 1 where this script refuses, and 2
+where it can't read its words.
 """
 import argparse
 import array
@@ -35,7 +42,18 @@ CODES = {1: "B", 2: "H", 4: "I", 8: "Q"}
 # How many bytes are handed on at once.
 PIECE = 1 << 20
 
+# A data set or a key, as the program takes one.
+SEGMENT = r"(?!\.\.?(?:/|$))[A-Za-z0-9_.-]+"
+NAME = re.compile(rf"(?!-){SEGMENT}(?:/{SEGMENT})*")
+
+# Statuses after which nothing is stored.
+REFUSALS = (1, 2, 3)
+
+# A last axis of at most so many values, behind a longer first one, is one of channels rather than x.
+FEW_CHANNELS = 4
+
 # Limits of the program.
+MOST_NAME = 200
 MOST_BYTES = 1 << 30
 MOST_CHANNELS = 1024
 MOST_CHUNK_BYTES = 1 << 27
@@ -62,6 +80,9 @@ class Array:
         self.begin = begin
         self.width = WIDTHS[descr[1:]]
         self.is_swapped = self.width > 1 and descr[0] == (">" if sys.byteorder == "little" else "<")
+        if axes is None and len(shape) == 4 and shape[3] <= FEW_CHANNELS < shape[0]:
+            raise Refused(f"{path} has the shape {shape}: is the last axis the channels (--axes zyxc), or x (--axes czyx)?")
+        axes = axes or "czyx"
         names = axes if len(shape) == 4 else axes.replace("c", "")
         lengths = dict(zip(names, shape))
         self.size = [lengths[axis] for axis in "xyz"]
@@ -117,6 +138,14 @@ def write_header(file, descr, shape, in_order_of_columns):
     file.write(MAGIC + b"\x01\x00" + struct.pack("<H", len(text)) + text.encode("latin-1"))
 
 
+def check_name(name):
+    """Refuses what vol_tool would refuse as a data set or a key."""
+    if len(name) > MOST_NAME or not NAME.fullmatch(name):
+        raise Refused(
+            f"{name!r} is no data set or key: ASCII letters, digits, `_`, `-` and `.`, with single `/` between, below the current folder"
+        )
+
+
 def run_tool(words, **streams):
     return subprocess.Popen([PROGRAM, *words], **streams)
 
@@ -132,6 +161,14 @@ def numbers(count, least, most):
 
     read.__name__ = f"{count} numbers from {least} to {most}"
     return read
+
+
+def lengths(text):
+    """Reads three lengths between commas, whole ones or with a point."""
+    found = [float(word) for word in text.split(",")]
+    if len(found) != 3 or not all(0 < length < math.inf for length in found):
+        raise ValueError
+    return [int(length) if length.is_integer() else length for length in found]
 
 
 def sharding_of(text):
@@ -155,42 +192,82 @@ def sharding_words(text):
         raise argparse.ArgumentTypeError("PRESHIFT,identity|murmur,MINISHARD_BITS,SHARD_BITS are wanted") from None
 
 
-def check_limits(values, words):
+def check_chunk(scale, channels, width):
+    """Refuses what vol_tool would refuse of a scale's chunks."""
+    first = [min(chunk, size) for chunk, size in zip(scale["chunk_sizes"][0], scale["size"])]
+    if math.prod(first) * channels * width > MOST_CHUNK_BYTES:
+        raise Refused(f"a chunk has more than {MOST_CHUNK_BYTES} bytes; name smaller ones with --chunk")
+    if scale["encoding"] != "compressed_segmentation":
+        return
+    block = scale["compressed_segmentation_block_size"]
+    padded = math.prod(-(-side // step) * step for side, step in zip(first, block)) * channels
+    if width < 4:
+        raise Refused(f"a segmentation has values of 32 or 64 bits, and the array has uint{8 * width}")
+    if padded > MOST_PADDED:
+        raise Refused(f"a chunk of a segmentation has more than {MOST_PADDED} voxels; name smaller ones with --chunk")
+
+
+def check_limits(values):
     """Refuses what vol_tool would refuse, before anything is written."""
-    segmented = words.encoding == "compressed_segmentation"
-    first = [min(chunk, size) for chunk, size in zip(words.chunk, values.size)]
-    padded = math.prod(-(-side // block) * block for side, block in zip(first, words.block)) * values.channels
     if values.bytes() > MOST_BYTES:
         raise Refused(f"the array has {values.bytes()} bytes, and at most {MOST_BYTES} are written at once")
     if values.channels > MOST_CHANNELS:
         raise Refused(f"the array has {values.channels} channels, and at most {MOST_CHANNELS} are stored")
-    if math.prod(first) * values.channels * values.width > MOST_CHUNK_BYTES:
-        raise Refused(f"a chunk has more than {MOST_CHUNK_BYTES} bytes; name smaller ones with --chunk")
-    if segmented and values.width < 4:
-        raise Refused(f"a segmentation has values of 32 or 64 bits, and the array has uint{8 * values.width}")
-    if segmented and padded > MOST_PADDED:
-        raise Refused(f"a chunk of a segmentation has more than {MOST_PADDED} voxels; name smaller ones with --chunk")
 
 
-def scale_of(values, words):
-    scale = {
-        "key": words.key,
-        "size": values.size,
-        "voxel_offset": words.offset,
-        "chunk_sizes": [words.chunk],
-        "resolution": words.resolution,
-        "encoding": words.encoding,
-    }
+def set_layout(scale, words):
+    """Gives a scale the layout that the words name."""
+    scale["chunk_sizes"] = [words.chunk]
+    scale["encoding"] = words.encoding
     if words.encoding == "compressed_segmentation":
         scale["compressed_segmentation_block_size"] = words.block
     if words.sharding:
         scale["sharding"] = words.sharding
+
+
+def scale_of(values, words):
+    scale = {"key": words.key, "size": values.size, "voxel_offset": words.offset, "resolution": words.resolution}
+    set_layout(scale, words)
     return scale
 
 
-def info_with(values, words):
+def read_info(path):
+    """The info of a data set, with what is read of it here: the type, in lower case, the channels and a list of scales."""
+    try:
+        volume = json.loads(path.read_bytes())
+    except FileNotFoundError:
+        raise Refused(f"there is no {path}") from None
+    wanted = {"data_type": str, "num_channels": int, "scales": list}
+    if not isinstance(volume, dict) or not all(isinstance(volume.get(member), kind) for member, kind in wanted.items()):
+        raise Refused(f"{path} isn't the info of a volume")
+    volume["data_type"] = volume["data_type"].lower()
+    return volume
+
+
+def width_of(path, volume):
+    """How many bytes a value has."""
+    for width in WIDTHS.values():
+        if volume["data_type"] == f"uint{8 * width}":
+            return width
+    raise Refused(f"{path} has values of the type {volume['data_type']}, and only uint8, uint16, uint32 and uint64 are stored")
+
+
+def write_info(path, volume):
+    path.parent.mkdir(parents=True, exist_ok=True)
+    part = path.with_name("info.part")
+    part.write_text(json.dumps(volume, indent=1) + "\n")
+    part.replace(path)
+
+
+def find_scale(path, volume, key):
+    for scale in volume["scales"]:
+        if scale["key"] == key:
+            return scale
+    raise Refused(f"{path} has no scale {key}")
+
+
+def info_with(path, values, words):
     """The info of the dataset with the scale in it, and whether it is there already."""
-    path = pathlib.Path(words.dataset) / "info"
     volume = {
         "@type": "neuroglancer_multiscale_volume",
         "type": "segmentation" if words.encoding == "compressed_segmentation" and values.channels == 1 else "image",
@@ -198,8 +275,8 @@ def info_with(values, words):
         "num_channels": values.channels,
         "scales": [],
     }
-    with contextlib.suppress(FileNotFoundError):
-        volume = json.loads(path.read_bytes())
+    if path.exists():
+        volume = read_info(path)
     for member, wanted in ("data_type", f"uint{8 * values.width}"), ("num_channels", values.channels):
         if volume.get(member) != wanted:
             raise Refused(f"{path} has the {member} {volume.get(member)}, and the array has {wanted}")
@@ -212,16 +289,25 @@ def info_with(values, words):
     return volume, volume["scales"][-1], False
 
 
+def put_back(path, before):
+    """An info of before, or none where there was none: a scale of which nothing is stored would read as zeros."""
+    if before is None:
+        path.unlink()
+    else:
+        path.write_bytes(before)
+
+
 def put(words):
+    check_name(words.dataset)
+    check_name(words.key)
     values = Array(words.array, words.axes)
-    check_limits(values, words)
-    volume, scale, is_there = info_with(values, words)
+    check_limits(values)
+    path = pathlib.Path(words.dataset) / "info"
+    volume, scale, is_there = info_with(path, values, words)
+    before = path.read_bytes() if path.exists() else None
     if not is_there:
-        path = pathlib.Path(words.dataset) / "info"
-        path.parent.mkdir(parents=True, exist_ok=True)
-        part = path.with_name("info.part")
-        part.write_text(json.dumps(volume, indent=1) + "\n")
-        part.replace(path)
+        check_chunk(scale, values.channels, values.width)
+        write_info(path, volume)
     begin = scale.get("voxel_offset", [0, 0, 0])
     head = b"PVW1" + struct.pack("<I3q3Q", 1, *begin, *values.size)
     tool = run_tool(["write", words.dataset, words.key, f"--workers={words.workers}"], stdin=subprocess.PIPE)
@@ -230,7 +316,10 @@ def put(words):
             stream.write(head)
             for piece in values.pieces():
                 stream.write(piece)
-    return tool.wait()
+    status = tool.wait()
+    if not is_there and status in REFUSALS:
+        put_back(path, before)
+    return status
 
 
 def box_of(words, scale):
@@ -245,20 +334,16 @@ def box_of(words, scale):
 
 
 def get(words):
+    check_name(words.dataset)
     path = pathlib.Path(words.dataset) / "info"
-    try:
-        volume = json.loads(path.read_bytes())
-    except FileNotFoundError:
-        raise Refused(f"there is no {path}") from None
-    scale = next((scale for scale in volume["scales"] if scale["key"] == words.key), None)
-    if scale is None:
-        raise Refused(f"{path} has no scale {words.key}")
+    volume = read_info(path)
+    scale = find_scale(path, volume, words.key)
     x, y, z = box_of(words, scale)
     channels = volume["num_channels"]
     # Values with x fastest are an array of x, y, z in numpy's order of columns, and one of z, y, x in its order of rows.
     by_columns = words.axes == "xyzc"
     shape = ([x, y, z] if by_columns else [z, y, x]) if channels == 1 else ([x, y, z, channels] if by_columns else [channels, z, y, x])
-    width = int(volume["data_type"].removeprefix("uint")) // 8
+    width = width_of(path, volume)
     part = words.out + ".part"
     with open(part, "wb") as out:
         write_header(out, f"{'|' if width == 1 else '<'}u{width}", shape, by_columns)
@@ -271,19 +356,41 @@ def get(words):
     return status
 
 
+def add(words):
+    check_name(words.dataset)
+    check_name(words.to_key)
+    path = pathlib.Path(words.dataset) / "info"
+    volume = read_info(path)
+    scale = dict(find_scale(path, volume, words.key), key=words.to_key)
+    if any(other["key"] == words.to_key for other in volume["scales"]):
+        raise Refused(f"{path} has a scale {words.to_key} already")
+    for member in "sharding", "compressed_segmentation_block_size":
+        scale.pop(member, None)
+    set_layout(scale, words)
+    check_chunk(scale, volume["num_channels"], width_of(path, volume))
+    volume["scales"].append(scale)
+    write_info(path, volume)
+    return 0
+
+
+def add_layout(parser):
+    """The options that name a layout."""
+    parser.add_argument("--chunk", type=numbers(3, 1, 1 << 40), default=[64, 64, 64], help="voxels of a chunk (64,64,64)")
+    parser.add_argument("--encoding", choices=["raw", "compressed_segmentation"], default="raw")
+    parser.add_argument("--block", type=numbers(3, 1, 1 << 24), default=[8, 8, 8], help="voxels of a block (8,8,8)")
+    parser.add_argument("--sharding", type=sharding_words, help="PRESHIFT,identity|murmur,MINISHARD_BITS,SHARD_BITS (no shards)")
+
+
 def read_words():
     whole = argparse.ArgumentParser(description=__doc__, formatter_class=argparse.RawDescriptionHelpFormatter)
-    commands = whole.add_subparsers(required=True, metavar="put|get")
+    commands = whole.add_subparsers(required=True, metavar="put|get|add")
     one = commands.add_parser("put", help="writes an array into a scale")
     one.add_argument("array")
     one.add_argument("dataset")
     one.add_argument("key")
     one.add_argument("--offset", type=numbers(3, -(1 << 40), 1 << 40), default=[0, 0, 0], help="the first voxel (0,0,0)")
-    one.add_argument("--resolution", type=numbers(3, 1, 1 << 40), default=[1, 1, 1], help="nanometres of a voxel (1,1,1)")
-    one.add_argument("--chunk", type=numbers(3, 1, 1 << 40), default=[64, 64, 64], help="voxels of a chunk (64,64,64)")
-    one.add_argument("--encoding", choices=["raw", "compressed_segmentation"], default="raw")
-    one.add_argument("--block", type=numbers(3, 1, 1 << 24), default=[8, 8, 8], help="voxels of a block (8,8,8)")
-    one.add_argument("--sharding", type=sharding_words, help="PRESHIFT,identity|murmur,MINISHARD_BITS,SHARD_BITS (no shards)")
+    one.add_argument("--resolution", type=lengths, default=[1, 1, 1], help="nanometres of a voxel (1,1,1)")
+    add_layout(one)
     one.add_argument("--workers", type=int, choices=range(1, 17), default=min(16, os.cpu_count() or 1), metavar="N")
     one.set_defaults(job=put)
     two = commands.add_parser("get", help="reads a box as an array")
@@ -292,8 +399,14 @@ def read_words():
     two.add_argument("box")
     two.add_argument("out")
     two.set_defaults(job=get)
-    for command in (one, two):
-        command.add_argument("--axes", choices=["czyx", "zyx", "xyzc", "xyz"], default="czyx")
+    one.add_argument("--axes", choices=["czyx", "zyx", "xyzc", "xyz", "zyxc"], help="the array's axes (czyx)")
+    two.add_argument("--axes", choices=["czyx", "zyx", "xyzc", "xyz"], default="czyx", help="the array's axes (czyx)")
+    three = commands.add_parser("add", help="adds a scale of the same voxels in another layout")
+    three.add_argument("dataset")
+    three.add_argument("key")
+    three.add_argument("to_key", metavar="key2")
+    add_layout(three)
+    three.set_defaults(job=add, axes="czyx")
     words = whole.parse_args()
     words.axes = {"zyx": "czyx", "xyz": "xyzc"}.get(words.axes, words.axes)
     return words
@@ -305,7 +418,9 @@ def main():
         return words.job(words)
     except (Refused, OSError, json.JSONDecodeError) as why:
         print(f"volume.py: {why}", file=sys.stderr)
-        return 1
+    except KeyError as member:
+        print(f"volume.py: a scale of the info has no member {member}", file=sys.stderr)
+    return 1
 
 
 if __name__ == "__main__":

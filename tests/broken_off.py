@@ -4,15 +4,18 @@
     tests/broken_off.py [PROGRAM]
 
 PROGRAM is crates/vol_tool/out/vol_tool if it is left out. It takes about a minute, so it is run by hand and isn't a
-part of the gate. A write is killed at a random moment, 50 times; cutouts run while another process writes; and a write
-meets a full disk, a small tmpfs, which is passed over with a word where none can be mounted. All of it is done with a scale
-that isn't sharded, with one in eight shards, and with a list that is made from a number. The last line is
-'N passed, N failed', and the status is 1 where a case failed.
+part of the gate. A write is killed at a random moment, 50 times; cutouts and judgements run while another process writes; and
+a write meets a full disk, a small tmpfs, which is passed over with a word where none can be mounted. All of it is done with a
+scale that isn't sharded, with one in eight shards, with a list that is made from a number, and with copies into both forms.
+What stands is judged sound by `verify`, with as many chunks as stand. The last line is 'N passed, N failed', and the status is
+1 where a case failed.
 """
 import contextlib
 import itertools
+import os
 import pathlib
 import random
+import re
 import subprocess
 import sys
 import tempfile
@@ -40,7 +43,12 @@ WRITES = 200
 
 WORDS_WRITE = ["write", "d", "s"]
 WORDS_GENERATE = ["generate", "d", "s", str(NUMBER), str(WRITES)]
+WORDS_COPY = ["reshard", "f", "s", "d", "s"]
 WORDS_CUT = ["cutout", "d", "s", f"[0:{SIZE},0:{SIZE},0:{SIZE}]"]
+WORDS_VERIFY = ["verify", "d", "s"]
+
+# The voxels of a chunk of the scale that is copied, on each axis.
+SOURCE_CHUNK = 64
 
 
 def make_values():
@@ -160,8 +168,23 @@ def judge_torn(found, values):
     return None
 
 
+def judge_sound(found, count=None):
+    """A judgement finds nothing wrong, and so many stored chunks where that is told. Gives the fault, and how many are stored."""
+    status, output, errors = found
+    told = re.fullmatch(rb"cells (\d+) stored (\d+) absent (\d+)\n", output)
+    if (status, errors) != (OK, b"") or not told:
+        return f"verify: status {status}, {output!r}, {errors!r}", 0
+    cells, stored, absent = map(int, told.groups())
+    if cells != (SIZE // CHUNK) ** 3 or stored + absent != cells or count not in (None, stored):
+        return f"verify: {output!r}, and {count} chunks stand", stored
+    return None, stored
+
+
 class Work(typing.NamedTuple):
-    """A write of a scale: the program and its words, the scale's layout, the values, their stream and the objects."""
+    """
+    A write of a scale: the program and its words, the scale's layout, the values, their stream and the objects, the cells that
+    are met, and the data set that is copied.
+    """
 
     program: pathlib.Path
     words: list
@@ -169,18 +192,28 @@ class Work(typing.NamedTuple):
     values: bytes
     stream: pathlib.Path
     objects: dict
+    met: set
+    source: pathlib.Path = None
+
+    def prepare(self, folder):
+        """The scale without a chunk, and beside it the data set that is copied."""
+        lay_out(folder, self.layout)
+        if self.source is not None:
+            (folder / "f").symlink_to(self.source)
 
     def start(self, folder):
         """A write that reads the stream from a file."""
-        lay_out(folder, self.layout)
+        self.prepare(folder)
         with self.stream.open("rb") as feed:
             return subprocess.Popen(
                 [self.program, *self.words], cwd=folder, stdin=feed, stdout=subprocess.DEVNULL, stderr=subprocess.DEVNULL
             )
 
     def judge_standing(self, folder, standing):
-        """A cutout gives what stands."""
-        return judge_cut(run(self.program, folder, WORDS_CUT), self.layout, self.values, standing)
+        """A cutout gives what stands, and a judgement counts it."""
+        count = sum(self.layout.name_of(cell) in standing for cell in self.met)
+        wrong, _ = judge_sound(run(self.program, folder, WORDS_VERIFY), count)
+        return wrong or judge_cut(run(self.program, folder, WORDS_CUT), self.layout, self.values, standing)
 
 
 def judge_killed(work, delay):
@@ -196,15 +229,18 @@ def judge_killed(work, delay):
 
 
 def judge_watched(work):
-    """Cutouts while a write runs. Gives the fault, and how many cutouts were taken meanwhile."""
+    """Cutouts and judgements while a write runs. Gives the fault, and how many cutouts were taken meanwhile."""
     with tempfile.TemporaryDirectory() as name:
         folder = pathlib.Path(name)
         process = work.start(folder)
-        count = 0
+        count = last = 0
         wrong = None
         try:
             while process.poll() is None and wrong is None:
-                wrong = judge_torn(run(work.program, folder, WORDS_CUT), work.values)
+                wrong, stored = judge_sound(run(work.program, folder, WORDS_VERIFY))
+                wrong = wrong or (None if stored >= last else f"verify: {stored} chunks stand, and before {last}")
+                wrong = wrong or judge_torn(run(work.program, folder, WORDS_CUT), work.values)
+                last = stored
                 count += 1
         finally:
             process.kill()
@@ -247,7 +283,7 @@ def small_disk():
 
 def judge_full_disk(work, folder):
     """The disk is full in the middle of a write: whole objects stand, and nothing else."""
-    lay_out(folder, work.layout)
+    work.prepare(folder)
     with work.stream.open("rb") as feed:
         found = run(work.program, folder, work.words, feed)
     wrong, standing = judge_objects(folder, work.objects, parts_allowed=0)
@@ -277,7 +313,7 @@ def judge_work(work):
     watched = [judge_watched(work) for _ in range(WRITES_WATCHED)]
     for number, (wrong, _) in enumerate(watched):
         yield f"watched write {number}", wrong
-    yield "cutouts while a write runs", None if any(count for _, count in watched) else "there were none"
+    yield "cutouts and judgements while a write runs", None if any(count for _, count in watched) else "there were none"
     with small_disk() as folder:
         if folder is None:
             print("no tmpfs can be mounted here: the full disk is passed over")
@@ -285,21 +321,34 @@ def judge_work(work):
             yield "a full disk", judge_full_disk(work, folder)
 
 
+def store_source(program, folder, stream):
+    """What is wrong with the write of a data set f to be copied, or None."""
+    (folder / "f").mkdir()
+    (folder / "f" / "info").write_bytes(info_of([SIZE] * 3, [SOURCE_CHUNK] * 3))
+    with stream.open("rb") as feed:
+        status, _, errors = run(program, folder, ["write", "f", "s"], feed)
+    return None if (status, errors) == (OK, b"") else f"status {status}, {errors!r}"
+
+
 def judge_all(program):
-    """The cases of both layouts, and of a list."""
+    """The cases of both layouts, of a list, and of copies into both."""
     values = make_values()
     of_list, met = make_list()
     with tempfile.TemporaryDirectory() as name:
-        stream = pathlib.Path(name) / "stream"
+        folder = pathlib.Path(name)
+        stream, nothing = folder / "stream", pathlib.Path(os.devnull)
         stream.write_bytes(stream_of(((0, 0, 0), (SIZE,) * 3, values)))
+        yield "the scale that is copied", store_source(program, folder, stream)
         works = [
-            ("", WORDS_WRITE, PLAIN, values, set(cells())),
-            ("shards, ", WORDS_WRITE, SHARDED, values, set(cells())),
-            ("a list, ", WORDS_GENERATE, PLAIN, of_list, met),
+            ("", WORDS_WRITE, PLAIN, values, set(cells()), stream, None),
+            ("shards, ", WORDS_WRITE, SHARDED, values, set(cells()), stream, None),
+            ("a list, ", WORDS_GENERATE, PLAIN, of_list, met, stream, None),
+            ("a copy, ", WORDS_COPY, PLAIN, values, set(cells()), nothing, folder / "f"),
+            ("a copy into shards, ", WORDS_COPY, SHARDED, values, set(cells()), nothing, folder / "f"),
         ]
-        for what, words, layout, due, cells_met in works:
-            work = Work(program, words, layout, due, stream, objects_of(layout, due, cells_met))
-            for title, wrong in judge_work(work):
+        for what, words, layout, due, cells_met, feed, source in works:
+            objects = objects_of(layout, due, cells_met)
+            for title, wrong in judge_work(Work(program, words, layout, due, feed, objects, cells_met, source)):
                 yield f"{what}{title}", wrong
 
 

@@ -507,6 +507,9 @@ EIGHT = line(8, 1)
 PLANE = Volume([4, 4, 1], [1, 1, 1])
 LONG = line(600, 1)
 IN_TWO_SHARDS = line(600, 1, sharding=Sharding(0, False, 0, 1))
+LONG_LABELS = line(600, 1, width=4)
+LONG_SEGMENTED = line(600, 1, width=4, block=(1, 1, 1))
+SEGMENTED_IN_SHARDS = line(600, 1, width=4, block=(1, 1, 1), sharding=Sharding(0, False, 0, 1))
 
 # title, the source's volume, its cells whose files are empty, the target's volume, the cell that is told, and the files
 # that may stand
@@ -562,10 +565,20 @@ DAMAGES = [
         (0, 1, 0),
         [],
     ),
-    # more cells than are made at once
+    (
+        "a lower shard before a lower minishard",
+        EIGHT,
+        [(2, 0, 0), (4, 0, 0)],
+        line(8, 2, sharding=Sharding(0, False, 1, 1)),
+        (2, 0, 0),
+        [],
+    ),
+    # many cells, which are made one by one where they are raw, and 256 at once by several workers where they are segmentations
     ("behind many files", LONG, [(598, 0, 0)], LONG, (598, 0, 0), [LONG.name((number, 0, 0)) for number in range(598)]),
     ("deep in the second shard", LONG, [(599, 0, 0)], IN_TWO_SHARDS, (599, 0, 0), ["0.shard"]),
     ("deep in the first shard", LONG, [(598, 0, 0), (1, 0, 0)], IN_TWO_SHARDS, (598, 0, 0), []),
+    ("in a third window", LONG_LABELS, [(598, 0, 0)], LONG_SEGMENTED, (598, 0, 0), [LONG.name((number, 0, 0)) for number in range(598)]),
+    ("of segmentations, deep in the second shard", LONG_LABELS, [(599, 0, 0)], SEGMENTED_IN_SHARDS, (599, 0, 0), ["0.shard"]),
 ]
 
 
@@ -573,12 +586,12 @@ DAMAGES = [
 def judge_stated(program, volume, empty, target, told, standing, workers, folder):
     source, target = Place(*FROM, volume), Place(*INTO, target)
     lay_out(folder, source, target)
-    values = bytes(number % 251 + 1 for number in range(voxels_in(whole(volume))))
+    values = bytes(number % 251 + 1 for number in range(volume.width * voxels_in(whole(volume))))
     wrong = write_boxes(program, folder, source, [(whole(volume), values)])
     for cell in empty:
         (folder / source.file_of(cell)).write_bytes(b"")
     copy = copy_of(source, target, contents(files_in(folder)))
-    line = f"damaged {','.join(map(str, told))}: chunk length 0 wanted 1\n".encode()
+    line = f"damaged {','.join(map(str, told))}: chunk length 0 wanted {volume.width}\n".encode()
     wrong = wrong or compare(copy.answer(), (DAMAGED, b"", line))
     if wrong is None and list(copy.files) != [target.path(name) for name in standing]:
         wrong = f"the model: {list(copy.files)} may stand"
@@ -1012,6 +1025,17 @@ def judge_wide_blocks(program, folder):
     return wrong or compare(back, (REQUEST, b"", b"padded voxels 8388608 over 4194304\n"))
 
 
+@in_folder
+def judge_zeros(program, folder):
+    """A chunk whose values are all 0 is copied, and a cell that no chunk meets has none."""
+    source, target = Place(*FROM, LITTLE[0]), Place(*INTO, EMPTY)
+    lay_out(folder, source, target)
+    wrong = write_boxes(program, folder, source, [([(4, 5), (0, 1), (0, 1)], b"\0")])
+    before = files_in(folder)
+    wrong = wrong or compare(run(program, folder, copy_words(source, target)), (OK, b"objects 1 cells 1\n", b""))
+    return wrong or compare_added(before, files_in(folder), {"e/t/3-6_0-1_0-1": bytes(3)})
+
+
 def judge_refusals(program):
     for title, line_of in NO_COMMANDS.items():
         yield title, judge(program, TARGET, line_of, (USAGE, b"", b"usage\n"))
@@ -1020,6 +1044,7 @@ def judge_refusals(program):
     for title, arrange, line_of in EMPTY_SOURCES:
         yield title, judge(program, arrange, line_of, (OK, NOTHING, b""))
     yield "blocks that are too large to be written", judge_wide_blocks(program)
+    yield "a chunk of zeros", judge_zeros(program)
 
 
 def judge_all(program):

@@ -16,8 +16,12 @@ import sys
 from program import OK, OUTPUT, REQUEST, compare, open_full, run, stream_of, tell_all
 from segmentations import Segmentation, chunks_after
 from sharded import pick_sharding
+from writes import LARGE as IN_LAYERS
 from writes import (
+    LAYER_BYTES,
+    MORE_BYTES,
     Scale,
+    allow_memory,
     compare_files,
     in_folder,
     lay_out,
@@ -262,6 +266,14 @@ def judge_input(program, folder):
         return wrong or (None if feed.read() == b"left" else "the input was read")
 
 
+@in_folder
+def judge_memory(program, folder):
+    """A large scale is summed in the memory of one layer of its chunks, none of which is stored."""
+    lay_out(folder, IN_LAYERS)
+    found = run(program, folder, words_of(0, 0), prepare=allow_memory(LAYER_BYTES + MORE_BYTES))
+    return compare(found, (OK, b"writes 0 objects 0 bytes 0 sum 0\n", b""))
+
+
 def judge_all(program):
     """Each case's title, and the first thing that is wrong with it or None."""
     yield from judge_known(program)
@@ -271,6 +283,7 @@ def judge_all(program):
     yield from judge_refusals(program)
     yield "a line to a full device", judge_output(program)
     yield "the input", judge_input(program)
+    yield "a large scale in the memory of a layer", judge_memory(program)
 
 
 if __name__ == "__main__":

@@ -5,7 +5,9 @@
 
 PROGRAM is crates/vol_tool/out/vol_tool if it is left out. Each case has a temporary folder of its own, in which the
 program runs. Its status, its output and its one line on standard error are compared with what is due, and so is the
-folder afterwards with what it held before. The last line is 'N passed, N failed', and the status is 1 where a case failed.
+folder afterwards with what it held before. The output is empty, but where a cutout breaks off: then it has what lies
+below the layer of chunks that is damaged or can't be read. The last line is 'N passed, N failed', and the status is 1
+where a case failed.
 """
 import os
 import pathlib
@@ -408,13 +410,6 @@ REFUSED = [
         "damaged 1,1,0: chunk length 3 wanted 4",
     ),
     (
-        "a short chunk behind the first plane",
-        both(with_info(size=[4, 2, 3]), with_bytes("d/s/2-4_0-2_2-3", b"123")),
-        cut("[0:4,0:2,0:3]"),
-        DAMAGED,
-        "damaged 1,0,2: chunk length 3 wanted 4",
-    ),
-    (
         "half a chunk of wide values",
         both(with_info({"data_type": "uint16", "num_channels": 2}), with_bytes(FIRST, bytes(8))),
         cut(),
@@ -431,6 +426,118 @@ REFUSED = [
     ("a chunk that is a link to itself", with_loop(SECOND), cut(), STORE, "store fault"),
     ("a chunk that is a pipe", with_pipe(SECOND), cut(), STORE, "store fault"),
     ("a chunk that is a device", with_device(SECOND), cut(), STORE, "store fault"),
+]
+
+# Layers of chunks of 2 x 2 x 1 voxels, of one channel and of two, and of chunks with two planes. FIRST and SECOND are the
+# lowest layer of the first two.
+
+
+def in_layers(count, *more, volume=None, **scale):
+    """So many layers, and then something more is done."""
+
+    def arrange(folder):
+        with_info(volume, size=[4, 2, count], **scale)(folder)
+        for one in more:
+            one(folder)
+
+    return arrange
+
+
+def two_channels(*more):
+    """Two layers of two channels, without the second chunk of the second one; and then something more is done."""
+    return in_layers(
+        2,
+        with_bytes(FIRST, bytes([1, 2, 3, 4, 21, 22, 23, 24])),
+        with_bytes(SECOND, bytes([5, 6, 7, 8, 25, 26, 27, 28])),
+        with_bytes("d/s/0-2_0-2_1-2", bytes(range(31, 39))),
+        *more,
+        volume={"num_channels": 2},
+    )
+
+
+def thick(*more):
+    """Two layers of two planes each, and two channels, with the first chunk of the first one alone."""
+    first = with_bytes("d/s/0-2_0-2_-3--1", bytes(range(1, 17)))
+    return in_layers(4, first, *more, volume={"num_channels": 2}, chunk_sizes=[[2, 2, 2]], voxel_offset=[0, 0, -3])
+
+
+# A shard of four chunks in two layers, of which the last is short.
+SHORT_LAST = [(0, 0, bytes([1, 2, 3, 4])), (0, 1, bytes([5, 6, 7, 8])), (0, 2, bytes(4)), (0, 3, b"123")]
+
+# title, what is done before, words, status, output, line
+BROKEN_OFF = [
+    (
+        "a short chunk in the third layer",
+        in_layers(3, with_bytes("d/s/2-4_0-2_2-3", b"123")),
+        cut("[0:4,0:2,0:3]"),
+        DAMAGED,
+        VALUES + bytes(8),
+        "damaged 1,0,2: chunk length 3 wanted 4",
+    ),
+    (
+        "a box that begins in its layer",
+        in_layers(3, with_bytes("d/s/2-4_0-2_2-3", b"123")),
+        cut("[0:4,0:2,2:3]"),
+        DAMAGED,
+        b"",
+        "damaged 1,0,2: chunk length 3 wanted 4",
+    ),
+    (
+        "a row of a box",
+        in_layers(3, with_bytes("d/s/2-4_0-2_2-3", b"123")),
+        cut("[1:3,1:2,0:3]"),
+        DAMAGED,
+        bytes([4, 7, 0, 0]),
+        "damaged 1,0,2: chunk length 3 wanted 4",
+    ),
+    (
+        "a short chunk in the second layer of two channels",
+        two_channels(with_bytes("d/s/2-4_0-2_1-2", b"123")),
+        cut("[0:4,0:2,0:2]"),
+        DAMAGED,
+        VALUES,
+        "damaged 1,0,1: chunk length 3 wanted 8",
+    ),
+    (
+        "damaged chunks in both layers",
+        two_channels(with_bytes(SECOND, b""), with_bytes("d/s/0-2_0-2_1-2", b"123")),
+        cut("[0:4,0:2,0:2]"),
+        DAMAGED,
+        b"",
+        "damaged 1,0,0: chunk length 0 wanted 8",
+    ),
+    (
+        "two channels of a layer of two planes, of which the box has one",
+        thick(with_bytes("d/s/0-2_0-2_-1-1", b"")),
+        cut("[0:4,0:2,-2:1]"),
+        DAMAGED,
+        bytes([5, 6, 0, 0, 7, 8, 0, 0]),
+        "damaged 0,0,1: chunk length 0 wanted 16",
+    ),
+    (
+        "a short chunk in the second layer of a shard",
+        in_layers(2, with_bytes("d/s/0.shard", shard_of(0, SHORT_LAST)), sharding=SHARDING),
+        cut("[0:4,0:2,0:2]"),
+        DAMAGED,
+        VALUES,
+        "damaged 1,0,1: chunk length 3 wanted 4",
+    ),
+    (
+        "a pipe in the second layer",
+        in_layers(2, with_new_pipe("d/s/2-4_0-2_1-2")),
+        cut("[0:4,0:2,0:2]"),
+        STORE,
+        VALUES,
+        "store fault",
+    ),
+    (
+        "a pipe in the second layer of two channels",
+        two_channels(with_new_pipe("d/s/2-4_0-2_1-2")),
+        cut("[0:4,0:2,0:2]"),
+        STORE,
+        VALUES,
+        "store fault",
+    ),
 ]
 
 # A stream that writes the whole scale.
@@ -639,6 +746,8 @@ def judge_all(program):
         yield title, judge(program, as_it_is, words, (USAGE, b"", b"usage\n"))
     for title, arrange, words, status, line in REFUSED:
         yield title, judge(program, arrange, words, (status, b"", line.encode() + b"\n"))
+    for title, arrange, words, status, output, line in BROKEN_OFF:
+        yield title, judge(program, arrange, words, (status, output, line.encode() + b"\n"))
     for title, arrange, words, feed, status, line in WRITES_REFUSED:
         yield title, judge(program, arrange, words, (status, b"", line.encode() + b"\n"), feed)
     for title, arrange, words, output in SERVED:

@@ -29,6 +29,7 @@ from writes import (
     positions,
     spell,
     values_after,
+    values_below,
     values_of,
     whole,
     write_of,
@@ -134,7 +135,7 @@ def meets(box, other):
 
 
 def cut_of(scale, chunks, box):
-    """What a cutout of stored chunks answers: the values of the box, or the first cell's fault."""
+    """What a cutout of stored chunks answers: the values of the box, or those below the first cell that has a fault."""
     found = {}
     for cell in scale.cells():
         part = box_of(scale, cell)
@@ -143,7 +144,8 @@ def cut_of(scale, chunks, box):
         try:
             values = values_stored(scale, cell, chunks[cell])
         except Damaged as fault:
-            return DAMAGED, b"", f"damaged {','.join(map(str, cell))}: {fault}\n".encode()
+            line = f"damaged {','.join(map(str, cell))}: {fault}\n"
+            return DAMAGED, values_below(scale, found, box, cell), line.encode()
         found.update(values_after(scale, [(part, values)]))
     return OK, values_of(scale, found, box), b""
 

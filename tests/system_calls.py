@@ -8,8 +8,9 @@ with a word where that isn't installed or isn't allowed; so it is run by hand an
 files, folders and streams that a plain run makes, the first, the second and so on fails: with an error of the device, with
 a full disk, and with a signal, which is tried again or is a fault; and the call fails from then on, as on a device that is
 lost. Each run has a folder of its own; afterwards whole objects stand there, the first ones that are due, and no half of
-one. Of a served run the calls to peers fail too: each peer gets a front of the replies that are due, or that the store
-failed in place of one. The last line is 'N passed, N failed', and the status is 1 where a case failed.
+one, but that a device that is lost, and a copy into shards, may leave one file whose name ends in .part. A cutout may have
+printed a front of its values. Of a served run the calls to peers fail too: each peer gets a front of the replies that are
+due, or that the store failed in place of one. The last line is 'N passed, N failed', and the status is 1 where a case failed.
 """
 import collections
 import functools
@@ -22,7 +23,7 @@ import tempfile
 import typing
 
 from generate import generated, line_of, sum_of
-from program import FEED, INFO_PATH, LIMIT, OK, OUTPUT, REQUEST, SHARDING, STORE, info_of, stream_of, tell_all
+from program import DAMAGED, FEED, INFO_PATH, LIMIT, OK, OUTPUT, REQUEST, SHARDING, STORE, info_of, stream_of, tell_all
 from served import OBJECTS, PEERS, SERVE, WHOLE, failed_of, fronts_of, is_answered, serve_peers
 from serving import DOOR
 from shards import Sharding, files_of
@@ -83,9 +84,28 @@ GENERATE = ["generate", "d", "s", "7", "3"]
 
 CUT = ["cutout", "d", "s", "[0:3,0:1,0:1]"]
 
+# Two layers of two channels each, a chunk a voxel.
+LAYERS = info_of([1, 1, 2], [1, 1, 1], {"num_channels": 2})
+LAYER_OBJECTS = {"d/s/0-1_0-1_0-1": b"\1\2", "d/s/0-1_0-1_1-2": b"\3\4"}
+TORN_LAYER = {**LAYER_OBJECTS, "d/s/0-1_0-1_1-2": b"\3"}
+CUT_LAYERS = ["cutout", "d", "s", "[0:1,0:1,0:2]"]
+TORN_LINE = b"damaged 0,0,1: chunk length 1 wanted 2\n"
+
+VERIFY = ["verify", "d", "s"]
+SOUND_LINE = b"cells 3 stored 3 absent 0\n"
+
+# The row is copied into pairs of its voxels, and into the two shards.
+COPY = ["reshard", "d", "s", "e", "s"]
+PAIRS = info_of([3, 1, 1], [2, 1, 1])
+PAIR_OBJECTS = {"e/s/0-2_0-1_0-1": b"\1\2", "e/s/2-3_0-1_0-1": b"\3"}
+COPIED_SHARDS = {f"e{name.removeprefix('d')}": shard for name, shard in SHARDS.items()}
+
 
 class Case(typing.NamedTuple):
-    """A run: the objects that stand, its words and its stream, what it ends with, the objects that it puts, and the info."""
+    """
+    A run: the objects that stand, its words and its stream, what it ends with, the objects that it puts, the info, and how many
+    files that aren't finished it may leave.
+    """
 
     title: str
     objects: dict
@@ -96,6 +116,7 @@ class Case(typing.NamedTuple):
     errors: bytes
     put: dict
     info: bytes = ROW
+    parts: int = 0
 
     def before(self):
         return {**self.objects, INFO_PATH: self.info}
@@ -114,6 +135,33 @@ RUNS = [
     Case("a cutout", ROW_OBJECTS, CUT, b"", OK, b"\1\2\3", b"", {}),
     Case("a cutout of shards", SHARDS, CUT, b"", OK, b"\1\2\3", b"", {}, IN_SHARDS),
     Case("a cutout of nothing", {}, CUT, b"", OK, b"\0\0\0", b"", {}),
+    Case("a cutout of layers", LAYER_OBJECTS, CUT_LAYERS, b"", OK, b"\1\3\2\4", b"", {}, LAYERS),
+    Case("a cutout of a damaged layer", TORN_LAYER, CUT_LAYERS, b"", DAMAGED, b"\1", TORN_LINE, {}, LAYERS),
+    Case("a copy", {**ROW_OBJECTS, "e/info": PAIRS}, COPY, b"", OK, b"objects 2 cells 2\n", b"", PAIR_OBJECTS),
+    Case(
+        "a copy into shards",
+        {**ROW_OBJECTS, "e/info": IN_SHARDS},
+        COPY,
+        b"",
+        OK,
+        b"objects 2 cells 3\n",
+        b"",
+        COPIED_SHARDS,
+        parts=1,
+    ),
+    Case(
+        "a copy out of shards",
+        {**SHARDS, "e/info": PAIRS},
+        COPY,
+        b"",
+        OK,
+        b"objects 2 cells 2\n",
+        b"",
+        PAIR_OBJECTS,
+        IN_SHARDS,
+    ),
+    Case("a judgement", ROW_OBJECTS, VERIFY, b"", OK, SOUND_LINE, b"", {}),
+    Case("a judgement of shards", SHARDS, VERIFY, b"", OK, SOUND_LINE, b"", {}, IN_SHARDS),
 ]
 
 # What a served run says on standard error, by its status.
@@ -161,12 +209,15 @@ def judge_plain(found, case):
 
 
 def judge_files(files, case, is_lost):
-    """The files are those before and a front of what is put. A device that is lost may keep one that isn't finished."""
+    """
+    The files are those before and a front of what is put. A device that is lost may keep one that isn't finished, and so may a
+    case that says so.
+    """
     count = sum(name in files for name in case.put)
     wanted = {**case.before(), **dict(list(case.put.items())[:count])}
     parts = [name for name in files if name not in wanted and name.endswith(".part")]
     kept = {name: content for name, content in files.items() if name not in parts}
-    if kept != wanted or len(parts) > is_lost:
+    if kept != wanted or len(parts) > max(is_lost, case.parts):
         return f"files {sorted(files)} wanted {sorted(wanted)}"
     return None
 

@@ -104,6 +104,27 @@ def judge_form(program, form, folder):
     return None
 
 
+@in_folder
+def asks_for_axes(program, _, folder):
+    size, channels = [7, 6, 5], 3
+    shape = range(size[0]), range(size[1]), range(size[2]), range(channels)
+    values = {place: number % 251 for number, place in enumerate(itertools.product(*shape))}
+    content = in_order(values, size, channels, "zyxc", False, "little", 1)
+    save(folder / "in.npy", "|u1", [5, 6, 7, 3], False, content)
+    status, out, err = call(program, folder, "put", "in.npy", "d", "s")
+    if status != 1 or out or "--axes zyxc" not in err or (folder / "d").exists():
+        return f"no axes named: {status} {out!r} {err!r}"
+    for axes, number, wanted_size in [("zyxc", 3, size), ("czyx", 5, [3, 7, 6])]:
+        status, _, err = call(program, folder, "put", "in.npy", axes, "s", "--axes", axes)
+        info = json.loads((folder / axes / "info").read_text())
+        if status != 0 or info["num_channels"] != number or info["scales"][0]["size"] != wanted_size:
+            return f"{axes}: {status} {err!r} {info}"
+    call(program, folder, "get", "zyxc", "s", "all", "out.npy")
+    if load(folder / "out.npy")[3] != in_order(values, size, channels, "czyx", False, "little", 1):
+        return "zyxc has other values"
+    return None
+
+
 def cube(path, descr, side=2, width=1):
     save(path, descr, [side] * 3, False, bytes(side**3 * width))
 
@@ -169,14 +190,104 @@ def refuses_boxes(program, _, folder):
     return None
 
 
+@in_folder
+def refuses_names(program, _, folder):
+    cube(folder / "in.npy", "|u1")
+    for dataset, key in [(str(folder / "d"), "s"), ("d/", "s"), ("./d", "s"), ("d", "../s"), ("d", "8 8 40"), ("d", "s" * 201)]:
+        for words in [("put", "in.npy", dataset, key), ("add", dataset, "s", key)]:
+            status, out, err = call(program, folder, *words)
+            if status != 1 or out or not err.startswith("volume.py: ") or (folder / "d").exists():
+                return f"{words} {status} {out!r} {err!r}"
+    return None
+
+
+@in_folder
+def keeps_info(program, _, folder):
+    cube(folder / "in.npy", "|u1")
+    (folder / "d/s").mkdir(parents=True)
+    (folder / "d/s/old").touch()
+    status, _, err = call(program, folder, "put", "in.npy", "d", "s")
+    if status != REQUEST or err != "folder not empty\n" or (folder / "d/info").exists():
+        return f"no info before: {status} {err!r}"
+    call(program, folder, "put", "in.npy", "d", "t")
+    before = (folder / "d/info").read_bytes()
+    status, _, _ = call(program, folder, "put", "in.npy", "d", "s")
+    return None if status == REQUEST and (folder / "d/info").read_bytes() == before else f"an info before: {status}"
+
+
+@in_folder
+def keeps_lengths(program, _, folder):
+    cube(folder / "in.npy", "|u1")
+    status, _, err = call(program, folder, "put", "in.npy", "d", "s", "--resolution", "4.5,4.5,40")
+    scale = json.loads((folder / "d/info").read_text())["scales"][0]
+    if status != 0 or scale["resolution"] != [4.5, 4.5, 40]:
+        return f"{status} {err!r} {scale}"
+    status, _, _ = call(program, folder, "put", "in.npy", "d", "t", "--resolution", "0,1,1")
+    return None if status != 0 else "a length of 0"
+
+
+@in_folder
+def takes_infos(program, _, folder):
+    """Infos that others made: a type in capitals, a layout that the options' own wouldn't fit, and what is no info."""
+    (folder / "d").mkdir()
+    path = folder / "d/info"
+    scale = {"key": "s", "size": [2, 2, 2], "chunk_sizes": [[1, 1, 1]], "resolution": [1, 1, 1], "encoding": "raw"}
+    volume = {"type": "image", "data_type": "UINT64", "num_channels": 1024, "scales": [scale]}
+    path.write_text(json.dumps(volume))
+    save(folder / "in.npy", "<u8", [1024, 2, 2, 2], False, random.Random(1).randbytes(8 * 8 * 1024))
+    words = "--axes", "czyx", "--encoding", "compressed_segmentation", "--block", "128,128,128"
+    status, _, err = call(program, folder, "put", "in.npy", "d", "s", *words)
+    if status != 0:
+        return f"a layout that is there: {status} {err!r}"
+    call(program, folder, "get", "d", "s", "all", "out.npy")
+    if load(folder / "out.npy")[3] != load(folder / "in.npy")[3]:
+        return "other values"
+    for text in ["[]", "{}", "{", '{"data_type": "float32", "num_channels": 1, "scales": []}', json.dumps({**volume, "scales": [{}]})]:
+        path.write_text(text)
+        for words in [("put", "in.npy", "d", "s"), ("get", "d", "s", "all", "o.npy"), ("add", "d", "s", "t")]:
+            status, out, err = call(program, folder, *words)
+            if status != 1 or out or not err.startswith("volume.py: ") or err.count("\n") != 1 or path.read_text() != text:
+                return f"{text} {words} {status} {out!r} {err!r}"
+    return None
+
+
+@in_folder
+def adds_layouts(program, _, folder):
+    side = 5
+    values = random.Random(0).randbytes(4 * side**3)
+    save(folder / "in.npy", "<u4", [side] * 3, False, values)
+    call(program, folder, "put", "in.npy", "d", "s", "--chunk", "4,4,4", "--offset=-3,0,7", "--resolution", "8,8,40")
+    for key, options in [
+        ("t", ["--chunk", "2,3,4", "--sharding", "0,identity,1,1"]),
+        ("u", ["--chunk", "4,4,4", "--encoding", "compressed_segmentation", "--block", "2,2,2"]),
+    ]:
+        if call(program, folder, "add", "d", "s", key, *options) != (0, "", ""):
+            return f"add of {key} fails"
+        subprocess.run([program, "reshard", "d", "s", "d", key], cwd=folder, check=True, capture_output=True, timeout=LIMIT)
+        if call(program, folder, "get", "d", key, "all", "out.npy") != (0, "", "") or load(folder / "out.npy")[3] != values:
+            return f"{key} has other values"
+    before = (folder / "d/info").read_bytes()
+    for words in [("d", "s", "t"), ("d", "v", "w"), ("e", "s", "t")]:
+        status, _, err = call(program, folder, "add", *words)
+        if status != 1 or not err or (folder / "d/info").read_bytes() != before:
+            return f"add {words} {status} {err!r}"
+    return None
+
+
 def judge_all(program):
     for form in FORMS:
         yield f"an array {form}", judge_form(program, form)
     for judge, title in [
+        (asks_for_axes, "channels behind x"),
         (refuses_types, "types that aren't stored"),
         (refuses_sizes, "sizes past the limits"),
         (adds_scales, "scales of one info"),
         (refuses_boxes, "boxes that aren't there"),
+        (refuses_names, "names that the program takes as none"),
+        (keeps_info, "an info after a refusal"),
+        (keeps_lengths, "lengths of a voxel"),
+        (takes_infos, "infos that others made"),
+        (adds_layouts, "scales in other layouts"),
     ]:
         yield title, judge(program, None)
 

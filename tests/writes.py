@@ -4,7 +4,8 @@
     tests/writes.py [PROGRAM]
 
 PROGRAM is crates/vol_tool/out/vol_tool if it is left out. Each case has a temporary folder of its own. What is due is
-worked out here, voxel by voxel. The last line is 'N passed, N failed', and the status is 1 where a case failed.
+worked out here, voxel by voxel. A cutout of a large scale gets by with the memory of one layer of its chunks. The last
+line is 'N passed, N failed', and the status is 1 where a case failed.
 """
 import dataclasses
 import itertools
@@ -21,6 +22,7 @@ import tempfile
 
 from program import (
     INFO_PATH,
+    MEMORY,
     OK,
     OUTPUT,
     REQUEST,
@@ -88,6 +90,14 @@ def values_of(scale, found, box):
     zero = bytes(scale.width)
     places = itertools.product(range(scale.channels), positions(box))
     return b"".join(found.get((position, channel), zero) for channel, position in places)
+
+
+def values_below(scale, found, box, cell):
+    """What is printed of a box whose first damaged cell is this one: channel 0 of what lies below the cell's layer along z."""
+    zero = bytes(scale.width)
+    x, y, (begin, end) = box
+    below = [x, y, (begin, max(begin, min(end, scale.offset[2] + scale.chunk[2] * cell[2])))]
+    return b"".join(found.get((position, 0), zero) for position in positions(below))
 
 
 def spans(begin, size, chunk):
@@ -343,6 +353,36 @@ def judge_random(program, seed, scale, count, options, folder):
     return wrong
 
 
+# A scale of 512 x 512 x 512 bytes in eight layers of chunks, and what its cutout may take besides one layer.
+LARGE = Scale([512] * 3, [64] * 3)
+LAYER_BYTES = 512 * 512 * 64
+MORE_BYTES = 16 << 20
+
+
+def store_sparse(folder, scale):
+    """All chunks of a scale of bytes, each a file that is a hole."""
+    lay_out(folder, scale)
+    (folder / "d/s").mkdir()
+    for box in itertools.product(*map(spans, scale.offset, scale.size, scale.chunk)):
+        with (folder / "d/s" / "_".join(f"{begin}-{end}" for begin, end in box)).open("wb") as file:
+            file.truncate(math.prod(end - begin for begin, end in box))
+
+
+def allow_memory(count):
+    """From now on this process takes no more than so many bytes of memory for its data."""
+    return lambda: resource.setrlimit(resource.RLIMIT_DATA, (count, count))
+
+
+@in_folder
+def judge_memory(program, room, wanted, folder):
+    """A cutout of a large scale in so many bytes of memory: its status, and how many bytes it prints."""
+    store_sparse(folder, LARGE)
+    words = ["cutout", "d", "s", spell(whole(LARGE))]
+    with tempfile.TemporaryFile() as output:
+        status, _, errors = run(program, folder, words, output=output, prepare=allow_memory(room))
+        return compare((status, os.fstat(output.fileno()).st_size, errors), wanted)
+
+
 SEEDS = range(4)
 
 # title, scale, writes, options
@@ -376,6 +416,9 @@ def judge_all(program):
     yield "a write's line into a closed pipe", judge_output(program, open_closed_pipe)
     for length in (1, 7, 48):
         yield f"pieces of {length}", judge_pieces(program, length)
+    enough, short = LAYER_BYTES + MORE_BYTES, LAYER_BYTES - 1
+    yield "a large cutout in the memory of a layer", judge_memory(program, enough, (OK, 512**3, b""))
+    yield "a large cutout in less", judge_memory(program, short, (MEMORY, 0, b"out of memory\n"))
     for seed, (title, scale, count, options) in itertools.product(SEEDS, RANDOM):
         yield f"boxes at random, {title}, seed {seed}", judge_random(program, seed, scale, count, options)
 

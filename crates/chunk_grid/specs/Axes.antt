@@ -1,4 +1,4 @@
--- A part on one axis of a scale.
+-- A part of a scale, which is a box inside it, on one axis (this project's).
 use Rattle.std.specs.Prelude.{ℕ, ◌^◌, ◌<◌, ◌≤◌, pos, neg_ℤ, ◌≤ℤ◌}
 use Rattle.vol_base.specs.declared.boxes.Box3.{Box3}
 use Rattle.vol_base.specs.Boxes.{at, end, size}

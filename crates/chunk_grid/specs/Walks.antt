@@ -1,4 +1,5 @@
--- The cells of a block of cells, in order: x fastest, then y, then z. Lists over the axes have x first.
+-- The cells of a block of cells, in order: x fastest, then y, then z (this project's profile). Lists over the
+-- axes have x first.
 use Rattle.std.specs.Prelude.{ℕ, ◌+◌, ◌-◌, ◌*◌, ◌/◌, ◌%◌, ◌^◌, ◌<◌, ◌≤◌, ℤ, pos, ◌-ℤ◌, List, [], ◌∷◌, map, slice_index}
 use Rattle.std.specs.List.{range_with_len}
 use Rattle.vol_base.specs.declared.boxes.Box3.{Box3}

@@ -59,5 +59,6 @@ pub fn tell_cells(scale: &Scale, part: &Box3)
         → Contains (cells_in scale.now part.now) (cell_at scale.now p) }
     // and in no other's.
     ensures only { (p : List ℤ) → Inside scale.now part.now → Covers part.now p
-        → All (λ cell. Covers (box_of scale.now cell) p ↔ (cell ≡ cell_at scale.now p)) (cells_in scale.now part.now) }
+        → All (λ cell. Covers (box_of scale.now cell) p ↔ (cell ≡ cell_at scale.now p))
+        (cells_in scale.now part.now) }
 {}

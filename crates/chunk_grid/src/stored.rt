@@ -19,8 +19,10 @@ use vol_spec::Scale;
 /// Does nothing: its clauses say which objects are those of a scale's cells.
 pub fn tell_stored(dataset: &Name, scale: &Scale)
     // No object outside the folder changes, whatever the chunks.
-    ensures others { (m : Objects) (chunks : List (List ℕ × List ℕ)) (name : List ℕ) → is_under (folder_of dataset.now scale.now) name ≡ false
+    ensures others { (m : Objects) (chunks : List (List ℕ × List ℕ)) (name : List ℕ) →
+        is_under (folder_of dataset.now scale.now) name ≡ false
         → fin.get (put_in m (object_list dataset.now scale.now chunks)) name ≡ fin.get m name }
     // Distinct cells have distinct objects.
-    ensures names { (a b : List ℕ) → IsCell scale.now a → IsCell scale.now b → cell_name dataset.now scale.now a ≡ cell_name dataset.now scale.now b → a ≡ b }
+    ensures names { (a b : List ℕ) → IsCell scale.now a → IsCell scale.now b →
+        cell_name dataset.now scale.now a ≡ cell_name dataset.now scale.now b → a ≡ b }
 {}

@@ -1,4 +1,4 @@
--- The room of chunks in a shard.
+-- The room of chunks in a shard (this project's).
 use Rattle.std.specs.Prelude.{ℕ, ◌+◌, List, length, sum_by}
 use Rattle.vol_spec.specs.Shards.{Chunk}
 

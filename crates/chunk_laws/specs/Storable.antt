@@ -1,4 +1,4 @@
--- Chunks that can be stored, and objects with them.
+-- Chunks that can be stored, and objects with them (this project's).
 use Rattle.std.specs.Prelude.{◌≡◌, ◌≢◌, ◌^◌, ◌≤◌, false, List, length, map, All, Contains}
 use Rattle.vol_base.specs.Outside.{Objects, any_under}
 use Rattle.vol_base.specs.Bytes.{AreBytes}
@@ -37,7 +37,8 @@ AreElsewhere dataset s cells cell = All (λ c. object_of dataset s c ≢ object_
 
 -- one of them has
 abbrev pub IsBeside : Name → Scale → List Cell → Cell → Type 0
-IsBeside dataset s cells cell = (c : Cell) × Contains cells c × (object_of dataset s c ≡ object_of dataset s cell)
+IsBeside dataset s cells cell = (c : Cell) × Contains cells c ×
+    (object_of dataset s c ≡ object_of dataset s cell)
 
 -- Writes that meet at most 2^22 cells, of bytes; of a segmentation no more padded voxels than are written; and no object in the scale's folder
 pub record AreWritable (m : Objects) (dataset : Name) (s : Scale) (writes : Writes) : Type 0 where

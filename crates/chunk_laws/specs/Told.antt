@@ -1,4 +1,4 @@
--- What objects say, once chunks are stored in them.
+-- What objects say, once chunks are stored in them (this project's).
 use Rattle.std.specs.Prelude.{◌≡◌, ◌<◌, ℕ, Bool, false, List, Contains, Option, Result, Ok, Some, None, if◌then◌else◌}
 use Rattle.vol_base.specs.Boxes.{Covers}
 use Rattle.std.specs.FinMap as fin
@@ -54,10 +54,12 @@ is_listed cells cell = list_any (λ c. bytes_eq c cell) cells
 
 -- whether one of them has its object
 abbrev pub shares_object : Name → Scale → List Cell → Cell → Bool
-shares_object dataset s cells cell = list_any (λ c. bytes_eq (object_of dataset s c) (object_of dataset s cell)) cells
+shares_object dataset s cells cell = list_any (λ c.
+    bytes_eq (object_of dataset s c) (object_of dataset s cell)) cells
 
 -- what is said of a cell: its chunk where it is one of them, nothing where one of them has its object, and else what was said before
-abbrev pub said : Name → Scale → CellBytes → List Cell → Cell → Result (Option Bytes) Fault → Result (Option Bytes) Fault
+abbrev pub said : Name → Scale → CellBytes → List Cell → Cell → Result (Option Bytes) Fault →
+    Result (Option Bytes) Fault
 said dataset s raw cells cell before =
     if is_listed cells cell then Ok (Some (encoded s cell (raw cell)))
     else (if shares_object dataset s cells cell then Ok None else before)
@@ -65,7 +67,8 @@ said dataset s raw cells cell before =
 abbrev pub SaysOfEach : Objects → Name → Scale → CellBytes → List Cell → Type 0
 SaysOfEach m dataset s raw cells =
     (cell : Cell) → IsCell s cell
-    → chunk_in (stored_in m dataset s raw cells) dataset s cell ≡ said dataset s raw cells cell (chunk_in m dataset s cell)
+    → chunk_in (stored_in m dataset s raw cells) dataset s cell
+    ≡ said dataset s raw cells cell (chunk_in m dataset s cell)
 
 -- each other cell is absent
 abbrev pub HasNoOther : Objects → Name → Scale → CellBytes → List Cell → Type 0
@@ -83,7 +86,8 @@ HasLastWrites now dataset s writes =
 abbrev pub HasNoFault : Objects → Name → Scale → Type 0
 HasNoFault now dataset s = (cell : Cell) → IsCell s cell → fault_in now dataset s cell ≡ None
 
--- a box has no first fault, its cutout is the last write at each voxel and channel, none missing, and nothing is wrong with its cells
+-- a box has no first fault, its cutout is the last write at each voxel and channel, none missing (so many values
+-- side by side), and nothing is wrong with its cells
 pub record ReadsBack (now : Objects) (dataset : Name) (s : Scale) (writes : Writes) (b : Box3) : Type 0 where
   pub faultless : first_fault now dataset s b ≡ None
   pub values : cut now dataset s b ≡ raw_bytes b s.channels s.width (last s.width zeros writes)

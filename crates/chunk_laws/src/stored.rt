@@ -41,7 +41,8 @@ pub fn tell_chunks(dataset: &Name, scale: &Scale)
         → HasNoFault (written_in m dataset.now scale.now writes) dataset.now scale.now }
     // so each box inside the scale is read back.
     ensures cutout { (m : Objects) (writes : Writes) (b : Box3) → AreWritable m dataset.now scale.now writes
-        → Inside scale.now b → ReadsBack (written_in m dataset.now scale.now writes) dataset.now scale.now writes b }
+        → Inside scale.now b
+        → ReadsBack (written_in m dataset.now scale.now writes) dataset.now scale.now writes b }
     // No object outside the folder changes, whatever the chunks.
     ensures outside { (m : Objects) (chunks : Chunks) → LeavesOutside m dataset.now scale.now chunks }
 {}

@@ -23,7 +23,13 @@ impl Model for Pool {
 
     ghost view = { λ p. record { reserved = p.reserved; len = p.len; lent = p.lent; held = p.frames.items } };
 
-    ghost invariant = { λ p. IsStock (record { reserved = p.reserved; len = p.len; lent = p.lent; held = p.frames.items }) p.frames.cap };
+    ghost invariant = { λ p. IsStock (record {
+      reserved = p.reserved;
+      len = p.len;
+      lent = p.lent;
+      held =
+          p.frames.items;
+    }) p.frames.cap };
 }
 
 // So many frames, in memory for as many.

@@ -1,4 +1,4 @@
--- The command line.
+-- The command line (this project's profile).
 use Rattle.std.specs.Prelude.{ℕ, ◌^◌, ◌<◌, ◌≤◌, ◌&&◌, ◌||◌, ◌==◌, not, Bool, List, [], ◌∷◌, length, drop, filter, slice_index, nat_eq, nat_le, nat_lt, Option, Some, None, option_and_then, if◌then◌else◌, codes}
 use Rattle.std.specs.Char.{is_ascii_digit}
 use Rattle.std.specs.List.{list_all, starts_with}
@@ -33,7 +33,8 @@ box_of word = result_ok (parsed (box_numbers word))
 
 -- a number: `0`, or a digit 1 to 9 that at most nine digits follow
 abbrev pub is_number : List ℕ → Bool
-is_number word = list_all is_ascii_digit word && (nat_le 1 (length word) && nat_le (length word) 10) && (length word == 1 || not (slice_index word 0 == 48))
+is_number word = list_all is_ascii_digit word && (nat_le 1 (length word) && nat_le (length word) 10) &&
+    (length word == 1 || not (slice_index word 0 == 48))
 
 abbrev pub number : List ℕ → Option ℕ
 number word = if is_number word then Some (digits_value 10 word) else None
@@ -83,7 +84,8 @@ write_line plain others = None
 
 -- `generate DATASET KEY NUMBER WRITES [--workers=N]`, by its plain words and the others
 abbrev pub generate_of : Option (List ℕ) → Option (List ℕ) → Option ℕ → Option ℕ → Option ℕ → Option Command
-generate_of (Some dataset) (Some key) (Some n) (Some writes) (Some count) = Some (Generate dataset key n writes count)
+generate_of (Some dataset) (Some key) (Some n) (Some writes) (Some count) =
+    Some (Generate dataset key n writes count)
 generate_of (Some dataset) (Some key) (Some n) (Some writes) None = None
 generate_of (Some dataset) (Some key) (Some n) None count = None
 generate_of (Some dataset) (Some key) None writes count = None
@@ -101,8 +103,10 @@ numbered (Some (Write dataset key count)) (Some n) (Some writes) = Some (Generat
 numbered found n writes = None
 
 -- `reshard DATASET KEY DATASET2 KEY2 [--workers=N]`, by its plain words and the others: a scale, and the one that it is copied into
-abbrev pub reshard_of : Option (List ℕ) → Option (List ℕ) → Option (List ℕ) → Option (List ℕ) → Option ℕ → Option Command
-reshard_of (Some dataset) (Some key) (Some to_dataset) (Some to_key) (Some count) = Some (Reshard dataset key to_dataset to_key count)
+abbrev pub reshard_of : Option (List ℕ) → Option (List ℕ) → Option (List ℕ) → Option (List ℕ) → Option ℕ →
+    Option Command
+reshard_of (Some dataset) (Some key) (Some to_dataset) (Some to_key) (Some count) =
+    Some (Reshard dataset key to_dataset to_key count)
 reshard_of (Some dataset) (Some key) (Some to_dataset) (Some to_key) None = None
 reshard_of (Some dataset) (Some key) (Some to_dataset) None count = None
 reshard_of (Some dataset) (Some key) None to_key count = None
@@ -111,12 +115,14 @@ reshard_of None key to_dataset to_key count = None
 
 abbrev pub reshard_line : List (List ℕ) → List (List ℕ) → Option Command
 reshard_line (dataset ∷ key ∷ to_dataset ∷ to_key ∷ []) others =
-    reshard_of (short_name dataset) (short_name key) (short_name to_dataset) (short_name to_key) (workers others)
+    reshard_of (short_name dataset) (short_name key) (short_name to_dataset) (short_name to_key)
+    (workers others)
 reshard_line plain others = None
 
 -- a command `write` with the names of another scale
 abbrev pub targeted : Option Command → Option (List ℕ) → Option (List ℕ) → Option Command
-targeted (Some (Write dataset key count)) (Some to_dataset) (Some to_key) = Some (Reshard dataset key to_dataset to_key count)
+targeted (Some (Write dataset key count)) (Some to_dataset) (Some to_key) =
+    Some (Reshard dataset key to_dataset to_key count)
 targeted found to_dataset to_key = None
 
 -- `verify DATASET KEY [BOX]`, where no other word may stand: without a box all of the scale
@@ -132,7 +138,8 @@ verify_of None key part = None
 
 abbrev pub verify_line : List (List ℕ) → List (List ℕ) → Option Command
 verify_line (dataset ∷ key ∷ []) [] = verify_of (short_name dataset) (short_name key) (part_of None)
-verify_line (dataset ∷ key ∷ part ∷ []) [] = verify_of (short_name dataset) (short_name key) (part_of (Some part))
+verify_line (dataset ∷ key ∷ part ∷ []) [] = verify_of (short_name dataset) (short_name key)
+    (part_of (Some part))
 verify_line plain others = None
 
 -- P of `--port=P`: 0 to 65535
@@ -141,7 +148,8 @@ port_number value = option_and_then (λ n. if nat_le n 65535 then Some n else No
 
 -- N of `--connections=N`: 1 to 65536
 abbrev pub connection_count : List ℕ → Option ℕ
-connection_count value = option_and_then (λ n. if nat_le 1 n && nat_le n 65536 then Some n else None) (number value)
+connection_count value = option_and_then (λ n. if nat_le 1 n && nat_le n 65536 then Some n else None)
+    (number value)
 
 -- what one of two words has behind an option
 abbrev pub either_value : List ℕ → List ℕ → List ℕ → Option (List ℕ)
@@ -166,7 +174,8 @@ serve_line plain others = None
 -- the command that the words spell, the command's name first
 abbrev pub line : List (List ℕ) → Option Command
 line [] = None
-line (command ∷ words) = if bytes_eq command (codes "cutout") then cutout_line (plain_words words) (other_words words)
+line (command ∷ words) = if bytes_eq command (codes "cutout")
+    then cutout_line (plain_words words) (other_words words)
     else if bytes_eq command (codes "write") then write_line (plain_words words) (other_words words)
     else if bytes_eq command (codes "generate") then generate_line (plain_words words) (other_words words)
     else if bytes_eq command (codes "reshard") then reshard_line (plain_words words) (other_words words)

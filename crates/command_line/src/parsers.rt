@@ -68,7 +68,9 @@ pub(crate) fn parse<'a>(
     words: &'a [&'a str],
 ) -> Result<Option<ArgMatches<'a>>, AllocError>
     requires { takes (app_of parser) (map (λ word. word.now) words.now) ≡ true }
-    ensures { IfOk result (λ found. IsSomeAnd found (λ matches. rows_of (found_of matches) ≡ matches_of (app_of parser.entry) (map (λ word. word.now) words.entry.now))) }
+    ensures { IfOk result (λ found. IsSomeAnd found (λ matches.
+        rows_of (found_of matches) ≡ matches_of (app_of parser.entry)
+        (map (λ word. word.now) words.entry.now))) }
 {
     match parser.try_get_matches_from(words) {
         Ok(matches) => Ok(Some(matches)),

@@ -45,7 +45,8 @@ fn read_reshard_words(
 ) -> Result<Option<Command>, AllocError>
     requires dataset { IsTrue (is_plain dataset.now) }
     requires key { IsTrue (is_plain key.now) }
-    ensures { IfOk result (λ command. command ≡ reshard_of (short_name dataset.now) (short_name key.now) (short_name to_dataset.now) (short_name to_key.now) (workers (map (λ word. word.now) others.now))) }
+    ensures { IfOk result (λ command. command ≡ reshard_of (short_name dataset.now) (short_name key.now)
+        (short_name to_dataset.now) (short_name to_key.now) (workers (map (λ word. word.now) others.now))) }
 {
     let found = read_write_others(alloc, dataset, key, others)?;
     Ok(add_target(found, to_dataset, to_key))
@@ -58,7 +59,8 @@ pub(crate) fn read_reshard(
     others: &[&str],
 ) -> Result<Option<Command>, AllocError>
     requires { IsTrue (list_all is_plain (map (λ word. word.now) plain.now)) }
-    ensures { IfOk result (λ command. command ≡ reshard_line (map (λ word. word.now) plain.now) (map (λ word. word.now) others.now)) }
+    ensures { IfOk result (λ command. command ≡ reshard_line (map (λ word. word.now) plain.now)
+        (map (λ word. word.now) others.now)) }
 {
     match plain {
         [dataset, key, to_dataset, to_key] => {

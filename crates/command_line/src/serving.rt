@@ -32,7 +32,8 @@ fn read_connection_count(value: &str) -> Option<u32>
 
 // The arguments of `serve`.
 fn take_serve(dataset: &str, port: &str, connections: &str) -> Option<Command>
-    ensures { result ≡ serve_of (short_name dataset.now) (port_number port.now) (connection_count connections.now) }
+    ensures { result ≡ serve_of (short_name dataset.now) (port_number port.now)
+        (connection_count connections.now) }
 {
     Some(Command::Serve {
         dataset: read_name(dataset)?,
@@ -43,8 +44,10 @@ fn take_serve(dataset: &str, port: &str, connections: &str) -> Option<Command>
 
 // The arguments that were found for `serve`.
 fn take_serve_found(found: &ArgMatches<'_>) -> Option<Command>
-    ensures { result ≡ serve_of (option_and_then short_name (first_value (found_of found.now) (codes "dataset")))
-        (option_and_then port_number (first_value (found_of found.now) (codes "port"))) (option_and_then connection_count (first_value (found_of found.now) (codes "connections"))) }
+    ensures { result ≡ serve_of (option_and_then short_name
+        (first_value (found_of found.now) (codes "dataset")))
+        (option_and_then port_number (first_value (found_of found.now) (codes "port")))
+        (option_and_then connection_count (first_value (found_of found.now) (codes "connections"))) }
 {
     take_serve(
         found.get_str("dataset")?,
@@ -63,7 +66,8 @@ fn read_serve_words(
     requires dataset { IsTrue (is_plain dataset.now) }
     requires port { IsTrue (is_some (value_after (codes "--port=") port.now)) }
     requires connections { IsTrue (is_some (value_after (codes "--connections=") connections.now)) }
-    ensures { IfOk result (λ command. command ≡ serve_of (short_name dataset.now) (option_and_then port_number (value_after (codes "--port=") port.now))
+    ensures { IfOk result (λ command. command ≡ serve_of (short_name dataset.now)
+        (option_and_then port_number (value_after (codes "--port=") port.now))
         (option_and_then connection_count (value_after (codes "--connections=") connections.now))) }
 {
     let words = ["serve", dataset, port, connections];
@@ -113,7 +117,8 @@ pub(crate) fn read_serve(
     others: &[&str],
 ) -> Result<Option<Command>, AllocError>
     requires { IsTrue (list_all is_plain (map (λ word. word.now) plain.now)) }
-    ensures { IfOk result (λ command. command ≡ serve_line (map (λ word. word.now) plain.now) (map (λ word. word.now) others.now)) }
+    ensures { IfOk result (λ command. command ≡ serve_line (map (λ word. word.now) plain.now)
+        (map (λ word. word.now) others.now)) }
 {
     match (plain, others) {
         ([dataset], [first, second]) => read_serve_options(alloc, dataset, first, second),

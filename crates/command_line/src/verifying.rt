@@ -21,7 +21,8 @@ fn read_part(word: Option<&str>) -> Option<Option<Box3>>
 
 // The arguments of `verify`.
 fn take_verify(dataset: &str, key: &str, part: Option<&str>) -> Option<Command>
-    ensures { result ≡ verify_of (short_name dataset.now) (short_name key.now) (part_of (option_map (λ word. word.now) part.entry)) }
+    ensures { result ≡ verify_of (short_name dataset.now) (short_name key.now)
+        (part_of (option_map (λ word. word.now) part.entry)) }
 {
     Some(Command::Verify {
         dataset: read_name(dataset)?,

@@ -29,8 +29,10 @@ struct Sorted<'a> {
 }
 
 fn sort_words<'a>(alloc: Global, words: &'a [String]) -> Result<Sorted<'a>, AllocError>
-    ensures plain { IfOk result (λ sorted. map (λ word. word.now) sorted.plain.items ≡ plain_words (map string_bytes words.now)) }
-    ensures others { IfOk result (λ sorted. map (λ word. word.now) sorted.others.items ≡ other_words (map string_bytes words.now)) }
+    ensures plain { IfOk result (λ sorted. map (λ word. word.now) sorted.plain.items
+        ≡ plain_words (map string_bytes words.now)) }
+    ensures others { IfOk result (λ sorted. map (λ word. word.now) sorted.others.items
+        ≡ other_words (map string_bytes words.now)) }
 {
     let mut plain = Vec::new(alloc);
     let mut others = Vec::new(alloc);
@@ -123,8 +125,10 @@ fn take_cutout(dataset: &str, key: &str, part: &str) -> Option<Command>
 
 // The arguments that were found for `cutout`.
 fn take_cutout_found(found: &ArgMatches<'_>) -> Option<Command>
-    ensures { result ≡ cutout_of (option_and_then short_name (first_value (found_of found.now) (codes "dataset")))
-        (option_and_then short_name (first_value (found_of found.now) (codes "key"))) (option_and_then box_of (first_value (found_of found.now) (codes "box"))) }
+    ensures { result ≡ cutout_of (option_and_then short_name
+        (first_value (found_of found.now) (codes "dataset")))
+        (option_and_then short_name (first_value (found_of found.now) (codes "key")))
+        (option_and_then box_of (first_value (found_of found.now) (codes "box"))) }
 {
     take_cutout(
         found.get_str("dataset")?,
@@ -143,7 +147,8 @@ fn read_cutout_words(
     requires dataset { IsTrue (is_plain dataset.now) }
     requires key { IsTrue (is_plain key.now) }
     requires part { IsTrue (is_plain part.now) }
-    ensures { IfOk result (λ command. command ≡ cutout_of (short_name dataset.now) (short_name key.now) (box_of part.now)) }
+    ensures { IfOk result (λ command. command ≡ cutout_of (short_name dataset.now) (short_name key.now)
+        (box_of part.now)) }
 {
     let words = ["cutout", dataset, key, part];
     match parse(cutout_parser(alloc)?, &words)? {
@@ -159,7 +164,8 @@ fn read_cutout(
     others: &[&str],
 ) -> Result<Option<Command>, AllocError>
     requires { IsTrue (list_all is_plain (map (λ word. word.now) plain.now)) }
-    ensures { IfOk result (λ command. command ≡ cutout_line (map (λ word. word.now) plain.now) (map (λ word. word.now) others.now)) }
+    ensures { IfOk result (λ command. command ≡ cutout_line (map (λ word. word.now) plain.now)
+        (map (λ word. word.now) others.now)) }
 {
     match plain {
         [dataset, key, part] if others.is_empty() => read_cutout_words(alloc, dataset, key, part),
@@ -179,7 +185,8 @@ fn take_workers(value: Option<&str>) -> Option<u32>
 
 // The arguments of `write`.
 fn take_write(dataset: &str, key: &str, workers: Option<&str>) -> Option<Command>
-    ensures { result ≡ write_of (short_name dataset.now) (short_name key.now) (option_map_or worker_count (option_map (λ word. word.now) workers.entry) (Some 1)) }
+    ensures { result ≡ write_of (short_name dataset.now) (short_name key.now)
+        (option_map_or worker_count (option_map (λ word. word.now) workers.entry) (Some 1)) }
 {
     Some(Command::Write {
         dataset: read_name(dataset)?,
@@ -190,8 +197,10 @@ fn take_write(dataset: &str, key: &str, workers: Option<&str>) -> Option<Command
 
 // The arguments that were found for `write`.
 fn take_write_found(found: &ArgMatches<'_>) -> Option<Command>
-    ensures { result ≡ write_of (option_and_then short_name (first_value (found_of found.now) (codes "dataset")))
-        (option_and_then short_name (first_value (found_of found.now) (codes "key"))) (option_map_or worker_count (first_value (found_of found.now) (codes "workers")) (Some 1)) }
+    ensures { result ≡ write_of (option_and_then short_name
+        (first_value (found_of found.now) (codes "dataset")))
+        (option_and_then short_name (first_value (found_of found.now) (codes "key")))
+        (option_map_or worker_count (first_value (found_of found.now) (codes "workers")) (Some 1)) }
 {
     take_write(
         found.get_str("dataset")?,
@@ -204,7 +213,8 @@ fn take_write_found(found: &ArgMatches<'_>) -> Option<Command>
 fn read_write_words(alloc: Global, dataset: &str, key: &str) -> Result<Option<Command>, AllocError>
     requires dataset { IsTrue (is_plain dataset.now) }
     requires key { IsTrue (is_plain key.now) }
-    ensures { IfOk result (λ command. command ≡ write_of (short_name dataset.now) (short_name key.now) (Some 1)) }
+    ensures { IfOk result (λ command. command ≡ write_of (short_name dataset.now) (short_name key.now)
+        (Some 1)) }
 {
     let words = ["write", dataset, key];
     match parse(write_parser(alloc)?, &words)? {
@@ -229,7 +239,8 @@ fn read_write_option(
 ) -> Result<Option<Command>, AllocError>
     requires dataset { IsTrue (is_plain dataset.now) }
     requires key { IsTrue (is_plain key.now) }
-    ensures { IfOk result (λ command. command ≡ write_of (short_name dataset.now) (short_name key.now) (option_and_then worker_count (value_after (codes "--workers=") option.now))) }
+    ensures { IfOk result (λ command. command ≡ write_of (short_name dataset.now) (short_name key.now)
+        (option_and_then worker_count (value_after (codes "--workers=") option.now))) }
 {
     if !is_workers_option(option) {
         return Ok(None);
@@ -251,7 +262,8 @@ pub(crate) fn read_write_others(
 ) -> Result<Option<Command>, AllocError>
     requires dataset { IsTrue (is_plain dataset.now) }
     requires key { IsTrue (is_plain key.now) }
-    ensures { IfOk result (λ command. command ≡ write_of (short_name dataset.now) (short_name key.now) (workers (map (λ word. word.now) others.now))) }
+    ensures { IfOk result (λ command. command ≡ write_of (short_name dataset.now) (short_name key.now)
+        (workers (map (λ word. word.now) others.now))) }
 {
     match others {
         [] => read_write_words(alloc, dataset, key),
@@ -263,7 +275,8 @@ pub(crate) fn read_write_others(
 // `write DATASET KEY [--workers=N]`.
 fn read_write(alloc: Global, plain: &[&str], others: &[&str]) -> Result<Option<Command>, AllocError>
     requires { IsTrue (list_all is_plain (map (λ word. word.now) plain.now)) }
-    ensures { IfOk result (λ command. command ≡ write_line (map (λ word. word.now) plain.now) (map (λ word. word.now) others.now)) }
+    ensures { IfOk result (λ command. command ≡ write_line (map (λ word. word.now) plain.now)
+        (map (λ word. word.now) others.now)) }
 {
     match plain {
         [dataset, key] => read_write_others(alloc, dataset, key, others),
@@ -329,7 +342,8 @@ fn read_numbered(
 ) -> Result<Option<Command>, AllocError>
     requires dataset { IsTrue (is_plain dataset.now) }
     requires key { IsTrue (is_plain key.now) }
-    ensures { IfOk result (λ command. command ≡ generate_of (short_name dataset.now) (short_name key.now) (seed number.now) (write_count writes.now) (workers (map (λ word. word.now) others.now))) }
+    ensures { IfOk result (λ command. command ≡ generate_of (short_name dataset.now) (short_name key.now)
+        (seed number.now) (write_count writes.now) (workers (map (λ word. word.now) others.now))) }
 {
     let found = read_write_others(alloc, dataset, key, others)?;
     Ok(add_numbers(found, number, writes))
@@ -342,7 +356,8 @@ fn read_generate(
     others: &[&str],
 ) -> Result<Option<Command>, AllocError>
     requires { IsTrue (list_all is_plain (map (λ word. word.now) plain.now)) }
-    ensures { IfOk result (λ command. command ≡ generate_line (map (λ word. word.now) plain.now) (map (λ word. word.now) others.now)) }
+    ensures { IfOk result (λ command. command ≡ generate_line (map (λ word. word.now) plain.now)
+        (map (λ word. word.now) others.now)) }
 {
     match plain {
         [dataset, key, number, writes] => {

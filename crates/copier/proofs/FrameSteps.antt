@@ -1,11 +1,10 @@
 -- Reading one job more.
 use Rattle.std.proofs.Common.{◌≡◌, ◌≢◌, ℕ, zero, suc, ◌+◌, ◌<◌, List, [], ◌∷◌, Vec, Global, length, take, map, Option, Some, None, Ok, Err, refl, ap, ◌∙◌, sym, subst, arith}
-use Rattle.std.specs.Prelude.{slice_index_or}
+use Rattle.std.specs.Prelude.{All, slice_index_or}
 use Rattle.std.specs.List.{range_with_len, slice_set}
 use Rattle.std.proofs.lemmas.Bool.{cases_eq}
 use Rattle.std.proofs.Common.{⊎_elim}
-use Rattle.std.specs.Vec.{with_items}
-use Rattle.std.proofs.lemmas.List.{get_or-map, length-map, take_at, map-set, get_or-set_same, get_or-set_other}
+use Rattle.std.proofs.lemmas.List.{length-map, map-set, get_or-set_same, get_or-set_other}
 use Rattle.std.proofs.lemmas.List.Elements.{All-set}
 use Rattle.std.proofs.lemmas.List.FromFn.{map-range_with_len_more}
 use Rattle.vol_base.specs.Outside.{Objects}
@@ -13,35 +12,35 @@ use Rattle.vol_spec.specs.BoxValues.{first_some}
 use Rattle.vol_spec.specs.Cut.{first_fault}
 use Rattle.vol_spec.specs.Encodings.{raw_size}
 use Rattle.vol_spec.specs.Grid.{cell_box}
-use Rattle.vol_spec.specs.Limits.{first_bytes}
 use Rattle.vol_spec.specs.StoredCells.{cell_of}
 use Rattle.vol_spec.specs.declared.scale.Scale.{Scale}
 use Rattle.vol_spec.proofs.Firsts.{first_some-append}
 use Rattle.vol_spec.specs.Copies.{copied_raw}
-use Rattle.copier.specs.Held.{AreRead, HasLens, ReadsJob, ReadsJobs}
+use Rattle.copier.specs.Held.{AreFilled, AreRead, Holds, IsFilled, ReadsJob, ReadsJobs}
 use Rattle.write_plan.specs.declared.chunks.PrepareFault.{PrepareFault}
 use Rattle.write_plan.specs.declared.chunks.PrepareFault.TheVariants.{StoreFault, Damaged}
 
 abbrev Frames : Type 0
 Frames = List (Vec ℕ Global)
 
-pub lens_set : (to : Scale) (frames : Frames) (k : ℕ) (v : Vec ℕ Global) → HasLens to (map (λ f. f.items) frames) → length v.items ≡ first_bytes to.width to.channels to.size to.chunk
-    → HasLens to (map (λ f. f.items) (slice_set frames k v))
-lens_set to frames k v h len =
-    subst (HasLens to) (sym (map-set (λ (f : Vec ℕ Global). f.items) frames k v))
-    (All-set (λ frame. length frame ≡ first_bytes to.width to.channels to.size to.chunk) (map (λ f. f.items) frames) k v.items len h)
+-- where a frame is set, each still has room,
+pub holds_set : (to : Scale) (frames : Frames) (k : ℕ) (v : Vec ℕ Global) → All (Holds to) frames → Holds to v → All (Holds to) (slice_set frames k v)
+holds_set to frames k v h room = All-set (Holds to) frames k v room h
 
-pub items_same : (v : Vec ℕ Global) (xs : List ℕ) → length xs ≡ length v.items → (with_items v xs).items ≡ xs
-items_same v xs e = take_at xs _ v.len (e ∙ sym v.ok.0)
-
-pub frame_len : (to : Scale) (frames : Frames) (k : ℕ) (d : Vec ℕ Global) → HasLens to (map (λ f. f.items) frames) → k < length frames → length (slice_index_or frames k d).items ≡ first_bytes to.width to.channels to.size to.chunk
-frame_len to frames k d h l =
-    ap length (sym (get_or-map (λ (f : Vec ℕ Global). f.items) frames k d [] l))
-    ∙ h k [] (omega (arith, length-map frames (λ (f : Vec ℕ Global). f.items)))
-
-pub job_step : (m : Objects) (dataset : List ℕ) (from to : Scale) (cell : List ℕ) (v : Vec ℕ Global) (xs : List ℕ) → length xs ≡ length v.items
-    → ReadsJob (Ok tt) m dataset from to cell (take (raw_size to cell) xs) → ReadsJob (Ok tt) m dataset from to cell (take (raw_size to cell) (with_items v xs).items)
-job_step m dataset from to cell v xs e h = subst (λ ys. ReadsJob (Ok tt) m dataset from to cell (take (raw_size to cell) ys)) (sym (items_same v xs e)) h
+-- and one more is filled
+pub filled_more : (to : Scale) (frames : Frames) (k : ℕ) (v : Vec ℕ Global) → k < length frames → AreFilled to k (map (λ f. f.items) frames) → IsFilled to v.items
+    → AreFilled to (k + 1) (map (λ f. f.items) (slice_set frames k v))
+filled_more to frames k v inside old new j l =
+    ap (λ fs. length (slice_index_or fs j [])) (map-set (λ (f : Vec ℕ Global). f.items) frames k v)
+    ∙ ⊎_elim
+    (λ (e : j ≡ k).
+    ap (λ i. length (slice_index_or (slice_set (map (λ (f : Vec ℕ Global). f.items) frames) k v.items) i [])) e
+    ∙ ap length (get_or-set_same (map (λ (f : Vec ℕ Global). f.items) frames) k v.items [] (omega (arith, inside, length-map frames (λ (f : Vec ℕ Global). f.items))))
+    ∙ new)
+    (λ (n : j ≢ k).
+    ap length (get_or-set_other (map (λ (f : Vec ℕ Global). f.items) frames) k j v.items [] n)
+    ∙ old j (omega (arith, n, l)))
+    (cases_eq j k)
 
 module _ (m : Objects) (dataset : List ℕ) (from to : Scale) (jobs : List (List ℕ)) (first : ℕ) where
   abbrev fault : ℕ → Option (List ℕ × Rattle.vol_base.specs.declared.faults.Fault.Fault)

@@ -4,12 +4,11 @@ use Rattle.std.specs.Prelude.{All, Contains, ⊤, filter, slice_index_or, replic
 use Rattle.std.specs.Vec.{with_items}
 use Rattle.std.proofs.lemmas.Bool.Decides.{nat_tests}
 use Rattle.std.proofs.lemmas.List.{length-map, take-append-le, take_at}
-use Rattle.std.proofs.lemmas.List.Elements.{All-contains_itself, All-map, All-weaker}
+use Rattle.std.proofs.lemmas.List.Elements.{All-contains_itself, All-weaker}
 use Rattle.vol_base.specs.Outside.{Objects}
 use Rattle.vol_spec.specs.Copies.{AreOfOneVolume, copied_cells, copied_raw}
 use Rattle.vol_spec.specs.Encodings.{raw_size}
 use Rattle.vol_spec.specs.Grid.{IsCell, cells_on, numbers_on}
-use Rattle.vol_spec.specs.Limits.{first_bytes}
 use Rattle.vol_spec.specs.StoredCells.{AreInOrder, cell_of}
 use Rattle.vol_spec.specs.StoredLists.{in_key_order}
 use Rattle.vol_spec.specs.declared.scale.Scale.{Scale}
@@ -21,7 +20,7 @@ use Rattle.write_plan.specs.Jobs.{Prepares, cells_in, job_of, jobs_fault, jobs_o
 use Rattle.write_plan.specs.declared.jobs.Job.{Job}
 use Rattle.write_plan.specs.declared.chunks.PrepareFault.{PrepareFault}
 use Rattle.write_plan.specs.declared.chunks.PrepareFault.TheVariants.{StoreFault, Damaged}
-use Rattle.copier.specs.Held.{AreRead, HasLens, Held, IsHeld, ReadsJobs, cells_of, front, raw_of, ready_of, work_of}
+use Rattle.copier.specs.Held.{AreFilled, AreRead, Held, Holds, IsHeld, ReadsJobs, cells_of, front, holding, raw_of, ready_of, work_of}
 use Rattle.copier.specs.HeldLaws.{held_jobs, length-front}
 use Rattle.copier.proofs.MarkSteps.{listed_at, listed_from}
 
@@ -47,9 +46,9 @@ all_cells h jobs is = subst (All (IsCell h.to)) (sym (held_of h jobs is)) (held_
 
 -- a copier that is new: of the jobs of these cells, none of which is prepared
 pub held_new : (dataset : List ℕ) (from to : Scale) (cells : List (List ℕ)) (jobs : List Job) (frames : List (Vec ℕ Global)) → AreOfOneVolume from to → AreInOrder to cells → jobs ≡ jobs_of to (in_key_order to cells)
-    → length frames ≡ min (window_of to) (length jobs) → All (λ f. length f.items ≡ first_bytes to.width to.channels to.size to.chunk) frames
-    → IsHeld (record { dataset = dataset; from = from; to = to; cells = cells_in jobs; first = 0; count = 0; frames = map (λ f. f.items) frames }) jobs
-held_new dataset from to cells jobs frames volume order is count lens =
+    → length frames ≡ min (window_of to) (length jobs) → All (Holds to) frames
+    → IsHeld (holding dataset from to jobs 0 0 frames) jobs frames
+held_new dataset from to cells jobs frames volume order is count each =
     let same = held_cells to cells jobs order is in
     let len : length jobs ≡ length (in_key_order to cells) = ap length is ∙ length-map (in_key_order to cells) (job_of to) in
     let all : length (map (λ (f : Vec ℕ Global). f.items) frames) ≡ length frames = length-map frames (λ (f : Vec ℕ Global). f.items) in
@@ -59,7 +58,8 @@ held_new dataset from to cells jobs frames volume order is count lens =
       jobs_are = is ∙ ap (jobs_of to) (sym same);
       room = omega (arith, count, len, all, held);
       within = omega arith;
-      lens = All-map (λ frame. length frame ≡ first_bytes to.width to.channels to.size to.chunk) (λ (f : Vec ℕ Global). f.items) frames lens;
+      filled = λ k l. absurd (omega (arith, l));
+      each = each;
     }
 
 pub held_few : (to : Scale) (cells : List (List ℕ)) (jobs : List Job) → AreInOrder to cells → jobs ≡ jobs_of to (in_key_order to cells) → length cells ≤ 2 ^ 22
@@ -91,11 +91,11 @@ prepare_of (Some m) r h old cells first count frames e is read =
 pub same_items : {X : Type 0} (v : Vec X Global) (xs : List X) → length xs ≡ length v.items → (with_items v xs).items ≡ xs
 same_items v xs e = take_at xs _ v.len (e ∙ sym v.ok.0)
 
--- a copier with other bytes in its frames
-pub held_again : (h : Held) (jobs : List Job) (first count : ℕ) (frames : Vec (Vec ℕ Global) Global) (fs : List (Vec ℕ Global))
-    → IsHeld h jobs → h.frames ≡ map (λ v. v.items) frames.items → length fs ≡ length frames.items → count ≤ length frames.items → HasLens h.to (map (λ v. v.items) fs)
-    → IsHeld (record { dataset = h.dataset; from = h.from; to = h.to; cells = h.cells; first = first; count = count; frames = map (λ v. v.items) (with_items frames fs).items }) jobs
-held_again h jobs first count frames fs held frames_are len within lens =
+-- a copier with other frames
+pub held_again : (h : Held) (jobs : List Job) (first count : ℕ) (old : List (Vec ℕ Global)) (frames : Vec (Vec ℕ Global) Global) (fs : List (Vec ℕ Global))
+    → IsHeld h jobs old → h.frames ≡ map (λ v. v.items) frames.items → length fs ≡ length frames.items → count ≤ length frames.items → AreFilled h.to count (map (λ v. v.items) fs) → All (Holds h.to) fs
+    → IsHeld (record h { first = first; count = count; frames = map (λ v. v.items) (with_items frames fs).items }) jobs (with_items frames fs).items
+held_again h jobs first count old frames fs held frames_are len within filled each =
     let same : (with_items frames fs).items ≡ fs = same_items frames fs len in
     let all : length (map (λ (v : Vec ℕ Global). v.items) (with_items frames fs).items) ≡ length frames.items = length-map (with_items frames fs).items (λ (v : Vec ℕ Global). v.items) ∙ ap length same ∙ len in
     let before : length h.frames ≡ length frames.items = ap length frames_are ∙ length-map frames.items (λ (v : Vec ℕ Global). v.items) in
@@ -104,7 +104,8 @@ held_again h jobs first count frames fs held frames_are len within lens =
       jobs_are = held.jobs_are;
       room = let room = held.room in omega (arith, room, before, all);
       within = omega (arith, all, within);
-      lens = subst (λ xs. HasLens h.to (map (λ v. v.items) xs)) (sym same) lens;
+      filled = subst (λ xs. AreFilled h.to count (map (λ v. v.items) xs)) (sym same) filled;
+      each = subst (All (Holds h.to)) (sym same) each;
     }
 
 held_in : (lo hi : Bool) (bytes : List ℕ) → lo ≡ true → hi ≡ true → (if lo && hi then Some bytes else None) ≡ Some bytes
@@ -113,14 +114,14 @@ held_in true false bytes e f = absurd (cc f)
 held_in false hi bytes e f = absurd (cc e)
 
 -- jobs that were read are ready
-ready_in : (m : Objects) (h : Held) (first last : ℕ) (fs : List (List ℕ)) → HasLens h.to fs → last - first ≤ length fs → AreRead m h.dataset h.from h.to (cells_of h) first (last - first) fs
+ready_in : (m : Objects) (h : Held) (first last : ℕ) (fs : List (List ℕ)) → AreFilled h.to (last - first) fs → AreRead m h.dataset h.from h.to (cells_of h) first (last - first) fs
     → (job : ℕ) → first ≤ job → job < last
-    → ready_of (record { dataset = h.dataset; from = h.from; to = h.to; cells = h.cells; first = first; count = last - first; frames = fs }) job ≡ Some (raw_of h m job)
-ready_in m h first last fs lens within read job low high =
+    → ready_of (record h { first = first; count = last - first; frames = fs }) job ≡ Some (raw_of h m job)
+ready_in m h first last fs filled read job low high =
     let place : first + (job - first) ≡ job = omega arith in
     let cell : List ℕ = cell_of (cells_of h) job in
     let frame : List ℕ = slice_index_or fs (job - first) [] in
-    let long = lens (job - first) [] (omega arith) in
+    let long = filled (job - first) (omega arith) in
     let short = cell_box-short h.to cell in
     let lo : nat_le first job ≡ true = grind (arith, nat_tests) in
     let hi : nat_lt job (first + (last - first)) ≡ true = grind (arith, nat_tests) in
@@ -128,19 +129,19 @@ ready_in m h first last fs lens within read job low high =
     ∙ ap Some (take-append-le (raw_size h.to cell) frame (replicate (raw_size h.to cell) 0) (omega (arith, long, short))
     ∙ subst (λ j. take (raw_size h.to (cell_of (cells_of h) j)) frame ≡ copied_raw m h.dataset h.from h.to (cell_of (cells_of h) j)) place (read.bytes (job - first) (omega arith)))
 
-pub ready_held : (o : Option Objects) (h old : Held) (cells : List (List ℕ)) (first last : ℕ) (fs fr : List (List ℕ)) → h ≡ old → cells ≡ cells_of h → fr ≡ fs → HasLens h.to fs → last - first ≤ length fs
+pub ready_held : (o : Option Objects) (h old : Held) (cells : List (List ℕ)) (first last : ℕ) (fs fr : List (List ℕ)) → h ≡ old → cells ≡ cells_of h → fr ≡ fs → AreFilled h.to (last - first) fs
     → IfSome o (λ m. ReadsJobs (Ok tt) m h.dataset h.from h.to cells first (last - first) fs)
     → IfSome o (λ m. (job : ℕ) → first ≤ job → job < last
-    → ready_of (record { dataset = h.dataset; from = h.from; to = h.to; cells = h.cells; first = first; count = last - first; frames = fr }) job ≡ Some (raw_of old m job))
-ready_held None h old cells first last fs fr e is same lens within read = tt
-ready_held (Some m) h old cells first last fs fr e is same lens within read = λ job low high.
-    ap (λ xs. ready_of (record { dataset = h.dataset; from = h.from; to = h.to; cells = h.cells; first = first; count = last - first; frames = xs }) job) same
-    ∙ ready_in m h first last fs lens within (subst (λ cs. AreRead m h.dataset h.from h.to cs first (last - first) fs) is read) job low high
+    → ready_of (record h { first = first; count = last - first; frames = fr }) job ≡ Some (raw_of old m job))
+ready_held None h old cells first last fs fr e is same filled read = tt
+ready_held (Some m) h old cells first last fs fr e is same filled read = λ job low high.
+    ap (λ xs. ready_of (record h { first = first; count = last - first; frames = xs }) job) same
+    ∙ ready_in m h first last fs filled (subst (λ cs. AreRead m h.dataset h.from h.to cs first (last - first) fs) is read) job low high
     ∙ ap (λ x. Some (raw_of x m job)) e
 
 -- and those from one number up to another are some
 pub ready_some : (h : Held) (first last : ℕ) (fr : List (List ℕ)) (job : ℕ) → first ≤ job → job < last
-    → IsSome (ready_of (record { dataset = h.dataset; from = h.from; to = h.to; cells = h.cells; first = first; count = last - first; frames = fr }) job)
+    → IsSome (ready_of (record h { first = first; count = last - first; frames = fr }) job)
 ready_some h first last fr job low high =
     let lo : nat_le first job ≡ true = grind (arith, nat_tests) in
     let hi : nat_lt job (first + (last - first)) ≡ true = grind (arith, nat_tests) in
@@ -173,13 +174,13 @@ ready_is h job n frame some e long =
     ∙ ap (λ xs. Some (front n xs)) e
     ∙ ap Some (take-append-le n frame (replicate n 0) long)
 
-pub frame_long : (h : Held) (job n : ℕ) (frame : List ℕ) → HasLens h.to h.frames → IsSomeAnd (ready_of h job) (λ b. length b ≡ n) → h.count ≤ length h.frames → slice_index_or h.frames (job - h.first) [] ≡ frame → n ≤ length frame
-frame_long h job n frame lens some within e =
+pub frame_long : (h : Held) (job n : ℕ) (frame : List ℕ) → AreFilled h.to h.count h.frames → IsSomeAnd (ready_of h job) (λ b. length b ≡ n) → slice_index_or h.frames (job - h.first) [] ≡ frame → n ≤ length frame
+frame_long h job n frame filled some e =
     let facts = ready_facts h job n some in
     let low = facts.0 in
     let high = facts.1 in
     let size = facts.2 in
-    let long = lens (job - h.first) [] (omega arith) in
+    let long = filled (job - h.first) (omega arith) in
     let short = cell_box-short h.to (cell_of (cells_of h) job) in
     let same = ap length e in
     omega (arith, long, short, size, same)

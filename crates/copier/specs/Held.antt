@@ -1,5 +1,6 @@
--- What a copier holds, and the jobs that it has.
-use Rattle.std.specs.Prelude.{◌≡◌, ℕ, ◌+◌, ◌-◌, ◌<◌, ◌≤◌, ◌++◌, ◌&&◌, min, nat_le, nat_lt, List, [], take, map, filter, length, Option, Some, None, Result, Ok, Err, ⊤, if◌then◌else◌, slice_index_or, replicate, All}
+-- What a copier holds, and the jobs that it has (this project's).
+use Rattle.std.specs.Prelude.{◌≡◌, ℕ, ◌+◌, ◌-◌, ◌<◌, ◌≤◌, ◌++◌, ◌&&◌, min, nat_le, nat_lt, List, [], Vec, vec_capacity, take, map, filter, length, Option, Some, None, Result, Ok, Err, ⊤, if◌then◌else◌, slice_index_or, replicate, All}
+use Rattle.std.specs.Global.{Global}
 use Rattle.std.specs.List.{range_with_len}
 use Rattle.vol_base.specs.Outside.{Objects}
 use Rattle.vol_base.specs.declared.faults.Fault.{Fault}
@@ -15,7 +16,7 @@ use Rattle.vol_spec.specs.Types.{Bytes, Cell, Name}
 use Rattle.vol_spec.specs.declared.scale.Scale.{Scale}
 use Rattle.chunk_laws.specs.Told.{is_listed}
 use Rattle.copy_laws.specs.Agreement.{AreApart}
-use Rattle.write_plan.specs.Jobs.{Work, jobs_of, window_of}
+use Rattle.write_plan.specs.Jobs.{Work, cells_in, jobs_of, window_of}
 use Rattle.write_plan.specs.declared.jobs.Job.{Job}
 use Rattle.write_plan.specs.declared.chunks.PrepareFault.{PrepareFault}
 use Rattle.write_plan.specs.declared.chunks.PrepareFault.TheVariants.{StoreFault, Damaged}
@@ -29,6 +30,18 @@ pub record Held : Type 0 where
   pub first : ℕ
   pub count : ℕ
   pub frames : List Bytes
+
+-- what is held by its parts, with jobs in place of their cells and frames in place of their bytes
+abbrev pub holding : Name → Scale → Scale → List Job → ℕ → ℕ → List (Vec ℕ Global) → Held
+holding dataset from to jobs first count frames = record {
+  dataset = dataset;
+  from = from;
+  to = to;
+  cells = cells_in jobs;
+  first = first;
+  count = count;
+  frames = map (λ f. f.items) frames;
+}
 
 -- the cells of the jobs: those of the target's grid that are held, in the order of their keys
 abbrev pub cells_of : Held → List Cell
@@ -56,37 +69,56 @@ front n frame = take n (frame ++ replicate n 0)
 abbrev pub ready_of : Held → ℕ → Option Bytes
 ready_of h job =
     if nat_le h.first job && nat_lt job (h.first + h.count)
-    then Some (front (raw_size h.to (cell_of (cells_of h) job)) (slice_index_or h.frames (job - h.first) [])) else None
+    then Some (front (raw_size h.to (cell_of (cells_of h) job)) (slice_index_or h.frames (job - h.first) []))
+    else None
 
--- each frame has room for the values of each cell
-abbrev pub HasLens : Scale → List Bytes → Type 0
-HasLens to frames = All (λ frame. length frame ≡ first_bytes to.width to.channels to.size to.chunk) frames
+-- a frame has room for the values of each cell,
+abbrev pub Holds : Scale → Vec ℕ Global → Type 0
+Holds to frame = first_bytes to.width to.channels to.size to.chunk ≤ vec_capacity frame
 
--- both scales are of one volume, the jobs are those of its cells, and there is a frame for each job that is prepared at once
-pub record IsHeld (h : Held) (jobs : List Job) : Type 0 where
+-- when it is filled it has as many bytes,
+abbrev pub IsFilled : Scale → Bytes → Type 0
+IsFilled to frame = length frame ≡ first_bytes to.width to.channels to.size to.chunk
+
+-- and so many frames in front are
+abbrev pub AreFilled : Scale → ℕ → List Bytes → Type 0
+AreFilled to count frames = (k : ℕ) → k < count → IsFilled to (slice_index_or frames k [])
+
+-- both scales are of one volume, the jobs are those of its cells, there is a frame for each job that is prepared at once, and those of the jobs
+-- that are prepared are filled
+pub record IsHeld (h : Held) (jobs : List Job) (frames : List (Vec ℕ Global)) : Type 0 where
   pub volume : AreOfOneVolume h.from h.to
   pub jobs_are : jobs ≡ jobs_of h.to (cells_of h)
   pub room : min (window_of h.to) (length (cells_of h)) ≤ length h.frames
   pub within : h.count ≤ length h.frames
-  pub lens : HasLens h.to h.frames
+  pub filled : AreFilled h.to h.count h.frames
+  pub each : All (Holds h.to) frames
 
 -- reading a job: its raw bytes, or its first fault
 abbrev pub ReadsJob : Result ⊤ PrepareFault → Objects → Name → Scale → Scale → Cell → Bytes → Type 0
-ReadsJob (Ok done) m dataset from to cell out = (first_fault m dataset from (cell_box to cell) ≡ None) × (out ≡ copied_raw m dataset from to cell)
-ReadsJob (Err (Damaged at fault)) m dataset from to cell out = first_fault m dataset from (cell_box to cell) ≡ Some (at, fault)
+ReadsJob (Ok done) m dataset from to cell out = (first_fault m dataset from (cell_box to cell) ≡ None) ×
+    (out ≡ copied_raw m dataset from to cell)
+ReadsJob (Err (Damaged at fault)) m dataset from to cell out =
+    first_fault m dataset from (cell_box to cell) ≡ Some (at, fault)
 ReadsJob (Err StoreFault) m dataset from to cell out = Unit {0}
 
 -- the first fault of so many jobs, from a number on
 abbrev pub first_of : Objects → Name → Scale → Scale → List Cell → ℕ → ℕ → Option (Cell × Fault)
-first_of m dataset from to cells first count = first_some (map (λ job. first_fault m dataset from (cell_box to (cell_of cells job))) (range_with_len first count))
+first_of m dataset from to cells first count = first_some
+    (map (λ job. first_fault m dataset from (cell_box to (cell_of cells job))) (range_with_len first count))
 
 -- jobs are read: none has a fault, and each frame has its job's raw bytes
-pub record AreRead (m : Objects) (dataset : Name) (from to : Scale) (cells : List Cell) (first count : ℕ) (frames : List Bytes) : Type 0 where
+pub record AreRead (m : Objects) (dataset : Name) (from to : Scale) (cells : List Cell) (first count : ℕ)
+    (frames : List Bytes) : Type 0 where
   pub sound : first_of m dataset from to cells first count ≡ None
-  pub bytes : (k : ℕ) → k < count → take (raw_size to (cell_of cells (first + k))) (slice_index_or frames k []) ≡ copied_raw m dataset from to (cell_of cells (first + k))
+  pub bytes : (k : ℕ) → k < count → take (raw_size to (cell_of cells (first + k)))
+      (slice_index_or frames k []) ≡ copied_raw m dataset from to (cell_of cells (first + k))
 
 -- reading jobs: all of them, or the first fault
-abbrev pub ReadsJobs : Result ⊤ PrepareFault → Objects → Name → Scale → Scale → List Cell → ℕ → ℕ → List Bytes → Type 0
-ReadsJobs (Ok done) m dataset from to cells first count frames = AreRead m dataset from to cells first count frames
-ReadsJobs (Err (Damaged at fault)) m dataset from to cells first count frames = first_of m dataset from to cells first count ≡ Some (at, fault)
+abbrev pub ReadsJobs : Result ⊤ PrepareFault → Objects → Name → Scale → Scale → List Cell → ℕ → ℕ →
+    List Bytes → Type 0
+ReadsJobs (Ok done) m dataset from to cells first count frames =
+    AreRead m dataset from to cells first count frames
+ReadsJobs (Err (Damaged at fault)) m dataset from to cells first count frames =
+    first_of m dataset from to cells first count ≡ Some (at, fault)
 ReadsJobs (Err StoreFault) m dataset from to cells first count frames = Unit {0}

@@ -3,10 +3,9 @@ ghost use Rattle.std.specs.Prelude.{◌≡◌, ◌≤◌, ◌^◌, All, length, 
 ghost use Rattle.vol_base.specs.Causes.{HasStoreCause};
 ghost use Rattle.vol_base.specs.Outside.{OnlyReads};
 ghost use Rattle.vol_spec.specs.Copies.{AreOfOneVolume, copied_cells};
-ghost use Rattle.vol_spec.specs.Limits.{first_bytes};
 ghost use Rattle.vol_spec.specs.StoredLists.{in_key_order};
 ghost use Rattle.write_plan.specs.Pairs.{cell_count};
-ghost use Rattle.copier.specs.Held.{cells_of};
+ghost use Rattle.copier.specs.Held.{Holds, cells_of};
 
 use crate::found::find_copied;
 use crate::reading::read_jobs;
@@ -17,15 +16,16 @@ use vol_base::{Name, Store, StoreRefusal};
 use vol_spec::Scale;
 use write_plan::{Chunks, JobList, PrepareFault, window};
 
-// So many frames, each with room for the values of each cell of a scale.
+// So many frames, each with room for the values of each cell of a scale, and with no bytes yet. So a frame's
+// memory isn't touched before it is filled.
 fn reserve_frames(alloc: Global, scale: &Scale, count: u64) -> Result<Vec<Vec<u8>>, AllocError>
     ensures count { IfOk result (λ frames. length frames.items ≡ count) }
-    ensures lens { IfOk result (λ frames. All (λ f. length f.items ≡ first_bytes scale.now.width scale.now.channels scale.now.size scale.now.chunk) frames.items) }
+    ensures each { IfOk result (λ frames. All (Holds scale.now) frames.items) }
 {
     let len = scale.raw_limit() as usize;
     let mut frames = Vec::with_capacity(alloc, count as usize)?;
     for _ in 0..count {
-        let frame = vec![in alloc; 0; len]?;
+        let frame = Vec::with_capacity(alloc, len)?;
         frames.push(frame)?;
     }
     Ok(frames)
@@ -44,21 +44,22 @@ pub struct Copier {
 }
 
 impl Model for Copier {
-    ghost use Rattle.std.specs.Prelude.{map};
-    ghost use Rattle.write_plan.specs.Jobs.{cells_in};
-    ghost use Rattle.copier.specs.Held.{Held, IsHeld};
+    ghost use Rattle.copier.specs.Held.{Held, IsHeld, holding};
 
     ghost Value = { Held };
 
-    ghost view = { λ c. record { dataset = c.reader.dataset; from = c.reader.scale; to = c.to; cells = cells_in c.jobs; first = c.first; count = c.count; frames = map (λ f. f.items) c.frames.items } };
+    ghost view = { λ c. holding c.reader.dataset c.reader.scale c.to c.jobs c.first c.count c.frames.items };
 
-    ghost invariant = { λ c. IsHeld (record { dataset = c.reader.dataset; from = c.reader.scale; to = c.to; cells = cells_in c.jobs; first = c.first; count = c.count; frames = map (λ f. f.items) c.frames.items }) c.jobs };
+    ghost invariant = { λ c. IsHeld
+        (holding c.reader.dataset c.reader.scale c.to c.jobs c.first c.count c.frames.items) c.jobs
+        c.frames.items };
 }
 
 impl Copier {
     /// A copier of a scale of a data set into another scale of the same volume, whose grid has at most 2^22
     /// cells. It has a job for each cell that meets the box of a cell of the source, of which there is a chunk
-    /// or a fault. All the memory that it needs is taken here.
+    /// or a fault. All the memory that it needs is taken here: a frame for each cell that may be prepared at
+    /// once, whose bytes are first touched where it is used.
     ///
     /// # Errors
     /// `Failed` only where the store failed, and `OutOfMemory`.
@@ -76,8 +77,10 @@ impl Copier {
         ensures from { IfOk result (λ copier. copier.from ≡ from.now) }
         ensures to { IfOk result (λ copier. copier.to ≡ to.now) }
         ensures few { IfOk result (λ copier. length (cells_of copier) ≤ 2 ^ 22) }
-        ensures jobs { IfOk result (λ copier. IfSome (S.objects store.old) (λ m. cells_of copier ≡ in_key_order to.now (copied_cells m dataset.now from.now to.now))) }
-        ensures kept { OnlyReads (S.objects store.old) (S.objects store.new) (S.draft store.old) (S.draft store.new) }
+        ensures jobs { IfOk result (λ copier. IfSome (S.objects store.old) (λ m.
+            cells_of copier ≡ in_key_order to.now (copied_cells m dataset.now from.now to.now))) }
+        ensures kept { OnlyReads (S.objects store.old) (S.objects store.new) (S.draft store.old)
+            (S.draft store.new) }
         ensures cause { HasStoreCause (S.faults store.old) (S.faults store.new) result }
     {
         let Ok(mut reader) = Reader::open(alloc, dataset, from) else {

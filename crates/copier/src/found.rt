@@ -3,7 +3,7 @@ ghost use Rattle.std.specs.Prelude.{◌≡◌, ◌&&◌, ◌≤◌, ◌^◌, All
 ghost use Rattle.vol_base.specs.Causes.{HasCause, HasStoreCause};
 ghost use Rattle.vol_base.specs.Outside.{OnlyReads};
 ghost use Rattle.vol_spec.specs.Chunks.{chunk_in};
-ghost use Rattle.vol_spec.specs.Copies.{AreOfOneVolume, copied_cells, is_copied, is_there};
+ghost use Rattle.vol_spec.specs.Copies.{AreOfOneVolume, copied_cells, is_copied, is_there as there};
 ghost use Rattle.vol_spec.specs.Grid.{IsCell, cell_box as box_of, meets};
 ghost use Rattle.vol_spec.specs.StoredCells.{AreInOrder};
 ghost use Rattle.write_plan.specs.Pairs.{cell_count};
@@ -17,11 +17,13 @@ use vol_base::{Failed, Source, StoreRefusal};
 use vol_spec::Scale;
 
 // Whether the source has something of a cell: a chunk, or a fault.
-fn is_stored<S: Source>(reader: &mut Reader, store: &mut S, cell: [u64; 3]) -> Result<bool, Failed>
+fn is_there<S: Source>(reader: &mut Reader, store: &mut S, cell: [u64; 3]) -> Result<bool, Failed>
     requires { IsCell reader.old.scale cell }
-    ensures stored { IfOk result (λ stored. IfSome (S.objects store.old) (λ m. stored ≡ is_there (chunk_in m reader.old.dataset reader.old.scale cell))) }
+    ensures told { IfOk result (λ told. IfSome (S.objects store.old) (λ m.
+        told ≡ there (chunk_in m reader.old.dataset reader.old.scale cell))) }
     ensures same { reader.new ≡ reader.old }
-    ensures kept { OnlyReads (S.objects store.old) (S.objects store.new) (S.draft store.old) (S.draft store.new) }
+    ensures kept { OnlyReads (S.objects store.old) (S.objects store.new) (S.draft store.old)
+        (S.draft store.new) }
     ensures cause { HasCause (S.faults store.old) (S.faults store.new) result }
 {
     match reader.locate(store, cell) {
@@ -48,12 +50,14 @@ fn mark_source<S: Source>(
     requires len { length marks.old ≡ cell_count to.now }
     requires cell { IsCell from.now cell }
     ensures marks { OnOk result (IfSome (S.objects store.old) (λ m. AddsMarks to.now
-        (λ c. is_there (chunk_in m reader.old.dataset from.now cell) && meets to.now (box_of from.now cell) c) marks.old marks.new)) }
+        (λ c. there (chunk_in m reader.old.dataset from.now cell) && meets to.now (box_of from.now cell) c)
+        marks.old marks.new)) }
     ensures same { reader.new ≡ reader.old }
-    ensures kept { OnlyReads (S.objects store.old) (S.objects store.new) (S.draft store.old) (S.draft store.new) }
+    ensures kept { OnlyReads (S.objects store.old) (S.objects store.new) (S.draft store.old)
+        (S.draft store.new) }
     ensures cause { HasCause (S.faults store.old) (S.faults store.new) result }
 {
-    match is_stored(reader, store, cell) {
+    match is_there(reader, store, cell) {
         Err(fault) => Err(fault),
         Ok(false) => Ok(()),
         Ok(true) => {
@@ -76,9 +80,11 @@ fn mark_copied<S: Source>(
     requires few { cell_count to.now ≤ 2 ^ 22 }
     requires len { length marks.old ≡ cell_count to.now }
     requires clear { All (λ mark. mark ≡ false) marks.old }
-    ensures marks { OnOk result (IfSome (S.objects store.old) (λ m. AreMarked to.now (is_copied m reader.old.dataset from.now to.now) marks.new)) }
+    ensures marks { OnOk result (IfSome (S.objects store.old) (λ m.
+        AreMarked to.now (is_copied m reader.old.dataset from.now to.now) marks.new)) }
     ensures same { reader.new ≡ reader.old }
-    ensures kept { OnlyReads (S.objects store.old) (S.objects store.new) (S.draft store.old) (S.draft store.new) }
+    ensures kept { OnlyReads (S.objects store.old) (S.objects store.new) (S.draft store.old)
+        (S.draft store.new) }
     ensures cause { HasCause (S.faults store.old) (S.faults store.new) result }
 {
     for cell in cells(from, &whole(from)) {
@@ -114,9 +120,11 @@ pub(crate) fn find_copied<S: Source>(
     requires few { cell_count to.now ≤ 2 ^ 22 }
     ensures order { IfOk result (λ list. AreInOrder to.now list.items) }
     ensures few { IfOk result (λ list. length list.items ≤ 2 ^ 22) }
-    ensures copied { IfOk result (λ list. IfSome (S.objects store.old) (λ m. list.items ≡ copied_cells m reader.old.dataset from.now to.now)) }
+    ensures copied { IfOk result (λ list. IfSome (S.objects store.old) (λ m.
+        list.items ≡ copied_cells m reader.old.dataset from.now to.now)) }
     ensures same { reader.new ≡ reader.old }
-    ensures kept { OnlyReads (S.objects store.old) (S.objects store.new) (S.draft store.old) (S.draft store.new) }
+    ensures kept { OnlyReads (S.objects store.old) (S.objects store.new) (S.draft store.old)
+        (S.draft store.new) }
     ensures cause { HasStoreCause (S.faults store.old) (S.faults store.new) result }
 {
     let count = count_cells(to, &whole(to)) as usize;

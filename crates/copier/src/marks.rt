@@ -53,7 +53,8 @@ pub(crate) fn list_marked(
 ) -> Result<Vec<[u64; 3]>, AllocError>
     requires few { cell_count scale.now ≤ 2 ^ 22 }
     requires len { length marks.now ≡ cell_count scale.now }
-    ensures { IfOk result (λ list. list.items ≡ filter (marked scale.now marks.now) (numbers_on (cells_on scale.now))) }
+    ensures { IfOk result (λ list. list.items ≡ filter (marked scale.now marks.now)
+        (numbers_on (cells_on scale.now))) }
 {
     let mut list = Vec::new(alloc);
     for cell in cells(scale, &whole(scale)) {

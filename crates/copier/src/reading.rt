@@ -1,12 +1,12 @@
 //! Reading the bytes of jobs.
-ghost use Rattle.std.specs.Prelude.{◌≡◌, ◌+◌, ◌<◌, ◌≤◌, ◌^◌, Err, length, map, take, All, IfSome};
+ghost use Rattle.std.specs.Prelude.{◌≡◌, ◌+◌, ◌<◌, ◌≤◌, ◌^◌, Err, length, map, take, All, IfSome, OnOk};
 ghost use Rattle.vol_base.specs.Causes.{Rose};
 ghost use Rattle.vol_base.specs.Outside.{OnlyReads};
 ghost use Rattle.vol_spec.specs.Copies.{AreOfOneVolume};
 ghost use Rattle.vol_spec.specs.Encodings.{raw_size};
 ghost use Rattle.vol_spec.specs.Grid.{IsCell};
 ghost use Rattle.write_plan.specs.Jobs.{HasPrepareCause, cells_in};
-ghost use Rattle.copier.specs.Held.{HasLens, ReadsJob, ReadsJobs};
+ghost use Rattle.copier.specs.Held.{AreFilled, Holds, IsFilled, ReadsJob, ReadsJobs};
 
 use chunk_grid::{byte_len, cell_box};
 use cutout::{CutFault, Reader};
@@ -25,9 +25,11 @@ fn read_job<S: Source>(
     requires volume { AreOfOneVolume reader.old.scale to.now }
     requires cell { IsCell to.now cell }
     requires len { length out.old ≡ raw_size to.now cell }
-    ensures read { IfSome (S.objects store.old) (λ m. ReadsJob result m reader.old.dataset reader.old.scale to.now cell out.new) }
+    ensures read { IfSome (S.objects store.old) (λ m.
+        ReadsJob result m reader.old.dataset reader.old.scale to.now cell out.new) }
     ensures same { reader.new ≡ reader.old }
-    ensures kept { OnlyReads (S.objects store.old) (S.objects store.new) (S.draft store.old) (S.draft store.new) }
+    ensures kept { OnlyReads (S.objects store.old) (S.objects store.new) (S.draft store.old)
+        (S.draft store.new) }
     ensures cause { HasPrepareCause (S.faults store.old) (S.faults store.new) result }
 {
     let part = cell_box(to, cell);
@@ -59,17 +61,55 @@ fn read_into<S: Source>(
     requires volume { AreOfOneVolume reader.old.scale to.now }
     requires cell { IsCell to.now cell }
     requires len { raw_size to.now cell ≤ length frame.old }
-    ensures read { IfSome (S.objects store.old) (λ m. ReadsJob result m reader.old.dataset reader.old.scale to.now cell (take (raw_size to.now cell) frame.new)) }
+    ensures read { IfSome (S.objects store.old) (λ m.
+        ReadsJob result m reader.old.dataset reader.old.scale to.now cell
+        (take (raw_size to.now cell) frame.new)) }
     ensures len { length frame.new ≡ length frame.old }
     ensures same { reader.new ≡ reader.old }
-    ensures kept { OnlyReads (S.objects store.old) (S.objects store.new) (S.draft store.old) (S.draft store.new) }
+    ensures kept { OnlyReads (S.objects store.old) (S.objects store.new) (S.draft store.old)
+        (S.draft store.new) }
     ensures cause { HasPrepareCause (S.faults store.old) (S.faults store.new) result }
 {
     let len = values_len(to, cell);
     read_job(reader, store, to, cell, &mut frame[..len])
 }
 
-/// Reads so many jobs, one after the other from a number on, into frames.
+// Fills a frame up with zeros, as far as it isn't yet. So its memory is touched the first time that it is used.
+fn fill_up(scale: &Scale, frame: &mut Vec<u8>)
+    requires { Holds scale.now frame.old }
+    ensures filled { IsFilled scale.now frame.new.items }
+    ensures room { Holds scale.now frame.new }
+{
+    let filled = frame.resize(scale.raw_limit() as usize, 0);
+    prove!(filled.is_ok());
+}
+
+// Fills a frame up, and reads the source's values in the box of a cell of the target into its front.
+fn read_frame<S: Source>(
+    reader: &mut Reader,
+    store: &mut S,
+    to: &Scale,
+    cell: [u64; 3],
+    frame: &mut Vec<u8>,
+) -> Result<(), PrepareFault>
+    requires volume { AreOfOneVolume reader.old.scale to.now }
+    requires cell { IsCell to.now cell }
+    requires room { Holds to.now frame.old }
+    ensures read { IfSome (S.objects store.old) (λ m.
+        ReadsJob result m reader.old.dataset reader.old.scale to.now cell
+        (take (raw_size to.now cell) frame.new.items)) }
+    ensures filled { IsFilled to.now frame.new.items }
+    ensures room { Holds to.now frame.new }
+    ensures same { reader.new ≡ reader.old }
+    ensures kept { OnlyReads (S.objects store.old) (S.objects store.new) (S.draft store.old)
+        (S.draft store.new) }
+    ensures cause { HasPrepareCause (S.faults store.old) (S.faults store.new) result }
+{
+    fill_up(to, frame);
+    read_into(reader, store, to, cell, frame)
+}
+
+/// Reads so many jobs, one after the other from a number on, into frames, and fills up those that it uses.
 pub(crate) fn read_jobs<S: Source>(
     reader: &mut Reader,
     store: &mut S,
@@ -81,20 +121,24 @@ pub(crate) fn read_jobs<S: Source>(
 ) -> Result<(), PrepareFault>
     requires volume { AreOfOneVolume reader.old.scale to.now }
     requires cells { All (IsCell to.now) (cells_in jobs.now) }
-    requires lens { HasLens to.now (map (λ f. f.items) frames.old) }
+    requires each { All (Holds to.now) frames.old }
     requires within { first + count ≤ length jobs.now }
     requires fits { first + count < 2 ^ 64 }
     requires room { count ≤ length frames.old }
-    ensures read { IfSome (S.objects store.old) (λ m. ReadsJobs result m reader.old.dataset reader.old.scale to.now (cells_in jobs.now) first count (map (λ f. f.items) frames.new)) }
-    ensures lens { HasLens to.now (map (λ f. f.items) frames.new) }
+    ensures read { IfSome (S.objects store.old) (λ m.
+        ReadsJobs result m reader.old.dataset reader.old.scale to.now (cells_in jobs.now) first count
+        (map (λ f. f.items) frames.new)) }
+    ensures filled { OnOk result (AreFilled to.now count (map (λ f. f.items) frames.new)) }
+    ensures each { All (Holds to.now) frames.new }
     ensures frames { length frames.new ≡ length frames.old }
     ensures same { reader.new ≡ reader.old }
-    ensures kept { OnlyReads (S.objects store.old) (S.objects store.new) (S.draft store.old) (S.draft store.new) }
+    ensures kept { OnlyReads (S.objects store.old) (S.objects store.new) (S.draft store.old)
+        (S.draft store.new) }
     ensures cause { HasPrepareCause (S.faults store.old) (S.faults store.new) result }
 {
     for k in 0..count {
         let cell = jobs.get(first + k as u64).cell;
-        match read_into(reader, store, to, cell, &mut frames[k]) {
+        match read_frame(reader, store, to, cell, &mut frames[k]) {
             Ok(()) => {}
             Err(fault) => return Err(fault),
         }

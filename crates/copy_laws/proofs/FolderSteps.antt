@@ -1,19 +1,27 @@
 -- A name tells the folder of its scale: what stands behind its last `/` is a file's name.
-use Rattle.std.proofs.Common.{◌≡◌, ◌≢◌, ℕ, zero, suc, ◌+◌, ◌-◌, ◌/◌, ◌%◌, ◌==◌, List, [], ◌∷◌, ◌++◌, Bool, true, false, length, length-append, get_or, drop, map, Option, Some, None, refl, ap, ◌∙◌, sym, subst, arith}
-use Rattle.std.specs.Prelude.{ℤ, pos, negsuc, All, Ok, if◌then◌else◌, nat_lt}
+use Rattle.std.proofs.Common.{◌≡◌, ◌≢◌, ℕ, zero, suc, ◌+◌, ◌-◌, ◌/◌, ◌%◌, ◌^◌, ◌<◌, ◌≤◌, ◌==◌, List, [], ◌∷◌, ◌++◌, Bool, true, false, length, length-append, get_or, drop, map, Option, Some, None, refl, ap, ◌∙◌, sym, subst, arith}
+use Rattle.std.specs.Prelude.{ℤ, pos, negsuc, All, Ok, filter, if◌then◌else◌, nat_lt, slice_index}
+use Rattle.std.specs.FinMap as fin
 use Rattle.std.specs.Fmt.{decimal, digit_glyph, digits, digits_onto, signed_decimal}
 use Rattle.std.specs.List.{range_with_len}
-use Rattle.std.proofs.lemmas.List.{get_or_at}
-use Rattle.std.proofs.lemmas.List.Elements.{All-nil, All-cons, All-append}
+use Rattle.std.proofs.lemmas.Bool.{ltb-true}
+use Rattle.std.proofs.lemmas.List.{get_or_at, length-map}
+use Rattle.std.proofs.lemmas.List.Elements.{All-nil, All-cons, All-append, All-map, All-weaker, filter_passes}
 use Rattle.vol_base.specs.declared.boxes.Box3.{Box3}
 use Rattle.vol_base.specs.Boxes.{at, end}
 use Rattle.vol_base.specs.Outside.{Objects, any_under}
-use Rattle.vol_spec.specs.CellNames.{box_name, folder_of, joined, span_text}
+use Rattle.vol_spec.proofs.PlacedSteps.{length-in_order}
+use Rattle.vol_spec.proofs.PutSteps.{put_in-other}
+use Rattle.vol_spec.specs.CellNames.{box_name, cell_name, folder_of, joined, span_text}
 use Rattle.vol_spec.specs.Chunks.{chunk_in, judged}
+use Rattle.vol_spec.specs.Encodings.{encoded}
 use Rattle.vol_spec.specs.Grid.{cell_box}
 use Rattle.vol_spec.specs.Places.{id_of, shard_of}
 use Rattle.vol_spec.specs.ShardNames.{filled_hex, hex_at, hex_len, shard_bits_of, shard_file, suffix}
 use Rattle.vol_spec.specs.StoredBytes.{object_by, object_of}
+use Rattle.vol_spec.specs.StoredCells.{put_in}
+use Rattle.vol_spec.specs.StoredLists.{encoded_chunks, listed_by, stored_list}
+use Rattle.vol_spec.specs.StoredShards.{chunk_of, has_chunk, in_shard, key_of, placed, shard_object}
 use Rattle.vol_spec.specs.declared.scale.Scale.{Scale}
 use Rattle.vol_spec.specs.declared.sharding.Sharding.{Sharding}
 use Rattle.chunk_laws.proofs.Law.{empty_bytes}
@@ -121,3 +129,52 @@ folders_apart dataset other s t a b apart e =
 pub all_absent : (m : Objects) (dataset : List ℕ) (s : Scale) (cell : List ℕ) → any_under m (folder_of dataset s) ≡ false → chunk_in m dataset s cell ≡ Ok None
 unfolding chunk_in
 all_absent m dataset s cell none = ap (judged s cell) (empty_bytes m dataset s cell none)
+
+-- what chunks are stored as are files in the scale's folder, and there is none where there is no chunk
+abbrev IsFileOf : List ℕ → List (List ℕ × List ℕ) → List ℕ × List ℕ → Type 0
+IsFileOf folder chunks object = (file : List ℕ) × (0 < length chunks) × ArePlain file × (object.0 ≡ joined folder file)
+
+some_left : {X : Type 0} (p : X → Bool) (xs : List X) → 0 < length (filter p xs) → 0 < length xs
+some_left p [] h = h
+some_left p (x ∷ xs) h = omega arith
+
+some_placed : (s : Scale) (sharding : Sharding) (chunks : List (List ℕ × List ℕ)) (shard : ℕ) → has_chunk (placed s sharding chunks) shard ≡ true → 0 < length chunks
+some_placed s sharding chunks shard has =
+    let key : List ℕ × List ℕ → List ℕ × List ℕ = λ c. (key_of s sharding c.0, c.1) in
+    let inside : List ℕ × List ℕ → Bool = λ e. slice_index e.0 0 == shard in
+    let some : 0 < length (map chunk_of (filter inside (placed s sharding chunks))) = ltb-true 0 (length (in_shard (placed s sharding chunks) shard)) has in
+    let held : 0 < length (filter inside (placed s sharding chunks)) = subst (λ n. 0 < n) (length-map (filter inside (placed s sharding chunks)) chunk_of) some in
+    let all : 0 < length (placed s sharding chunks) = some_left inside (placed s sharding chunks) held in
+    let few : length (placed s sharding chunks) ≤ length (map key chunks) = length-in_order (map key chunks) in
+    let count : length (map key chunks) ≡ length chunks = length-map chunks key in
+    omega (arith, all, few, count)
+
+files_by : (o : Option Sharding) (dataset : List ℕ) (s : Scale) (chunks : List (List ℕ × List ℕ)) → All (IsFileOf (folder_of dataset s) chunks) (listed_by o dataset s chunks)
+files_by None dataset s chunks =
+    All-map (IsFileOf (folder_of dataset s) chunks) (λ chunk. (cell_name dataset s chunk.0, chunk.1)) chunks
+    (λ k d l. (box_name (cell_box s (get_or chunks k d).0), omega arith, box_plain (cell_box s (get_or chunks k d).0), refl))
+files_by (Some sharding) dataset s chunks =
+    let found : ℕ → Bool = has_chunk (placed s sharding chunks) in
+    let shards : List ℕ = range_with_len 0 (2 ^ sharding.shard_bits) in
+    All-map (IsFileOf (folder_of dataset s) chunks) (shard_object dataset s sharding (placed s sharding chunks)) (filter found shards)
+    (All-weaker (λ n. found n ≡ true) (λ n. IsFileOf (folder_of dataset s) chunks (shard_object dataset s sharding (placed s sharding chunks) n))
+    (λ n has. (shard_file (shard_bits_of s) n, some_placed s sharding chunks n has, shard_plain (shard_bits_of s) n, refl)) (filter found shards) (filter_passes found shards))
+
+stored_files : (dataset : List ℕ) (s : Scale) (chunks : List (List ℕ × List ℕ)) → All (IsFileOf (folder_of dataset s) chunks) (stored_list dataset s chunks)
+unfolding stored_list
+stored_files dataset s chunks =
+    let count : length (encoded_chunks s chunks) ≡ length chunks = length-map chunks (λ chunk. (chunk.0, encoded s chunk.0 chunk.1)) in
+    All-weaker (IsFileOf (folder_of dataset s) (encoded_chunks s chunks)) (IsFileOf (folder_of dataset s) chunks) (λ object file. (file.0, subst (λ n. 0 < n) count file.1, file.2, file.3))
+    (listed_by s.sharding dataset s (encoded_chunks s chunks)) (files_by s.sharding dataset s (encoded_chunks s chunks))
+
+-- so where some are stored in another folder, each name of a scale keeps its object, or has none
+pub stored_apart : (m : Objects) (dataset other : List ℕ) (s t : Scale) (chunks : List (List ℕ × List ℕ)) (cell : List ℕ) → (0 < length chunks → folder_of dataset s ≢ folder_of other t)
+    → fin.get (put_in m (stored_list other t chunks)) (object_of dataset s cell) ≡ fin.get m (object_of dataset s cell)
+stored_apart m dataset other s t chunks cell apart =
+    put_in-other m (stored_list other t chunks) (object_of dataset s cell)
+    (All-weaker (IsFileOf (folder_of other t) chunks) (λ object. object.0 ≢ object_of dataset s cell)
+    (λ object file same.
+    apart file.1
+    (same_folder (folder_of dataset s) (folder_of other t) (file_by s.sharding s cell) file.0 (file_plain s.sharding s cell) file.2
+    (sym (object_by-joined s.sharding dataset s cell) ∙ sym same ∙ file.3)))
+    (stored_list other t chunks) (stored_files other t chunks))

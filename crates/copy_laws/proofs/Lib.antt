@@ -1,4 +1,5 @@
 pub mod AgreeSteps
+pub mod BackSteps
 pub mod CopyLaw
 pub mod CopySteps
 pub mod CopyValues

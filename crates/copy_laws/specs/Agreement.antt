@@ -1,4 +1,4 @@
--- Objects that say the same of a scale.
+-- Objects that say the same of a scale (this project's).
 use Rattle.std.specs.Prelude.{◌≡◌, ◌≢◌}
 use Rattle.std.specs.FinMap as fin
 use Rattle.vol_base.specs.Outside.{Objects}
@@ -9,7 +9,8 @@ use Rattle.vol_spec.specs.declared.scale.Scale.{Scale}
 
 -- each name that the scale gives to a cell has the same object in both, or none in both
 abbrev pub Agree : Name → Scale → Objects → Objects → Type 0
-Agree dataset s m n = (cell : Cell) → fin.get m (object_of dataset s cell) ≡ fin.get n (object_of dataset s cell)
+Agree dataset s m n = (cell : Cell) → fin.get m (object_of dataset s cell)
+    ≡ fin.get n (object_of dataset s cell)
 
 -- two scales have folders of their own. Then no object of the one is one of the other, also where one folder lies in the other.
 abbrev pub AreApart : Name → Scale → Name → Scale → Type 0

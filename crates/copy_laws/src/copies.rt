@@ -22,9 +22,11 @@ pub fn tell_copy(from_dataset: &Name, from: &Scale, to_dataset: &Name, to: &Scal
     // Which cells are copied,
     ensures met { (m : Objects) → AreMet m from_dataset.now from.now to.now }
     // where they are read from,
-    ensures cut { (m : Objects) → AreOfOneVolume from.now to.now → CutsAsCopied m from_dataset.now from.now to.now }
+    ensures cut { (m : Objects) → AreOfOneVolume from.now to.now →
+        CutsAsCopied m from_dataset.now from.now to.now }
     // and that each fault of the source is met on the way.
-    ensures faults { (m : Objects) → AreOfOneVolume from.now to.now → MeetsFaults m from_dataset.now from.now to.now }
+    ensures faults { (m : Objects) → AreOfOneVolume from.now to.now →
+        MeetsFaults m from_dataset.now from.now to.now }
     // Where a cell is copied into an empty folder, the two folders differ,
     ensures apart { (m : Objects) → any_under m (folder_of to_dataset.now to.now) ≡ false
         → 0 < length (copied_cells m from_dataset.now from.now to.now)

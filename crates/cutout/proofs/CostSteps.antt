@@ -19,7 +19,7 @@ costs m dataset s cells = sum (map (cell_cost m dataset s) cells)
 sum_append : (xs ys : List ℕ) → sum (xs ++ ys) ≡ sum xs + sum ys
 sum_append xs ys = grind (arith, common_steps)
 
-costs-append : (m : Objects) (dataset : Name) (s : Scale) (xs ys : List Cell) → costs m dataset s (xs ++ ys) ≡ costs m dataset s xs + costs m dataset s ys
+pub costs-append : (m : Objects) (dataset : Name) (s : Scale) (xs ys : List Cell) → costs m dataset s (xs ++ ys) ≡ costs m dataset s xs + costs m dataset s ys
 costs-append m dataset s xs ys = ap sum (map-append (cell_cost m dataset s) xs ys) ∙ sum_append (map (cell_cost m dataset s) xs) (map (cell_cost m dataset s) ys)
 
 pub costs-one : (m : Objects) (dataset : Name) (s : Scale) (cells : List Cell) (cell : Cell) → costs m dataset s (cells ++ cell ∷ []) ≡ costs m dataset s cells + cell_cost m dataset s cell

@@ -1,7 +1,14 @@
+pub mod AskedSteps
 pub mod CellSteps
 pub mod CostSteps
 pub mod CutSteps
 pub mod FoundSteps
+pub mod FrontSteps
+pub mod JoinSteps
+pub mod LayerSteps
+pub mod PickSteps
+pub mod PlaneSteps
 pub mod ReadSteps
 pub mod StoredSteps
+pub mod StreamSteps
 pub mod TakeSteps

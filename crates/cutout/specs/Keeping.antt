@@ -1,4 +1,4 @@
--- What a reader keeps of an index while it goes over cells, and what reading a cell costs.
+-- What a reader keeps of an index while it goes over cells, and what reading a cell costs (this project's).
 use Rattle.std.specs.Prelude.{ℕ, ◌+◌, Option, Some, None, take, Result, Ok}
 use Rattle.std.specs.FinMap as fin
 use Rattle.vol_base.specs.Outside.{Objects}
@@ -33,7 +33,8 @@ cell_cost m dataset s cell = cost_by s.sharding s cell (fin.get m (object_of dat
 -- and of a cell whose chunk it doesn't read: an entry and the rows of its index
 abbrev pub rows_of : Sharding → Scale → Cell → Option Bytes → ℕ
 rows_of sharding s cell None = 16
-rows_of sharding s cell (Some object) = 16 + rows_cost (rows_in object sharding (minishard_of sharding (id_of s cell)))
+rows_of sharding s cell (Some object) = 16 + rows_cost
+    (rows_in object sharding (minishard_of sharding (id_of s cell)))
 
 abbrev pub search_by : Option Sharding → Scale → Cell → Option Bytes → ℕ
 search_by None s cell object = 0

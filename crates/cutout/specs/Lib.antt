@@ -1,3 +1,5 @@
 pub mod Keeping
+pub mod Layers
 pub mod Opened
 pub mod Reading
+pub mod Streaming

@@ -1,4 +1,4 @@
--- An opened reader.
+-- An opened reader (this project's).
 use Rattle.std.specs.Prelude.{◌≡◌, ◌+◌, ◌≤◌, ℕ, length}
 use Rattle.chunk_pool.specs.Frames.{Filled}
 use Rattle.vol_spec.specs.Encodings.{by_encoding}

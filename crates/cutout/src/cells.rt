@@ -15,6 +15,7 @@ ghost use Rattle.cutout.specs.Opened.{chunk_room, values_room};
 ghost use Rattle.cutout.specs.Reading.{placed, Reads, ReadsAll, Took};
 
 use crate::CutFault;
+use crate::channels::Channels;
 use crate::chunk::read_stored;
 use crate::values::{put_chunk, put_zeros};
 use chunk_grid::{cells, tell_cells};
@@ -23,7 +24,7 @@ use shard_reader::{LookupFault, ShardReader};
 use vol_base::{Box3, Fault, Name, Source};
 use vol_spec::Scale;
 
-// Reads a cell that meets the part, and puts its values into those of the part.
+// Reads a cell that meets the part, and puts its values, in some channels, into those of the part.
 fn read_one<S: Source>(
     shards: &mut ShardReader,
     store: &mut S,
@@ -33,20 +34,24 @@ fn read_one<S: Source>(
     chunk: &mut [u8],
     values: &mut [u8],
     part: &Box3,
+    channels: Channels,
     out: &mut [u8],
 ) -> Result<(), LookupFault>
     requires dataset { length dataset.now ≤ 200 }
     requires cell { IsCell scale.now cell }
     requires room { length chunk.old ≡ chunk_room scale.now }
     requires values { values_room scale.now ≤ length values.old }
-    requires len { length out.old ≡ raw_len part.now scale.now.channels scale.now.width }
+    requires channels { channels.first + channels.count ≤ scale.now.channels }
+    requires len { length out.old ≡ raw_len part.now channels.count scale.now.width }
     requires limit { length out.old ≤ 2 ^ 30 }
     requires keeps { KeepsShards (S.objects store.old) dataset.now scale.now shards.old }
     ensures read { IfSome (S.objects store.old) (λ m. Reads result (chunk_in m dataset.now scale.now cell)
-        (Took scale.now cell part.now (chunk_in m dataset.now scale.now cell) out.old out.new)) }
+        (Took scale.now cell part.now channels (chunk_in m dataset.now scale.now cell) out.old out.new)) }
     ensures keeps { KeepsShards (S.objects store.old) dataset.now scale.now shards.new }
-    ensures asked { IfSome (S.objects store.old) (λ m. S.asked store.new ≤ S.asked store.old + cell_cost m dataset.now scale.now cell) }
-    ensures kept { OnlyReads (S.objects store.old) (S.objects store.new) (S.draft store.old) (S.draft store.new) }
+    ensures asked { IfSome (S.objects store.old) (λ m.
+        S.asked store.new ≤ S.asked store.old + cell_cost m dataset.now scale.now cell) }
+    ensures kept { OnlyReads (S.objects store.old) (S.objects store.new) (S.draft store.old)
+        (S.draft store.new) }
     ensures later { S.faults store.old ≤ S.faults store.new }
     ensures fault { result ≡ Err LookupFault.NotRead → Rose (S.faults store.old) (S.faults store.new) }
 {
@@ -55,12 +60,12 @@ fn read_one<S: Source>(
     let len = match read_stored(shards, store, dataset, scale, cell, limit, room) {
         Err(fault) => return Err(fault),
         Ok(None) => {
-            put_zeros(scale, cell, part, out);
+            put_zeros(scale, cell, part, channels, out);
             return Ok(());
         }
         Ok(Some(len)) => len as usize,
     };
-    match put_chunk(&room[..len], scale, cell, values, part, out) {
+    match put_chunk(&room[..len], scale, cell, values, part, channels, out) {
         Ok(()) => Ok(()),
         Err(fault) => Err(LookupFault::Faulty(Fault::Chunk(fault))),
     }
@@ -76,9 +81,9 @@ pub(crate) fn place_fault(cell: [u64; 3], fault: LookupFault) -> CutFault
     }
 }
 
-/// Reads the cells that meet the part, x fastest, and puts their values into those of the part. `chunk` has
-/// room for one byte more than the chunks of the scale have at most, and `values` for what is decoded. Nothing
-/// is used of an index that was kept before.
+/// Reads the cells that meet the part, x fastest, and puts their values, in some channels, into those of the
+/// part. `chunk` has room for one byte more than the chunks of the scale have at most, and `values` for what is
+/// decoded. The index that is kept goes on from part to part.
 pub(crate) fn read_cells<S: Source>(
     shards: &mut ShardReader,
     store: &mut S,
@@ -87,26 +92,32 @@ pub(crate) fn read_cells<S: Source>(
     chunk: &mut [u8],
     values: &mut [u8],
     part: &Box3,
+    channels: Channels,
     out: &mut [u8],
 ) -> Result<(), CutFault>
     requires dataset { length dataset.now ≤ 200 }
     requires inside { Inside scale.now part.now }
     requires room { length chunk.old ≡ chunk_room scale.now }
     requires values { values_room scale.now ≤ length values.old }
-    requires len { length out.old ≡ raw_len part.now scale.now.channels scale.now.width }
+    requires channels { channels.first + channels.count ≤ scale.now.channels }
+    requires len { length out.old ≡ raw_len part.now channels.count scale.now.width }
     requires limit { length out.old ≤ 2 ^ 30 }
-    ensures read { IfSome (S.objects store.old) (λ m. ReadsAll result m dataset.now scale.now part.now out.new) }
+    requires keeps { KeepsShards (S.objects store.old) dataset.now scale.now shards.old }
+    ensures read { IfSome (S.objects store.old) (λ m.
+        ReadsAll result m dataset.now scale.now part.now channels out.new) }
+    ensures keeps { KeepsShards (S.objects store.old) dataset.now scale.now shards.new }
     ensures inside { result ≢ Err CutFault.OutsideScale }
-    ensures asked { IfSome (S.objects store.old) (λ m. S.asked store.new ≤ S.asked store.old + cost m dataset.now scale.now part.now) }
-    ensures kept { OnlyReads (S.objects store.old) (S.objects store.new) (S.draft store.old) (S.draft store.new) }
+    ensures asked { IfSome (S.objects store.old) (λ m.
+        S.asked store.new ≤ S.asked store.old + cost m dataset.now scale.now part.now) }
+    ensures kept { OnlyReads (S.objects store.old) (S.objects store.new) (S.draft store.old)
+        (S.draft store.new) }
     ensures later { S.faults store.old ≤ S.faults store.new }
     ensures fault { result ≡ Err CutFault.StoreFault → Rose (S.faults store.old) (S.faults store.new) }
 {
-    shards.forget();
     tell_cells(scale, part);
     for cell in cells(scale, part) {
         match read_one(
-            shards, store, dataset, scale, cell, chunk, values, part, out,
+            shards, store, dataset, scale, cell, chunk, values, part, channels, out,
         ) {
             Ok(()) => {}
             Err(fault) => return Err(place_fault(cell, fault)),

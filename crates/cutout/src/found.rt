@@ -37,7 +37,8 @@ pub(crate) fn locate_own<S: Source>(
     ensures found { IfSome (S.objects store.old) (λ m. Locates result m dataset.now scale.now cell) }
     ensures sound { IfErr result (λ fault. fault ≡ CutFault.StoreFault) }
     ensures asked { S.asked store.new ≡ S.asked store.old }
-    ensures kept { OnlyReads (S.objects store.old) (S.objects store.new) (S.draft store.old) (S.draft store.new) }
+    ensures kept { OnlyReads (S.objects store.old) (S.objects store.new) (S.draft store.old)
+        (S.draft store.new) }
     ensures later { S.faults store.old ≤ S.faults store.new }
     ensures fault { result ≡ Err CutFault.StoreFault → Rose (S.faults store.old) (S.faults store.new) }
 {
@@ -67,8 +68,10 @@ pub(crate) fn locate_in_shard<S: Source>(
     requires sharding { scale.now.sharding ≡ Some sharding.now }
     ensures found { IfSome (S.objects store.old) (λ m. Locates result m dataset.now scale.now cell) }
     ensures inside { result ≢ Err CutFault.OutsideScale }
-    ensures asked { IfSome (S.objects store.old) (λ m. S.asked store.new ≤ S.asked store.old + search_cost m dataset.now scale.now cell) }
-    ensures kept { OnlyReads (S.objects store.old) (S.objects store.new) (S.draft store.old) (S.draft store.new) }
+    ensures asked { IfSome (S.objects store.old) (λ m.
+        S.asked store.new ≤ S.asked store.old + search_cost m dataset.now scale.now cell) }
+    ensures kept { OnlyReads (S.objects store.old) (S.objects store.new) (S.draft store.old)
+        (S.draft store.new) }
     ensures later { S.faults store.old ≤ S.faults store.new }
     ensures fault { result ≡ Err CutFault.StoreFault → Rose (S.faults store.old) (S.faults store.new) }
 {

@@ -2,14 +2,17 @@
 #![tactic(auto)]
 
 mod cells;
+mod channels;
 mod chunk;
 mod fault;
 mod found;
+mod layers;
 mod reader;
+mod stream;
 #[cfg(test)]
 mod tests;
 mod values;
 
-pub use fault::CutFault;
+pub use fault::{CutFault, StreamFault};
 pub use found::Found;
 pub use reader::Reader;

@@ -1,6 +1,5 @@
 //! The reader of a scale.
-ghost use Rattle.std.specs.Prelude.{◌≡◌, ◌≢◌, ◌↔◌, ◌+◌, ◌≤◌, ◌^◌, length, IfErr, IfOk, IfSome, None, Err};
-ghost use Rattle.vol_base.specs.Bytes.{AreBytes};
+ghost use Rattle.std.specs.Prelude.{◌≡◌, ◌≢◌, ◌↔◌, ◌+◌, ◌*◌, ◌≤◌, ◌^◌, length, IfErr, IfOk, IfSome, None, Err};
 ghost use Rattle.vol_base.specs.Causes.{Rose};
 ghost use Rattle.vol_base.specs.Outside.{OnlyReads};
 ghost use Rattle.vol_spec.specs.Costs.{cost};
@@ -9,20 +8,25 @@ ghost use Rattle.vol_spec.specs.Raw.{raw_len};
 ghost use Rattle.cutout.specs.Keeping.{search_cost};
 ghost use Rattle.cutout.specs.Opened.{values_room};
 ghost use Rattle.cutout.specs.Reading.{HasCut, Locates};
+ghost use Rattle.cutout.specs.Streaming.{Leaves, Streams};
 
 use crate::cells::read_cells;
+use crate::channels::Channels;
 use crate::found::{locate_in_shard, locate_own};
-use crate::{CutFault, Found};
+use crate::layers::layer_room;
+use crate::stream::{stream_channels, tell_bytes};
+use crate::{CutFault, Found, StreamFault};
 use chunk_grid::inside;
 use chunk_pool::{Frame, Pool};
 use shard_reader::{ShardReader, WINDOW_LEN};
 use std::alloc::Global;
 use std::marker::Model;
-use vol_base::{Box3, Name, OutOfMemory, Source};
+use vol_base::{Box3, Name, OutOfMemory, Outlet, Source};
 use vol_spec::{Encoding, Scale};
 
-/// Reads a scale of a data set. All the memory that it needs is taken when it is opened: room for a chunk
-/// and a byte more, for the values of a chunk where chunks are segmented, and for 1,024 rows of an index.
+/// Reads a scale of a data set. The memory that it needs is taken when it is opened: room for a chunk and a
+/// byte more, for the values of a chunk where chunks are segmented, and for 1,024 rows of an index. `stream`
+/// alone takes more, the buffer for a layer.
 #[derive(Drop)]
 pub struct Reader {
     dataset: Name,
@@ -63,15 +67,8 @@ fn values_limit(scale: &Scale) -> u64
     }
 }
 
-// Knows that the elements of bytes are bytes.
-fn tell_bytes(bytes: &[u8])
-    ensures { AreBytes bytes.now }
-{
-    let _ = bytes.len();
-}
-
 impl Reader {
-    /// A reader of a scale. This call alone takes memory; where there is none, it is refused.
+    /// A reader of a scale. It takes the memory that all calls share; where there is none, it is refused.
     pub fn open(alloc: Global, dataset: &Name, scale: &Scale) -> Result<Reader, OutOfMemory>
         requires dataset { length dataset.now ≤ 200 }
         ensures dataset { IfOk result (λ reader. reader.dataset ≡ dataset.now) }
@@ -101,20 +98,29 @@ impl Reader {
         requires len { length out.old ≡ raw_len part.now self.old.scale.channels self.old.scale.width }
         requires limit { Inside self.old.scale part.now → length out.old ≤ 2 ^ 30 }
         ensures outside { result ≡ Err CutFault.OutsideScale ↔ (Inside self.old.scale part.now → ⊥) }
-        ensures cut { IfSome (S.objects store.old) (λ m. HasCut result m self.old.dataset self.old.scale part.now out.new) }
+        ensures cut { IfSome (S.objects store.old) (λ m.
+            HasCut result m self.old.dataset self.old.scale part.now out.new) }
         ensures same { self.new ≡ self.old }
+        ensures unasked { result ≡ Err CutFault.OutsideScale → store.new ≡ store.old }
 
         // It asks for no more than the entries, the indexes and the chunks of the cells.
-        ensures asked { IfSome (S.objects store.old) (λ m. S.asked store.new ≤ S.asked store.old + cost m self.old.dataset self.old.scale part.now) }
-        ensures kept { OnlyReads (S.objects store.old) (S.objects store.new) (S.draft store.old) (S.draft store.new) }
+        ensures asked { IfSome (S.objects store.old) (λ m.
+            S.asked store.new ≤ S.asked store.old + cost m self.old.dataset self.old.scale part.now) }
+        ensures kept { OnlyReads (S.objects store.old) (S.objects store.new) (S.draft store.old)
+            (S.draft store.new) }
         ensures later { S.faults store.old ≤ S.faults store.new }
         ensures fault { result ≡ Err CutFault.StoreFault → Rose (S.faults store.old) (S.faults store.new) }
     {
         if !inside(&self.scale, part) {
             return Err(CutFault::OutsideScale);
         }
+        let all = Channels {
+            first: 0,
+            count: self.scale.channels,
+        };
         let chunk = self.chunk.room();
         let values = self.values.room();
+        self.shards.forget();
         read_cells(
             &mut self.shards,
             store,
@@ -123,22 +129,82 @@ impl Reader {
             chunk,
             values,
             part,
+            all,
             out,
         )?;
         tell_bytes(out);
         Ok(())
     }
 
+    /// Writes a box: the same bytes as `cutout`, channel by channel, and within a channel by layers of cells
+    /// along z. The memory for one channel of one layer is taken before the first read; where there is none,
+    /// nothing was asked for or written. Where the box is damaged, what was written is channel 0 below the
+    /// layer of the first cell that has a fault; after other refusals it is a front of the whole.
+    pub fn stream<S: Source, O: Outlet>(
+        &mut self,
+        alloc: Global,
+        store: &mut S,
+        part: &Box3,
+        out: &mut O,
+    ) -> Result<(), StreamFault>
+        requires { Inside self.old.scale part.now →
+            raw_len part.now self.old.scale.channels self.old.scale.width ≤ 2 ^ 30 }
+        ensures outside { result ≡ Err StreamFault.OutsideScale ↔ (Inside self.old.scale part.now → ⊥) }
+        ensures streams { Leaves (S.objects store.old) (O.written out.old) (O.written out.new)
+            (λ m gained. Streams result m self.old.dataset self.old.scale part.now gained) }
+        ensures same { self.new ≡ self.old }
+
+        // Outside the scale and for want of memory all is as before.
+        ensures unasked { result ≡ Err StreamFault.OutsideScale → (store.new ≡ store.old) ×
+            (out.new ≡ out.old) }
+        ensures memory { result ≡ Err StreamFault.OutOfMemory → (store.new ≡ store.old) ×
+            (out.new ≡ out.old) }
+
+        // It asks for no more than the entries, the indexes and the chunks of the cells, once for each channel.
+        ensures asked { IfSome (S.objects store.old) (λ m. S.asked store.new ≤ S.asked store.old
+            + self.old.scale.channels * cost m self.old.dataset self.old.scale part.now) }
+        ensures kept { OnlyReads (S.objects store.old) (S.objects store.new) (S.draft store.old)
+            (S.draft store.new) }
+        ensures later { S.faults store.old ≤ S.faults store.new }
+        ensures out_later { O.faults out.old ≤ O.faults out.new }
+        ensures fault { result ≡ Err StreamFault.StoreFault → Rose (S.faults store.old) (S.faults store.new) }
+        ensures out_fault { result ≡ Err StreamFault.OutFault → Rose (O.faults out.old) (O.faults out.new) }
+    {
+        if !inside(&self.scale, part) {
+            return Err(StreamFault::OutsideScale);
+        }
+        let mut buffer = match reserve_frame(alloc, layer_room(&self.scale, part)) {
+            Ok(buffer) => buffer,
+            Err(OutOfMemory) => return Err(StreamFault::OutOfMemory),
+        };
+        let chunk = self.chunk.room();
+        let values = self.values.room();
+        stream_channels(
+            &mut self.shards,
+            store,
+            &self.dataset,
+            &self.scale,
+            chunk,
+            values,
+            part,
+            buffer.room(),
+            out,
+        )
+    }
+
     /// Finds the chunk of a cell without reading it: in its own object, of which it is the whole, or in a
     /// shard, where a fault of the entry, of the index or of the chunk's place is told.
     pub fn locate<S: Source>(&mut self, store: &mut S, cell: [u64; 3]) -> Result<Found, CutFault>
         requires { IsCell self.old.scale cell }
-        ensures found { IfSome (S.objects store.old) (λ m. Locates result m self.old.dataset self.old.scale cell) }
+        ensures found { IfSome (S.objects store.old) (λ m.
+            Locates result m self.old.dataset self.old.scale cell) }
         ensures inside { result ≢ Err CutFault.OutsideScale }
         ensures whole { self.old.scale.sharding ≡ None → IfErr result (λ fault. fault ≡ CutFault.StoreFault) }
         ensures same { self.new ≡ self.old }
-        ensures asked { IfSome (S.objects store.old) (λ m. S.asked store.new ≤ S.asked store.old + search_cost m self.old.dataset self.old.scale cell) }
-        ensures kept { OnlyReads (S.objects store.old) (S.objects store.new) (S.draft store.old) (S.draft store.new) }
+        ensures asked { IfSome (S.objects store.old) (λ m.
+            S.asked store.new ≤ S.asked store.old + search_cost m self.old.dataset self.old.scale cell) }
+        ensures kept { OnlyReads (S.objects store.old) (S.objects store.new) (S.draft store.old)
+            (S.draft store.new) }
         ensures later { S.faults store.old ≤ S.faults store.new }
         ensures fault { result ≡ Err CutFault.StoreFault → Rose (S.faults store.old) (S.faults store.new) }
     {

@@ -1,13 +1,13 @@
 //! Boxes and places read from small stores, worked out by hand.
-ghost use Rattle.std.specs.Prelude.{◌≡◌, ◌≤◌, length};
+ghost use Rattle.std.specs.Prelude.{◌≡◌, ◌<◌, ◌≤◌, length};
 
-use crate::{CutFault, Found, Reader};
+use crate::{CutFault, Found, Reader, StreamFault};
 use chunk_grid::{byte_len, grid, inside};
 use small_scales::{raw_scale, short_name};
 use std::alloc::Global;
 use std::process::Abort;
 use std::test::Fail;
-use vol_base::{Box3, ChunkFault, Fault, MemoryStore, Name, ShardFault};
+use vol_base::{Box3, ChunkFault, Fault, MemoryOutlet, MemoryStore, Name, ShardFault};
 use vol_spec::{Encoding, HashKind, Scale, Sharding};
 
 fn store_of(
@@ -401,4 +401,206 @@ fn cuts_segmentations_out(rt: HostRuntime) -> Result<(), Fail> {
     };
     check_cut(&rt, alloc, &scale, &mut store, &bad(PLANE, fault, 138))?;
     check_cut(&rt, alloc, &scale, &mut store, &corner)
+}
+
+// One voxel wide and five high from a place on, in three layers of cells, of two channels.
+fn tall_scale(rt: &impl Abort, begin: i64) -> Scale {
+    let key = short_name(b"s").expect(rt, "a key");
+    raw_scale(key, 1, 2, [1, 1, 5], [0, 0, begin], [1, 1, 2]).expect(rt, "a scale")
+}
+
+const LOW: (&[u8], &[u8]) = (b"d/s/0-1_0-1_0-2", &[1, 2, 11, 12]);
+
+const HIGH_NAME: &[u8] = b"d/s/0-1_0-1_2-4";
+
+const HIGH: (&[u8], &[u8]) = (HIGH_NAME, &[3, 4, 13, 14]);
+
+const LONG_HIGH: (&[u8], &[u8]) = (HIGH_NAME, &[3, 4, 13, 14, 9]);
+
+const TOP: (&[u8], &[u8]) = (b"d/s/0-1_0-1_4-5", &[5, 15]);
+
+const TALL: Box3 = Box3 {
+    begin: [0; 3],
+    size: [1, 1, 5],
+};
+
+const TALL_VALUES: [u8; 10] = [1, 2, 3, 4, 5, 11, 12, 13, 14, 15];
+
+// Begins and ends inside cells.
+const INNER: Box3 = Box3 {
+    begin: [0, 0, 1],
+    size: [1, 1, 3],
+};
+
+// The same cells three planes lower, the highest with a byte too many.
+const DEEP: [(&[u8], &[u8]); 3] = [
+    (b"d/s/0-1_0-1_-3--1", &[1, 2, 11, 12]),
+    (b"d/s/0-1_0-1_-1-1", &[3, 4, 13, 14]),
+    (b"d/s/0-1_0-1_1-2", &[5, 15, 9]),
+];
+
+const DEEP_ALL: Box3 = Box3 {
+    begin: [0, 0, -3],
+    size: [1, 1, 5],
+};
+
+// Begins inside a cell.
+const DEEP_INNER: Box3 = Box3 {
+    begin: [0, 0, -2],
+    size: [1, 1, 4],
+};
+
+// What takes the bytes: so many at once, until a call fails.
+#[derive(Clone, Copy)]
+struct Taker {
+    piece: usize,
+    failing: u64,
+}
+
+const WELL: Taker = Taker {
+    piece: 64,
+    failing: NONE_FAILS,
+};
+
+fn check_stream(
+    rt: &impl Abort,
+    alloc: Global,
+    scale: &Scale,
+    store: &mut MemoryStore,
+    part: &Box3,
+    taker: Taker,
+    answer: Result<(), StreamFault>,
+    written: &[u8],
+) -> Result<(), Fail>
+    requires { 0 < taker.piece }
+{
+    let dataset = short_name(b"d").expect(rt, "a data set");
+    let mut reader = Reader::open(alloc, &dataset, scale)?;
+    assert!(rt; byte_len(part, scale.channels, scale.width) <= 64);
+    let failing = Vec::from_slice(alloc, &[taker.failing])?;
+    let mut out = MemoryOutlet::new(alloc, 64, taker.piece, failing)?;
+    assert_eq!(rt; reader.stream(alloc, store, part, &mut out), answer);
+    assert!(rt; out.written() == written);
+    Ok(())
+}
+
+#[test]
+fn writes_by_layers(rt: HostRuntime) -> Result<(), Fail> {
+    let alloc = rt.alloc();
+    let scale = tall_scale(&rt, 0);
+    let mut store = store_of(&rt, alloc, &[LOW, HIGH, TOP], NONE_FAILS)?;
+    check_stream(
+        &rt,
+        alloc,
+        &scale,
+        &mut store,
+        &TALL,
+        WELL,
+        Ok(()),
+        &TALL_VALUES,
+    )?;
+    // Of each cell its chunk and a byte more, for each channel.
+    assert_eq!(rt; store.asked(), 2 * (5 + 5 + 3));
+    let inner = [2, 3, 4, 12, 13, 14];
+    check_stream(&rt, alloc, &scale, &mut store, &INNER, WELL, Ok(()), &inner)?;
+    let outside = Err(StreamFault::OutsideScale);
+    check_stream(&rt, alloc, &scale, &mut store, &OUTSIDE, WELL, outside, &[])
+}
+
+#[test]
+fn writes_what_is_below_damage(rt: HostRuntime) -> Result<(), Fail> {
+    let alloc = rt.alloc();
+    let long = ChunkFault::ChunkLength {
+        found: 5,
+        wanted: 4,
+    };
+    let damaged = Err(StreamFault::Damaged {
+        cell: [0, 0, 1],
+        fault: Fault::Chunk(long),
+    });
+    let scale = tall_scale(&rt, 0);
+    let mut store = store_of(&rt, alloc, &[LOW, LONG_HIGH, TOP], NONE_FAILS)?;
+    check_stream(
+        &rt,
+        alloc,
+        &scale,
+        &mut store,
+        &TALL,
+        WELL,
+        damaged,
+        &[1, 2],
+    )?;
+    check_stream(&rt, alloc, &scale, &mut store, &INNER, WELL, damaged, &[2])
+}
+
+#[test]
+fn writes_two_layers_below_damage(rt: HostRuntime) -> Result<(), Fail> {
+    let alloc = rt.alloc();
+    let long = ChunkFault::ChunkLength {
+        found: 3,
+        wanted: 2,
+    };
+    let damaged = Err(StreamFault::Damaged {
+        cell: [0, 0, 2],
+        fault: Fault::Chunk(long),
+    });
+    let scale = tall_scale(&rt, -3);
+    let mut store = store_of(&rt, alloc, &DEEP, NONE_FAILS)?;
+    check_stream(
+        &rt,
+        alloc,
+        &scale,
+        &mut store,
+        &DEEP_ALL,
+        WELL,
+        damaged,
+        &[1, 2, 3, 4],
+    )?;
+    check_stream(
+        &rt,
+        alloc,
+        &scale,
+        &mut store,
+        &DEEP_INNER,
+        WELL,
+        damaged,
+        &[2, 3, 4],
+    )
+}
+
+// What was written when a call of the store fails.
+const FRONTS: [&[u8]; 6] = [
+    &[],
+    &[1, 2],
+    &[1, 2, 3, 4],
+    &[1, 2, 3, 4, 5],
+    &[1, 2, 3, 4, 5, 11, 12],
+    &[1, 2, 3, 4, 5, 11, 12, 13, 14],
+];
+
+// What was asked for when a call of the outlet fails: the chunks up to the layer that it was given, and no more.
+const ASKED: [u64; 10] = [5, 5, 10, 10, 13, 18, 18, 23, 23, 26];
+
+#[test]
+fn writes_a_front_where_a_call_fails(rt: HostRuntime) -> Result<(), Fail> {
+    let alloc = rt.alloc();
+    let scale = tall_scale(&rt, 0);
+    for call in 0..6 {
+        let mut store = store_of(&rt, alloc, &[LOW, HIGH, TOP], call)?;
+        let failed = Err(StreamFault::StoreFault);
+        let front = FRONTS[call as usize];
+        check_stream(&rt, alloc, &scale, &mut store, &TALL, WELL, failed, front)?;
+    }
+    for call in 0..10 {
+        let mut store = store_of(&rt, alloc, &[LOW, HIGH, TOP], NONE_FAILS)?;
+        let taker = Taker {
+            piece: 1,
+            failing: call,
+        };
+        let failed = Err(StreamFault::OutFault);
+        let front = &TALL_VALUES[..call as usize];
+        check_stream(&rt, alloc, &scale, &mut store, &TALL, taker, failed, front)?;
+        assert_eq!(rt; store.asked(), ASKED[call as usize]);
+    }
+    Ok(())
 }

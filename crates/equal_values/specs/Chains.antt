@@ -1,4 +1,5 @@
--- An index of numbered things, by a number that equal ones share. Place i of heads and next has 0, or a thing's number and 1.
+-- An index of numbered things, by a number that equal ones share (this project's). Place i of heads and next
+-- has 0, or a thing's number and 1.
 use Rattle.std.specs.Prelude.{◌≡◌, ◌⊎◌, ℕ, ◌+◌, ◌*◌, ◌/◌, ◌%◌, ◌^◌, ◌<◌, Bool, IsTrue, List, MatchOption, Option, length, slice_index}
 
 -- the high half of a number, spread over so many places
@@ -27,4 +28,5 @@ IsFound placed equals k found = MatchOption found
 -- where the old index is that of the things below k, the new one is that of k too
 abbrev pub Adds : List ℕ → List ℕ → List ℕ → List ℕ → ℕ → ℕ → Type 0
 Adds heads next heads' next' home k = (hash : ℕ → ℕ) (placed : ℕ → Bool) → IsIndex hash placed heads next k
-    → ((j : ℕ) → hash j < length heads) → hash k ≡ home → IsTrue (placed k) → IsIndex hash placed heads' next' (k + 1)
+    → ((j : ℕ) → hash j < length heads) → hash k ≡ home → IsTrue (placed k) →
+    IsIndex hash placed heads' next' (k + 1)

@@ -1,4 +1,4 @@
--- For each value of a list, the first one before it that is equal.
+-- For each value of a list, the first one before it that is equal (this project's).
 use Rattle.std.specs.Prelude.{◌+◌, ◌==◌, ℕ, List, Option, None, Some, find, slice_index}
 use Rattle.std.specs.List.{range_with_len}
 

@@ -1,4 +1,4 @@
--- The hash of a value, and its group.
+-- The hash of a value, and its group (this project's).
 use Rattle.std.specs.Prelude.{ℕ, ◌*◌, ◌/◌, ◌%◌, ◌^◌}
 use Rattle.std.specs.Int.Bits.{bit_xor}
 

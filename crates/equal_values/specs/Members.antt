@@ -1,4 +1,5 @@
--- The positions that the index of a group has: those of its values that stand there for the first time.
+-- The positions that the index of a group has: those of its values that stand there for the first time (this
+-- project's).
 use Rattle.std.specs.Prelude.{ℕ, ◌==◌, ◌&&◌, Bool, List, slice_index}
 use Rattle.equal_values.specs.Chains.{spread}
 use Rattle.equal_values.specs.Earlier.{coded, earlier}

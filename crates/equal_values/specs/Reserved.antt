@@ -1,4 +1,4 @@
--- How many values a finder is reserved for.
+-- How many values a finder is reserved for (this project's).
 use Rattle.std.specs.Prelude.{ℕ, length}
 use Rattle.equal_values.specs.declared.finder.Finder.{Finder}
 

@@ -47,9 +47,11 @@ pub fn clear(numbers: &mut [u32])
 /// The last thing in the index that equals the sought one, whose home is told.
 pub fn find_equal<S: Sought>(sought: &S, heads: &[u32], next: &[u32], home: usize) -> Option<usize>
     requires ready { S.ready sought.now }
-    requires index { IsIndex (S.home_of sought.now (length heads.now)) (S.placed sought.now) heads.now next.now (S.number sought.now) }
+    requires index { IsIndex (S.home_of sought.now (length heads.now))
+        (S.placed sought.now) heads.now next.now (S.number sought.now) }
     requires home { home ≡ S.home_of sought.now (length heads.now) (S.number sought.now) }
-    requires shared { (j : ℕ) → IsTrue (S.equals sought.now j) → S.home_of sought.now (length heads.now) j ≡ home }
+    requires shared { (j : ℕ) → IsTrue (S.equals sought.now j) →
+        S.home_of sought.now (length heads.now) j ≡ home }
     requires heads { home < length heads.now }
     requires next { S.number sought.now ≤ length next.now }
     ensures { IsFound (S.placed sought.now) (S.equals sought.now) (S.number sought.now) result }

@@ -21,7 +21,8 @@ use search::find_in_order;
 pub fn find_earlier(values: &[u64], finder: &mut Finder, earlier: &mut [u32])
     requires room { length values.now ≤ most_of finder.old }
     requires earlier { length values.now ≡ length earlier.old }
-    ensures earlier { (k : ℕ) → k < length values.now → slice_index earlier.new k ≡ coded (earlier_of values.now k) }
+    ensures earlier { (k : ℕ) → k < length values.now →
+        slice_index earlier.new k ≡ coded (earlier_of values.now k) }
     ensures finder { most_of finder.new ≡ most_of finder.old }
 {
     group_values(

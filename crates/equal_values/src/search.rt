@@ -37,7 +37,8 @@ impl Sought for Position<'_> {
 
 // The first position whose value equals that of position a, if it is before a.
 fn find_position(moved: &[u64], heads: &[u32], next: &[u32], home: usize, a: usize) -> Option<usize>
-    requires index { IsIndex (home_at moved.now (length heads.now)) (is_member moved.now (group_at moved.now a)) heads.now next.now a }
+    requires index { IsIndex (home_at moved.now (length heads.now))
+        (is_member moved.now (group_at moved.now a)) heads.now next.now a }
     requires home { home ≡ home_at moved.now (length heads.now) a }
     requires heads { home < length heads.now }
     requires next { a < length next.now }
@@ -64,9 +65,11 @@ fn search_position(
     requires few_heads { length heads.old < 2 ^ 32 }
     requires next { length _values.now ≤ length next.old }
     requires here { a < length _values.now }
-    requires index { IsIndex (home_at moved.now (length heads.old)) (is_member moved.now (group_at moved.now a)) heads.old next.old a }
+    requires index { IsIndex (home_at moved.now (length heads.old))
+        (is_member moved.now (group_at moved.now a)) heads.old next.old a }
     ensures value { result ≡ coded (earlier_of _values.now (slice_index order.now a)) }
-    ensures index { IsIndex (home_at moved.now (length heads.old)) (is_member moved.now (group_at moved.now a)) heads.new next.new (a + 1) }
+    ensures index { IsIndex (home_at moved.now (length heads.old))
+        (is_member moved.now (group_at moved.now a)) heads.new next.new (a + 1) }
 {
     let home = spread_hash(hash(moved[a]), heads.len());
     match find_position(moved, heads, next, home, a) {
@@ -104,9 +107,11 @@ fn enter_group(
     requires here { a < length _values.now }
     requires moved { length _values.now ≤ length moved.now }
     requires before { (b : ℕ) → b + 1 ≡ a → group_at moved.now b ≡ group }
-    requires index { IsIndex (home_at moved.now (length heads.old)) (is_member moved.now group) heads.old _next.now a }
+    requires index { IsIndex (home_at moved.now (length heads.old))
+        (is_member moved.now group) heads.old _next.now a }
     ensures group { result ≡ group_at moved.now a }
-    ensures index { IsIndex (home_at moved.now (length heads.old)) (is_member moved.now (group_at moved.now a)) heads.new _next.now a }
+    ensures index { IsIndex (home_at moved.now (length heads.old))
+        (is_member moved.now (group_at moved.now a)) heads.new _next.now a }
 {
     let entered = find_group(moved[a]);
     if entered != group {
@@ -132,7 +137,8 @@ fn search_positions(
     requires few_heads { length heads.old < 2 ^ 32 }
     requires next { length _values.now ≤ length next.old }
     requires earlier { length _values.now ≡ length earlier.old }
-    ensures { (k : ℕ) → k < length _values.now → slice_index earlier.new k ≡ coded (earlier_of _values.now k) }
+    ensures { (k : ℕ) → k < length _values.now → slice_index earlier.new k
+        ≡ coded (earlier_of _values.now k) }
 {
     clear(heads);
     clear(earlier);
@@ -171,7 +177,8 @@ pub(crate) fn find_in_order(
     requires heads { max (length _values.now / 32) 64 ≤ length heads.old }
     requires next { length _values.now ≤ length next.old }
     requires earlier { length _values.now ≡ length earlier.old }
-    ensures { (k : ℕ) → k < length _values.now → slice_index earlier.new k ≡ coded (earlier_of _values.now k) }
+    ensures { (k : ℕ) → k < length _values.now → slice_index earlier.new k
+        ≡ coded (earlier_of _values.now k) }
 {
     let count = count_heads(earlier.len());
     search_positions(_values, order, moved, &mut heads[..count], next, earlier);

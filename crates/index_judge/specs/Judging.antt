@@ -1,4 +1,5 @@
--- What judging an index says.
+-- What judging an index says (this project's profile). Its rows are those of the precomputed volume format
+-- (sharded format, minishard index format).
 use Rattle.std.specs.Prelude.{◌≡◌, ℕ, ◌+◌, ◌*◌, ◌≤◌, length, map, ⊤, Option, Some, None, Result, Ok, Err}
 use Rattle.std.specs.List.{range_with_len}
 use Rattle.vol_base.specs.Outside.{part}
@@ -28,7 +29,8 @@ wrong_in (Some object) sharding shard m = rows_wrong object sharding shard m (ro
 
 -- the first that is wrong with the first n rows of an index
 abbrev pub first_wrong_row : Columns → Sharding → ℕ → ℕ → ℕ → Option Wrong
-first_wrong_row c sharding shard m n = first_some (map (λ r. row_wrong sharding shard m (judged_row c r)) (range_with_len 0 n))
+first_wrong_row c sharding shard m n = first_some
+    (map (λ r. row_wrong sharding shard m (judged_row c r)) (range_with_len 0 n))
 
 -- a walk over rows with none of which something is wrong
 pub record IsPast (c : Columns) (sharding : Sharding) (shard m : ℕ) (w : Progress) : Type 0 where

@@ -44,10 +44,12 @@ pub(crate) fn open_index<S: Source>(
     minishard: u64,
 ) -> Result<Option<RowSpan>, JudgeFault>
     requires { minishard < 2 ^ sharding.now.minishard_bits }
-    ensures opened { IfSome (S.objects store.old) (λ m. Opens sharding.now minishard (map.get m name.now) result) }
+    ensures opened { IfSome (S.objects store.old) (λ m.
+        Opens sharding.now minishard (map.get m name.now) result) }
     ensures few { IfOk result (λ o. IfSome o (λ span. span.rows ≤ 2 ^ 22)) }
     ensures fits { IfOk result (λ o. IfSome o (λ span. span.at + 24 * span.rows < 2 ^ 64)) }
-    ensures kept { OnlyReads (S.objects store.old) (S.objects store.new) (S.draft store.old) (S.draft store.new) }
+    ensures kept { OnlyReads (S.objects store.old) (S.objects store.new) (S.draft store.old)
+        (S.draft store.new) }
     ensures later { S.faults store.old ≤ S.faults store.new }
     ensures fault { result ≡ Err JudgeFault.NotRead → Rose (S.faults store.old) (S.faults store.new) }
 {

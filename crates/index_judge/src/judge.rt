@@ -42,8 +42,10 @@ fn judge_index<S: Source>(
     requires ids { length ids.old ≡ 8192 }
     requires starts { length starts.old ≡ 8192 }
     requires sizes { length sizes.old ≡ 8192 }
-    ensures judged { IfSome (S.objects store.old) (λ m. Says (wrong_in (map.get m name.now) sharding.now home.now.shard home.now.minishard) result) }
-    ensures kept { OnlyReads (S.objects store.old) (S.objects store.new) (S.draft store.old) (S.draft store.new) }
+    ensures judged { IfSome (S.objects store.old) (λ m.
+        Says (wrong_in (map.get m name.now) sharding.now home.now.shard home.now.minishard) result) }
+    ensures kept { OnlyReads (S.objects store.old) (S.objects store.new) (S.draft store.old)
+        (S.draft store.new) }
     ensures later { S.faults store.old ≤ S.faults store.new }
     ensures fault { result ≡ Err JudgeFault.NotRead → Rose (S.faults store.old) (S.faults store.new) }
 {
@@ -101,9 +103,11 @@ impl IndexJudge {
         home: &ShardPlace,
     ) -> Result<(), JudgeFault>
         requires minishard { home.now.minishard < 2 ^ sharding.now.minishard_bits }
-        ensures judged { IfSome (S.objects store.old) (λ m. Says (wrong_in (map.get m name.now) sharding.now home.now.shard home.now.minishard) result) }
+        ensures judged { IfSome (S.objects store.old) (λ m.
+            Says (wrong_in (map.get m name.now) sharding.now home.now.shard home.now.minishard) result) }
         ensures same { self.new.judged ≡ self.old.judged }
-        ensures kept { OnlyReads (S.objects store.old) (S.objects store.new) (S.draft store.old) (S.draft store.new) }
+        ensures kept { OnlyReads (S.objects store.old) (S.objects store.new) (S.draft store.old)
+            (S.draft store.new) }
         ensures later { S.faults store.old ≤ S.faults store.new }
         ensures fault { result ≡ Err JudgeFault.NotRead → Rose (S.faults store.old) (S.faults store.new) }
     {
@@ -132,9 +136,13 @@ impl IndexJudge {
         requires shard { home.now.shard < 2 ^ sharding.now.shard_bits }
         requires minishard { home.now.minishard < 2 ^ sharding.now.minishard_bits }
         requires knows { Knows (S.objects store.old) dataset.now scale.now sharding.now self.old }
-        ensures judged { IfSome (S.objects store.old) (λ m. Says (wrong_in (map.get m (shard_name dataset.now scale.now home.now.shard)) sharding.now home.now.shard home.now.minishard) result) }
+        ensures judged { IfSome (S.objects store.old) (λ m.
+            Says (wrong_in
+            (map.get m (shard_name dataset.now scale.now home.now.shard))
+            sharding.now home.now.shard home.now.minishard) result) }
         ensures knows { Knows (S.objects store.old) dataset.now scale.now sharding.now self.new }
-        ensures kept { OnlyReads (S.objects store.old) (S.objects store.new) (S.draft store.old) (S.draft store.new) }
+        ensures kept { OnlyReads (S.objects store.old) (S.objects store.new) (S.draft store.old)
+            (S.draft store.new) }
         ensures later { S.faults store.old ≤ S.faults store.new }
         ensures fault { result ≡ Err JudgeFault.NotRead → Rose (S.faults store.old) (S.faults store.new) }
     {

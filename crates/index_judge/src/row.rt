@@ -29,8 +29,10 @@ pub(crate) fn judge_row(
     size: u64,
 ) -> Result<(), JudgeFault>
     requires rows { walk.old.rows < 2 ^ 22 }
-    ensures judged { (c : Columns) → IsWalked c walk.old → IsStored c walk.old.rows id start size → Says (row_wrong sharding.now home.now.shard home.now.minishard (judged_row c walk.old.rows)) result }
-    ensures walked { OnOk result ((c : Columns) → IsWalked c walk.old → IsStored c walk.old.rows id start size → IsWalked c walk.new) }
+    ensures judged { (c : Columns) → IsWalked c walk.old → IsStored c walk.old.rows id start size →
+        Says (row_wrong sharding.now home.now.shard home.now.minishard (judged_row c walk.old.rows)) result }
+    ensures walked { OnOk result ((c : Columns) → IsWalked c walk.old →
+        IsStored c walk.old.rows id start size → IsWalked c walk.new) }
     ensures rows { OnOk result (walk.new.rows ≡ walk.old.rows + 1) }
     ensures read { result ≢ Err JudgeFault.NotRead }
 {

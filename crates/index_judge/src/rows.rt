@@ -39,7 +39,10 @@ fn judge_columns(
     requires starts { 8 * count ≤ length starts.now }
     requires sizes { 8 * count ≤ length sizes.now }
     ensures rows { OnOk result (walk.new.rows ≡ walk.old.rows + count) }
-    ensures passes { (c : Columns) (n : ℕ) → IsPast c sharding.now home.now.shard home.now.minishard walk.old → Holds c walk.old.rows count ids.now starts.now sizes.now → walk.old.rows + count ≤ n → Passes c sharding.now home.now.shard home.now.minishard n result walk.new }
+    ensures passes { (c : Columns) (n : ℕ) →
+        IsPast c sharding.now home.now.shard home.now.minishard walk.old →
+        Holds c walk.old.rows count ids.now starts.now sizes.now → walk.old.rows + count ≤ n →
+        Passes c sharding.now home.now.shard home.now.minishard n result walk.new }
     ensures read { result ≢ Err JudgeFault.NotRead }
 {
     for i in 0..count {
@@ -67,9 +70,12 @@ fn read_numbers<S: Source>(
     requires within { from + count ≤ 3 * span.now.rows }
     requires fits { span.now.at + 24 * span.now.rows < 2 ^ 64 }
     requires room { 8 * count ≤ length out.old }
-    ensures read { OnOk result (OnIndex (S.objects store.old) name.now span.now.at span.now.rows (HoldsNumbers from count out.new)) }
-    ensures whole { IfErr result (λ fault. OnIndex (S.objects store.old) name.now span.now.at span.now.rows (λ _. fault ≡ JudgeFault.NotRead)) }
-    ensures kept { OnlyReads (S.objects store.old) (S.objects store.new) (S.draft store.old) (S.draft store.new) }
+    ensures read { OnOk result (OnIndex (S.objects store.old) name.now span.now.at span.now.rows
+        (HoldsNumbers from count out.new)) }
+    ensures whole { IfErr result (λ fault. OnIndex (S.objects store.old) name.now span.now.at span.now.rows
+        (λ _. fault ≡ JudgeFault.NotRead)) }
+    ensures kept { OnlyReads (S.objects store.old) (S.objects store.new) (S.draft store.old)
+        (S.draft store.new) }
     ensures later { S.faults store.old ≤ S.faults store.new }
     ensures fault { result ≡ Err JudgeFault.NotRead → Rose (S.faults store.old) (S.faults store.new) }
 {
@@ -97,9 +103,12 @@ fn read_rows<S: Source>(
     requires ids { 8 * count ≤ length ids.old }
     requires starts { 8 * count ≤ length starts.old }
     requires sizes { 8 * count ≤ length sizes.old }
-    ensures read { OnOk result (OnIndex (S.objects store.old) name.now span.now.at span.now.rows (λ bytes. Holds (columns_of bytes) first count ids.new starts.new sizes.new)) }
-    ensures whole { IfErr result (λ fault. OnIndex (S.objects store.old) name.now span.now.at span.now.rows (λ _. fault ≡ JudgeFault.NotRead)) }
-    ensures kept { OnlyReads (S.objects store.old) (S.objects store.new) (S.draft store.old) (S.draft store.new) }
+    ensures read { OnOk result (OnIndex (S.objects store.old) name.now span.now.at span.now.rows (λ bytes.
+        Holds (columns_of bytes) first count ids.new starts.new sizes.new)) }
+    ensures whole { IfErr result (λ fault. OnIndex (S.objects store.old) name.now span.now.at span.now.rows
+        (λ _. fault ≡ JudgeFault.NotRead)) }
+    ensures kept { OnlyReads (S.objects store.old) (S.objects store.new) (S.draft store.old)
+        (S.draft store.new) }
     ensures later { S.faults store.old ≤ S.faults store.new }
     ensures fault { result ≡ Err JudgeFault.NotRead → Rose (S.faults store.old) (S.faults store.new) }
 {
@@ -151,8 +160,11 @@ pub(crate) fn judge_rows<S: Source>(
     requires ids { length ids.old ≡ 8192 }
     requires starts { length starts.old ≡ 8192 }
     requires sizes { length sizes.old ≡ 8192 }
-    ensures judged { OnIndex (S.objects store.old) name.now span.now.at span.now.rows (λ bytes. Says (first_wrong_row (columns_of bytes) sharding.now home.now.shard home.now.minishard span.now.rows) result) }
-    ensures kept { OnlyReads (S.objects store.old) (S.objects store.new) (S.draft store.old) (S.draft store.new) }
+    ensures judged { OnIndex (S.objects store.old) name.now span.now.at span.now.rows (λ bytes.
+        Says (first_wrong_row
+        (columns_of bytes) sharding.now home.now.shard home.now.minishard span.now.rows) result) }
+    ensures kept { OnlyReads (S.objects store.old) (S.objects store.new) (S.draft store.old)
+        (S.draft store.new) }
     ensures later { S.faults store.old ≤ S.faults store.new }
     ensures fault { result ≡ Err JudgeFault.NotRead → Rose (S.faults store.old) (S.faults store.new) }
 {

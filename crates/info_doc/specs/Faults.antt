@@ -1,4 +1,5 @@
--- Rows of a judgement, each a condition with its fault, and the steps that they make.
+-- Rows of a judgement, each a condition with its fault, and the steps that they make (this project's
+-- profile).
 use Rattle.std.specs.Prelude.{◌≡◌, Bool, List, [], ◌∷◌, Option, Some, None, Result, Ok, Err, if◌then◌else◌, refl}
 use Rattle.info_doc.specs.declared.fault.InfoFault.{InfoFault}
 

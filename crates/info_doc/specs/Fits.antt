@@ -1,4 +1,4 @@
--- What steps without a fault leave: each value is within its limits.
+-- What steps without a fault leave: each value is within its limits (this project's).
 use Rattle.std.specs.Prelude.{◌≡◌, ◌⊎◌, ℕ, ◌+◌, ◌<◌, ◌≤◌, ◌^◌, ◌==◌, ◌||◌, ◌&&◌, not, nat_lt, nat_le, zero, suc, ℤ, pos, neg_ℤ, ◌≤ℤ◌, nat_abs, Bool, true, false, codes, List, [], ◌∷◌, length, slice_get, slice_index, slice_index_or, Option, Some, None, IfSome, is_some, is_none, option_and_then, option_map, unwrap_or, if◌then◌else◌, refl}
 use Rattle.std.specs.List.{find, list_all, list_any}
 use Rattle.std.proofs.Common.{arith, inl, inr, subst}
@@ -22,7 +22,8 @@ use Rattle.info_doc.specs.Groups.{volume_steps, volume_fault, volume_in, shape_s
 
 -- ---- rows and steps without a fault
 
-clear : (b : Bool) (fault : InfoFault) (rest : Option InfoFault) → (if b then Some fault else rest) ≡ None → (b ≡ false) × (rest ≡ None)
+clear : (b : Bool) (fault : InfoFault) (rest : Option InfoFault) → (if b then Some fault else rest) ≡ None →
+    (b ≡ false) × (rest ≡ None)
 clear true fault rest e = cc
 clear false fault rest e = (refl, e)
 
@@ -39,7 +40,8 @@ neither : (a b : Bool) → a || b ≡ false → (a ≡ false) × (b ≡ false)
 neither true b e = cc
 neither false b e = (refl, e)
 
-no_place : (test : ℕ → Bool) (xs : List ℕ) → list_any test xs ≡ false → (k : ℕ) → k < length xs → test (slice_index xs k) ≡ false
+no_place : (test : ℕ → Bool) (xs : List ℕ) → list_any test xs ≡ false → (k : ℕ) → k < length xs →
+    test (slice_index xs k) ≡ false
 no_place test [] e k h = absurd (omega arith)
 no_place test (x ∷ xs) e zero h = (neither (test x) _ e).0
 no_place test (x ∷ xs) e (suc k) h = no_place test xs (neither (test x) _ e).1 k (omega arith)
@@ -52,12 +54,17 @@ not_past limit n e = grind (arith, nat_tests)
 
 -- ---- sizes
 
-within : (limit : ℕ) (s : List ℕ) → length s ≡ 3 → has_zero s ≡ false → passes limit s ≡ false → (axis : ℕ) → axis < 3 → (1 ≤ slice_index s axis) × (slice_index s axis ≤ limit)
+within : (limit : ℕ) (s : List ℕ) → length s ≡ 3 → has_zero s ≡ false → passes limit s ≡ false → (axis : ℕ) →
+    axis < 3 → (1 ≤ slice_index s axis) × (slice_index s axis ≤ limit)
 within limit s l some small axis h =
-    let inside : axis < length s = omega arith in
-    (some_size _ (no_place (λ n. n == 0) s some axis inside), not_past limit _ (no_place (λ n. nat_lt limit n) s small axis inside))
+    let inside : axis < length s = omega arith in (
+      some_size _ (no_place (λ n. n == 0) s some axis inside),
+      not_past limit _
+          (no_place (λ n. nat_lt limit n) s small axis inside),
+    )
 
-all_read : {A : Type 0} (a b c : Option A) → IfSome (option_and_then (λ x. option_and_then (λ y. option_map (λ z. x ∷ y ∷ z ∷ []) c) b) a) (λ s. length s ≡ 3)
+all_read : {A : Type 0} (a b c : Option A) → IfSome
+    (option_and_then (λ x. option_and_then (λ y. option_map (λ z. x ∷ y ∷ z ∷ []) c) b) a) (λ s. length s ≡ 3)
 all_read None b c = tt
 all_read (Some x) None c = tt
 all_read (Some x) (Some y) None = tt
@@ -70,23 +77,29 @@ three_long f (x ∷ y ∷ []) = tt
 three_long f (x ∷ y ∷ z ∷ []) = all_read (f x) (f y) (f z)
 three_long f (x ∷ y ∷ z ∷ w ∷ ds) = tt
 
-read_long : {A : Type 0} (f : Data → Option A) (ds : Option (List Data)) → IfSome (option_and_then (three f) ds) (λ s. length s ≡ 3)
+read_long : {A : Type 0} (f : Data → Option A) (ds : Option (List Data)) →
+    IfSome (option_and_then (three f) ds) (λ s. length s ≡ 3)
 read_long f None = tt
 read_long f (Some ds) = three_long f ds
 
-triple_long : {A : Type 0} (f : Data → Option A) (member : Option Data) → IfSome (option_and_then (triple f) member) (λ s. length s ≡ 3)
+triple_long : {A : Type 0} (f : Data → Option A) (member : Option Data) →
+    IfSome (option_and_then (triple f) member) (λ s. length s ≡ 3)
 triple_long f None = tt
 triple_long f (Some d) = read_long f (elements d)
 
-long_by : (sizes : Option (List ℕ)) → IfSome sizes (λ s. length s ≡ 3) → is_none sizes ≡ false → length (unwrap_or sizes []) ≡ 3
+long_by : (sizes : Option (List ℕ)) → IfSome sizes (λ s. length s ≡ 3) → is_none sizes ≡ false →
+    length (unwrap_or sizes []) ≡ 3
 long_by None long e = cc
 long_by (Some s) long e = long
 
 -- three sizes that were read are three
-sizes_long : (member : Option Data) → is_none (option_and_then (triple whole) member) ≡ false → length (sizes_in member) ≡ 3
+sizes_long : (member : Option Data) → is_none (option_and_then (triple whole) member) ≡ false →
+    length (sizes_in member) ≡ 3
 sizes_long member e = long_by (option_and_then (triple whole) member) (triple_long whole member) e
 
-pub sizes_fit : (item : Item) (limit : ℕ) (member : Option Data) → sizes_fault item limit member ≡ None → (axis : ℕ) → axis < 3 → (1 ≤ slice_index (sizes_in member) axis) × (slice_index (sizes_in member) axis ≤ limit)
+pub sizes_fit : (item : Item) (limit : ℕ) (member : Option Data) → sizes_fault item limit member ≡ None →
+    (axis : ℕ) → axis < 3 → (1 ≤ slice_index (sizes_in member) axis) ×
+    (slice_index (sizes_in member) axis ≤ limit)
 unfolding sizes_fault triple_fault
 sizes_fit item limit member none =
     let steps = all_clear (triple_fault item member ∷ _ ∷ []) none in
@@ -99,7 +112,8 @@ sizes_fit item limit member none =
 -- ---- the volume
 
 abbrev width_at : Bool → Bool → Bool → Bool → Option ℕ
-width_at a b c d = if a then Some 1 else (if b then Some 2 else (if c then Some 4 else (if d then Some 8 else None)))
+width_at a b c d = if a then Some 1 else (if b then Some 2
+    else (if c then Some 4 else (if d then Some 8 else None)))
 
 width_by : (a b c d : Bool) → is_none (width_at a b c d) ≡ false → IsWidth (unwrap_or (width_at a b c d) 0)
 width_by true b c d e = inl refl
@@ -120,9 +134,11 @@ width_fits member none =
     let steps = both (text_fault items.DataType member) _ none in
     let read = clear (is_unread_type (text_in member)) _ _ steps.1 in
     let known = clear (is_none (width_of (text_in member))) _ None read.1 in
-    ∣ width_by (is_like (codes "uint8") (text_in member)) (is_like (codes "uint16") (text_in member)) (is_like (codes "uint32") (text_in member)) (is_like (codes "uint64") (text_in member)) known.0 ∣₁
+    ∣ width_by (is_like (codes "uint8") (text_in member)) (is_like (codes "uint16") (text_in member))
+    (is_like (codes "uint32") (text_in member)) (is_like (codes "uint64") (text_in member)) known.0 ∣₁
 
-pub channels_fit : (segmentation : Bool) (member : Option Data) → channels_fault segmentation member ≡ None → (1 ≤ number_in member) × (number_in member ≤ 1024)
+pub channels_fit : (segmentation : Bool) (member : Option Data) → channels_fault segmentation member ≡ None →
+    (1 ≤ number_in member) × (number_in member ≤ 1024)
 unfolding channels_fault
 channels_fit segmentation member none =
     let steps = both (number_fault items.NumChannels member) _ none in
@@ -133,19 +149,22 @@ channels_fit segmentation member none =
 
 -- ---- the key
 
-key_by : (b : Bool) (key : List ℕ) (found : Option Data) → nat_le (length key) 200 ≡ b → key_fault (if b then found else None) ≡ None → length key ≤ 200
+key_by : (b : Bool) (key : List ℕ) (found : Option Data) → nat_le (length key) 200 ≡ b →
+    key_fault (if b then found else None) ≡ None → length key ≤ 200
 unfolding key_fault
 key_by true key found short e = grind (arith, nat_tests)
 key_by false key found short e = cc
 
 -- a scale was found only for a short key
-pub key_fits : (key : List ℕ) (scales : List Data) → key_fault (scale_of_key key scales) ≡ None → length key ≤ 200
+pub key_fits : (key : List ℕ) (scales : List Data) → key_fault (scale_of_key key scales) ≡ None →
+    length key ≤ 200
 unfolding scale_of_key
 key_fits key scales none = key_by (nat_le (length key) 200) key (find (has_key key) scales) refl none
 
 -- ---- the shape
 
-no_offset : (limit : ℕ) (offsets : List ℤ) → passes_either_way limit offsets ≡ false → (k : ℕ) → nat_abs (slice_index_or offsets k (pos 0)) ≤ limit
+no_offset : (limit : ℕ) (offsets : List ℤ) → passes_either_way limit offsets ≡ false → (k : ℕ) →
+    nat_abs (slice_index_or offsets k (pos 0)) ≤ limit
 no_offset limit [] e k = omega (arith, ints)
 no_offset limit (x ∷ xs) e zero = not_past limit _ (neither (nat_lt limit (nat_abs x)) _ e).0
 no_offset limit (x ∷ xs) e (suc k) = no_offset limit xs (neither (nat_lt limit (nat_abs x)) _ e).1 k
@@ -168,12 +187,15 @@ is_there : (b : Option (List ℕ)) → is_some b ≡ true → is_none b ≡ fals
 is_there None e = cc
 is_there (Some s) e = refl
 
-chunk_by : (ds : List Data) → not (list_all (λ d. is_some (triple whole d)) ds) ≡ false → (length ds == 0) ≡ false → list_any (λ d. has_zero (sizes_in (Some d))) ds ≡ false
+chunk_by : (ds : List Data) → not (list_all (λ d. is_some (triple whole d)) ds) ≡ false →
+    (length ds == 0) ≡ false → list_any (λ d. has_zero (sizes_in (Some d))) ds ≡ false
     → list_any (λ d. passes (2 ^ 40) (sizes_in (Some d))) ds ≡ false → AreSizes (sizes_in (slice_get ds 0))
 chunk_by [] kinds some full small = cc
 chunk_by (d ∷ ds) kinds some full small =
-    within (2 ^ 40) (sizes_in (Some d)) (sizes_long (Some d) (is_there (triple whole d) (both_true (is_some (triple whole d)) _ kinds)))
-    (neither (has_zero (sizes_in (Some d))) _ full).0 (neither (passes (2 ^ 40) (sizes_in (Some d))) _ small).0
+    within (2 ^ 40) (sizes_in (Some d)) (sizes_long (Some d)
+    (is_there (triple whole d) (both_true (is_some (triple whole d)) _ kinds)))
+    (neither (has_zero (sizes_in (Some d))) _ full).0
+    (neither (passes (2 ^ 40) (sizes_in (Some d))) _ small).0
 
 pub chunk_fits : (member : Option Data) → chunks_fault member ≡ None → AreSizes (chunk_in member)
 unfolding chunks_fault
@@ -187,15 +209,18 @@ chunk_fits member none =
 
 -- ---- the encoding
 
-wide_by : (seg : Bool) (width : ℕ) → seg && not (width == 4 || width == 8) ≡ false → seg ≡ true → (width ≡ 4) ⊎ (width ≡ 8)
+wide_by : (seg : Bool) (width : ℕ) → seg && not (width == 4 || width == 8) ≡ false → seg ≡ true →
+    (width ≡ 4) ⊎ (width ≡ 8)
 wide_by true width e s = grind (arith, nat_tests)
 wide_by false width e s = cc
 
-seg_by : (seg : Bool) (size block : List ℕ) → (if seg then Seg size else Raw) ≡ Seg block → (seg ≡ true) × (size ≡ block)
+seg_by : (seg : Bool) (size block : List ℕ) → (if seg then Seg size else Raw) ≡ Seg block → (seg ≡ true) ×
+    (size ≡ block)
 seg_by true size block e = (refl, cc)
 seg_by false size block e = cc
 
-pub wide_fits : (width : ℕ) (scale : Data) → coding_fault width scale ≡ None → (block : List ℕ) → IsSeg (encoding_in scale) block → ∥ (width ≡ 4) ⊎ (width ≡ 8) ∥₁
+pub wide_fits : (width : ℕ) (scale : Data) → coding_fault width scale ≡ None → (block : List ℕ) →
+    IsSeg (encoding_in scale) block → ∥ (width ≡ 4) ⊎ (width ≡ 8) ∥₁
 unfolding coding_fault encoding_fault
 wide_fits width scale none block seg =
     let member = get (codes "encoding") scale in
@@ -209,17 +234,20 @@ where_true : (b : Bool) (fault : Option InfoFault) → only_if b fault ≡ None 
 where_true true fault e t = e
 where_true false fault e t = cc
 
-pub blocks_fit : (width : ℕ) (scale : Data) → coding_fault width scale ≡ None → (block : List ℕ) → IsSeg (encoding_in scale) block → AreBlocks block
+pub blocks_fit : (width : ℕ) (scale : Data) → coding_fault width scale ≡ None → (block : List ℕ) →
+    IsSeg (encoding_in scale) block → AreBlocks block
 unfolding coding_fault block_fault
 blocks_fit width scale none block seg =
     let steps = both (encoding_fault width (get (codes "encoding") scale)) _ none in
     let same = seg_by (is_seg (get (codes "encoding") scale)) _ block seg in
     let clean = where_true (is_seg (get (codes "encoding") scale)) _ steps.1 same.0 in
-    subst AreBlocks same.1 (sizes_fit items.BlockSize (2 ^ 24) (get (codes "compressed_segmentation_block_size") scale) clean)
+    subst AreBlocks same.1 (sizes_fit items.BlockSize (2 ^ 24)
+    (get (codes "compressed_segmentation_block_size") scale) clean)
 
 -- ---- the sharding
 
-pub preshift_fits : (sharding : Option Data) → parts_fault sharding ≡ None → number_in (part (codes "preshift_bits") sharding) ≤ 64
+pub preshift_fits : (sharding : Option Data) → parts_fault sharding ≡ None →
+    number_in (part (codes "preshift_bits") sharding) ≤ 64
 unfolding parts_fault preshift_fault
 preshift_fits sharding none =
     let member = part (codes "preshift_bits") sharding in
@@ -227,7 +255,8 @@ preshift_fits sharding none =
     let bits = both (number_fault items.PreshiftBits member) _ step in
     not_past 64 _ (clear (nat_lt 64 (number_in member)) _ None bits.1).0
 
-pub minishard_fits : (sharding : Option Data) → parts_fault sharding ≡ None → number_in (part (codes "minishard_bits") sharding) ≤ 24
+pub minishard_fits : (sharding : Option Data) → parts_fault sharding ≡ None →
+    number_in (part (codes "minishard_bits") sharding) ≤ 24
 unfolding parts_fault minishard_fault
 minishard_fits sharding none =
     let member = part (codes "minishard_bits") sharding in
@@ -235,7 +264,8 @@ minishard_fits sharding none =
     let bits = both (number_fault items.MinishardBits member) _ step in
     not_past 24 _ (clear (nat_lt 24 (number_in member)) _ None bits.1).0
 
-pub shard_fits : (sharding : Option Data) → parts_fault sharding ≡ None → number_in (part (codes "minishard_bits") sharding) + number_in (part (codes "shard_bits") sharding) ≤ 64
+pub shard_fits : (sharding : Option Data) → parts_fault sharding ≡ None →
+    number_in (part (codes "minishard_bits") sharding) + number_in (part (codes "shard_bits") sharding) ≤ 64
 unfolding parts_fault shard_fault
 shard_fits sharding none =
     let member = part (codes "shard_bits") sharding in
@@ -246,42 +276,61 @@ shard_fits sharding none =
 
 -- ---- the limits
 
-pub bytes_fit : (volume : Volume) (shape : Shape) (encoding : Encoding) (sharded : Bool) → limit_fault volume shape encoding sharded ≡ None → first_bytes volume.width volume.channels shape.size shape.chunk ≤ 2 ^ 27
+pub bytes_fit : (volume : Volume) (shape : Shape) (encoding : Encoding) (sharded : Bool) →
+    limit_fault volume shape encoding sharded ≡ None →
+    first_bytes volume.width volume.channels shape.size shape.chunk ≤ 2 ^ 27
 unfolding limit_fault bytes_fault
 bytes_fit volume shape encoding sharded none =
-    let step : bytes_fault volume.width volume.channels shape.size shape.chunk ≡ None = (all_clear (limit_steps volume shape encoding sharded) none).0 in
-    not_past (2 ^ 27) _ (clear (nat_lt (2 ^ 27) (first_bytes volume.width volume.channels shape.size shape.chunk)) _ None step).0
+    let step : bytes_fault volume.width volume.channels shape.size shape.chunk ≡ None =
+    (all_clear (limit_steps volume shape encoding sharded) none).0 in
+    not_past (2 ^ 27) _
+    (clear
+    (nat_lt (2 ^ 27) (first_bytes volume.width volume.channels shape.size shape.chunk)) _ None step).0
 
-pub codes_fit : (volume : Volume) (shape : Shape) (encoding : Encoding) (sharded : Bool) → limit_fault volume shape encoding sharded ≡ None → sharded ≡ true → length (pairs (cell_counts shape.size shape.chunk)) ≤ 64
+pub codes_fit : (volume : Volume) (shape : Shape) (encoding : Encoding) (sharded : Bool) →
+    limit_fault volume shape encoding sharded ≡ None → sharded ≡ true →
+    length (pairs (cell_counts shape.size shape.chunk)) ≤ 64
 unfolding limit_fault codes_fault
 codes_fit volume shape encoding sharded none is =
-    let step : only_if sharded (codes_fault shape.size shape.chunk) ≡ None = (all_clear (limit_steps volume shape encoding sharded) none).1.0 in
-    not_past 64 _ (clear (nat_lt 64 (length (pairs (cell_counts shape.size shape.chunk)))) _ None (where_true sharded _ step is)).0
+    let step : only_if sharded (codes_fault shape.size shape.chunk) ≡ None =
+    (all_clear (limit_steps volume shape encoding sharded) none).1.0 in
+    not_past 64 _ (clear (nat_lt 64 (length (pairs (cell_counts shape.size shape.chunk)))) _ None
+    (where_true sharded _ step is)).0
 
-pub padded_fits : (volume : Volume) (shape : Shape) (encoding : Encoding) (sharded : Bool) → limit_fault volume shape encoding sharded ≡ None → padded_of encoding volume.channels shape.size shape.chunk ≤ 2 ^ 24
+pub padded_fits : (volume : Volume) (shape : Shape) (encoding : Encoding) (sharded : Bool) →
+    limit_fault volume shape encoding sharded ≡ None →
+    padded_of encoding volume.channels shape.size shape.chunk ≤ 2 ^ 24
 unfolding limit_fault padded_fault
 padded_fits volume shape encoding sharded none =
-    let step : padded_fault encoding volume.channels shape.size shape.chunk ≡ None = (all_clear (limit_steps volume shape encoding sharded) none).1.1.0 in
-    not_past (2 ^ 24) _ (clear (nat_lt (2 ^ 24) (padded_of encoding volume.channels shape.size shape.chunk)) _ None step).0
+    let step : padded_fault encoding volume.channels shape.size shape.chunk ≡ None =
+    (all_clear (limit_steps volume shape encoding sharded) none).1.1.0 in
+    not_past (2 ^ 24) _
+    (clear (nat_lt (2 ^ 24) (padded_of encoding volume.channels shape.size shape.chunk)) _ None step).0
 
 -- ---- the same for a whole volume or scale
 
 pub volume_width : (volume : Data) → volume_fault volume ≡ None → ∥ IsWidth (volume_in volume).width ∥₁
 unfolding volume_fault
-volume_width volume none = width_fits (get (codes "data_type") volume) (all_clear (volume_steps volume) none).1.1.1.0
+volume_width volume none = width_fits (get (codes "data_type") volume)
+    (all_clear (volume_steps volume) none).1.1.1.0
 
-pub volume_channels : (volume : Data) → volume_fault volume ≡ None → (1 ≤ (volume_in volume).channels) × ((volume_in volume).channels ≤ 1024)
+pub volume_channels : (volume : Data) → volume_fault volume ≡ None → (1 ≤ (volume_in volume).channels) ×
+    ((volume_in volume).channels ≤ 1024)
 unfolding volume_fault
-volume_channels volume none = channels_fit _ (get (codes "num_channels") volume) (all_clear (volume_steps volume) none).1.1.1.1.0
+volume_channels volume none = channels_fit _ (get (codes "num_channels") volume)
+    (all_clear (volume_steps volume) none).1.1.1.1.0
 
 pub shape_size : (scale : Data) → shape_fault scale ≡ None → AreSizes (shape_in scale).size
 unfolding shape_fault
-shape_size scale none = sizes_fit items.Size (2 ^ 40) (get (codes "size") scale) (all_clear (shape_steps scale) none).0
+shape_size scale none = sizes_fit items.Size (2 ^ 40) (get (codes "size") scale)
+    (all_clear (shape_steps scale) none).0
 
 pub shape_offset : (scale : Data) → shape_fault scale ≡ None → AreOffsets (shape_in scale).offset
 unfolding shape_fault
-shape_offset scale none = offsets_fit (get (codes "voxel_offset") scale) (all_clear (shape_steps scale) none).1.0
+shape_offset scale none = offsets_fit (get (codes "voxel_offset") scale)
+    (all_clear (shape_steps scale) none).1.0
 
 pub shape_chunk : (scale : Data) → shape_fault scale ≡ None → AreSizes (shape_in scale).chunk
 unfolding shape_fault
-shape_chunk scale none = chunk_fits (get (codes "chunk_sizes") scale) (all_clear (shape_steps scale) none).1.1.0
+shape_chunk scale none = chunk_fits (get (codes "chunk_sizes") scale)
+    (all_clear (shape_steps scale) none).1.1.0

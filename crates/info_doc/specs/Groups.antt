@@ -1,4 +1,4 @@
--- The steps in their order, and what they read where none has a fault.
+-- The steps in their order (this project's profile), and what they read where none has a fault.
 use Rattle.std.specs.Prelude.{ℕ, ◌^◌, Bool, codes, List, [], ◌∷◌, Option, option_and_then, if◌then◌else◌}
 use Rattle.serde_json.specs.Data.{Data}
 use Rattle.serde_json.specs.Find.{get}
@@ -25,7 +25,11 @@ unfoldable pub volume_fault : Data → Option InfoFault
 volume_fault volume = first (volume_steps volume)
 
 abbrev pub volume_in : Data → Volume
-volume_in volume = record { width = width_in (get (codes "data_type") volume); channels = number_in (get (codes "num_channels") volume) }
+volume_in volume = record {
+  width = width_in (get (codes "data_type") volume);
+  channels =
+      number_in (get (codes "num_channels") volume);
+}
 
 -- ---- the members of a scale: its shape,
 
@@ -40,20 +44,27 @@ unfoldable pub shape_fault : Data → Option InfoFault
 shape_fault scale = first (shape_steps scale)
 
 abbrev pub shape_in : Data → Shape
-shape_in scale = record { size = sizes_in (get (codes "size") scale); offset = offsets_in (get (codes "voxel_offset") scale); chunk = chunk_in (get (codes "chunk_sizes") scale) }
+shape_in scale = record {
+  size = sizes_in (get (codes "size") scale);
+  offset =
+      offsets_in (get (codes "voxel_offset") scale);
+  chunk = chunk_in (get (codes "chunk_sizes") scale);
+}
 
 -- its encoding,
 
 abbrev pub coding_steps : ℕ → Data → List (Option InfoFault)
 coding_steps width scale =
     encoding_fault width (get (codes "encoding") scale) ∷
-    only_if (is_seg (get (codes "encoding") scale)) (block_fault (get (codes "compressed_segmentation_block_size") scale)) ∷ []
+    only_if (is_seg (get (codes "encoding") scale))
+    (block_fault (get (codes "compressed_segmentation_block_size") scale)) ∷ []
 
 unfoldable pub coding_fault : ℕ → Data → Option InfoFault
 coding_fault width scale = first (coding_steps width scale)
 
 abbrev pub encoding_in : Data → Encoding
-encoding_in scale = if is_seg (get (codes "encoding") scale) then Seg (sizes_in (get (codes "compressed_segmentation_block_size") scale)) else Raw
+encoding_in scale = if is_seg (get (codes "encoding") scale)
+    then Seg (sizes_in (get (codes "compressed_segmentation_block_size") scale)) else Raw
 
 -- its sharding,
 

@@ -1,4 +1,5 @@
--- The scale of an info document, or its first fault.
+-- The scale of an info document, or its first fault (precomputed volume format, info metadata). Which fault
+-- is the first is this project's profile.
 use Rattle.std.specs.Prelude.{◌≡◌, ℕ, ◌^◌, nat_lt, codes, Bool, true, false, List, [], ◌∷◌, length, Option, Some, None, unwrap_or, Result, Err, if◌then◌else◌, refl}
 use Rattle.serde_json.specs.Data.{Data, null}
 use Rattle.serde_json.specs.Find.{get}
@@ -26,15 +27,19 @@ parts_in sharding none = record {
 }
 
 -- a value where a condition holds, whose step has no fault there
-abbrev pub optional : {A : Type 0} (condition : Bool) (fault : Option InfoFault) → (fault ≡ None → A) → only_if condition fault ≡ None → Option A
+abbrev pub optional : {A : Type 0} (condition : Bool) (fault : Option InfoFault) → (fault ≡ None → A) →
+    only_if condition fault ≡ None → Option A
 optional true fault value none = Some (value none)
 optional false fault value none = None
 
-pub where_some : {A : Type 0} (condition : Bool) (fault : Option InfoFault) (value : fault ≡ None → A) (none : only_if condition fault ≡ None) (a : A) → optional condition fault value none ≡ Some a → condition ≡ true
+pub where_some : {A : Type 0} (condition : Bool) (fault : Option InfoFault) (value : fault ≡ None →
+    A) (none : only_if condition fault ≡ None) (a : A) → optional condition fault value none ≡ Some a →
+    condition ≡ true
 where_some true fault value none a is = refl
 where_some false fault value none a is = cc
 
-abbrev pub sharding_in : (sharding : Option Data) → only_if (is_sharded sharding) (parts_fault sharding) ≡ None → Option Sharding
+abbrev pub sharding_in : (sharding : Option Data) →
+    only_if (is_sharded sharding) (parts_fault sharding) ≡ None → Option Sharding
 sharding_in sharding none = optional (is_sharded sharding) (parts_fault sharding) (parts_in sharding) none
 
 -- the first fault of a sharding, or the sharding where there is one
@@ -42,7 +47,8 @@ unfoldable pub judged_parts : Option Data → Result Sharding InfoFault
 judged_parts sharding = unless (parts_fault sharding) (parts_in sharding)
 
 unfoldable pub judged_sharding : Option Data → Result (Option Sharding) InfoFault
-judged_sharding sharding = unless (only_if (is_sharded sharding) (parts_fault sharding)) (sharding_in sharding)
+judged_sharding sharding = unless (only_if (is_sharded sharding) (parts_fault sharding))
+    (sharding_in sharding)
 
 -- the first scale that has the key
 abbrev pub found_in : List ℕ → Data → Option Data
@@ -91,8 +97,10 @@ table key volume =
     only_if sharded (preshift_fault (part (codes "preshift_bits") sharding)) ∷
     only_if sharded (hash_fault (part (codes "hash") sharding)) ∷
     only_if sharded (minishard_fault (part (codes "minishard_bits") sharding)) ∷
-    only_if sharded (shard_fault (number_in (part (codes "minishard_bits") sharding)) (part (codes "shard_bits") sharding)) ∷
-    only_if sharded (inner_encoding_fault items.MinishardIndexEncoding (part (codes "minishard_index_encoding") sharding)) ∷
+    only_if sharded (shard_fault (number_in (part (codes "minishard_bits") sharding))
+    (part (codes "shard_bits") sharding)) ∷
+    only_if sharded (inner_encoding_fault items.MinishardIndexEncoding
+    (part (codes "minishard_index_encoding") sharding)) ∷
     only_if sharded (inner_encoding_fault items.DataEncoding (part (codes "data_encoding") sharding)) ∷
     bytes_fault values.width values.channels shape.size shape.chunk ∷
     only_if sharded (codes_fault shape.size shape.chunk) ∷
@@ -109,7 +117,8 @@ scale_from key volume none =
     let shaped : shape_fault scale ≡ None = clear.1.1.1.0 in
     let coded : coding_fault (volume_in volume).width scale ≡ None = clear.1.1.1.1.0 in
     let sharded : only_if (is_sharded sharding) (parts_fault sharding) ≡ None = clear.1.1.1.1.1.0 in
-    let small : limit_fault (volume_in volume) (shape_in scale) (encoding_in scale) (is_sharded sharding) ≡ None = clear.1.1.1.1.1.1.0 in
+    let small : limit_fault (volume_in volume) (shape_in scale) (encoding_in scale) (is_sharded sharding)
+    ≡ None = clear.1.1.1.1.1.1.0 in
     record {
       key = key;
       width = (volume_in volume).width;
@@ -126,11 +135,15 @@ scale_from key volume none =
       size_ok = fits.shape_size scale shaped;
       offset_ok = fits.shape_offset scale shaped;
       chunk_ok = fits.shape_chunk scale shaped;
-      first_ok = fits.bytes_fit (volume_in volume) (shape_in scale) (encoding_in scale) (is_sharded sharding) small;
+      first_ok = fits.bytes_fit (volume_in volume) (shape_in scale) (encoding_in scale)
+          (is_sharded sharding) small;
       wide_ok = fits.wide_fits (volume_in volume).width scale coded;
       block_ok = fits.blocks_fit (volume_in volume).width scale coded;
-      padded_ok = fits.padded_fits (volume_in volume) (shape_in scale) (encoding_in scale) (is_sharded sharding) small;
-      codes_ok = λ parts is. fits.codes_fit (volume_in volume) (shape_in scale) (encoding_in scale) (is_sharded sharding) small (where_some (is_sharded sharding) _ (parts_in sharding) sharded parts is);
+      padded_ok = fits.padded_fits (volume_in volume) (shape_in scale) (encoding_in scale)
+          (is_sharded sharding) small;
+      codes_ok = λ parts is. fits.codes_fit (volume_in volume) (shape_in scale) (encoding_in scale)
+          (is_sharded sharding) small (where_some (is_sharded sharding) _
+          (parts_in sharding) sharded parts is);
     }
 
 -- the first fault of the steps, or the scale

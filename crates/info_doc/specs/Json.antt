@@ -1,4 +1,5 @@
--- Values of a JSON text as `serde_json` reads it, and members that may be absent.
+-- Values of a JSON text (RFC 8259) as the statements of `serde_json` read it, and members that may be absent
+-- (this project's words).
 use Rattle.std.specs.Prelude.{ℕ, ℤ, Bool, is_some, List, [], ◌∷◌, Option, None, option_and_then, option_map, if◌then◌else◌}
 use Rattle.std.specs.Str.{is_utf8}
 use Rattle.serde_json.specs.Data.{Data, Items, no_items, item}
@@ -23,7 +24,8 @@ whole d = option_and_then as_u64 (as_number d)
 
 -- three elements, each of which f reads
 abbrev pub three : {A : Type 0} → (Data → Option A) → List Data → Option (List A)
-three f (x ∷ y ∷ z ∷ []) = option_and_then (λ a. option_and_then (λ b. option_map (λ c. a ∷ b ∷ c ∷ []) (f z)) (f y)) (f x)
+three f (x ∷ y ∷ z ∷ []) = option_and_then (λ a. option_and_then (λ b.
+    option_map (λ c. a ∷ b ∷ c ∷ []) (f z)) (f y)) (f x)
 three f _ = None
 
 abbrev pub triple : {A : Type 0} → (Data → Option A) → Data → Option (List A)

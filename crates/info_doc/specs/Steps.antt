@@ -23,28 +23,32 @@ use Rattle.info_doc.specs.Json.{whole, signed, text, elements, triple, is_null}
 
 -- a text
 unfoldable pub text_fault : Item → Option Data → Option InfoFault
-text_fault item member = fault_by ((is_none member, Member item Missing) ∷ (is_none (text member), Member item WrongKind) ∷ [])
+text_fault item member = fault_by ((is_none member, Member item Missing)
+    ∷ (is_none (text member), Member item WrongKind) ∷ [])
 
 abbrev pub text_in : Option Data → List ℕ
 text_in member = unwrap_or (text member) []
 
 -- a whole number
 unfoldable pub number_fault : Item → Option Data → Option InfoFault
-number_fault item member = fault_by ((is_none member, Member item Missing) ∷ (is_none (option_and_then whole member), Member item WrongKind) ∷ [])
+number_fault item member = fault_by ((is_none member, Member item Missing)
+    ∷ (is_none (option_and_then whole member), Member item WrongKind) ∷ [])
 
 abbrev pub number_in : Option Data → ℕ
 number_in member = unwrap_or (option_and_then whole member) 0
 
 -- an array
 unfoldable pub list_fault : Item → Option Data → Option InfoFault
-list_fault item member = fault_by ((is_none member, Member item Missing) ∷ (is_none (option_and_then elements member), Member item WrongKind) ∷ [])
+list_fault item member = fault_by ((is_none member, Member item Missing)
+    ∷ (is_none (option_and_then elements member), Member item WrongKind) ∷ [])
 
 abbrev pub list_in : Option Data → List Data
 list_in member = unwrap_or (option_and_then elements member) []
 
 -- three whole numbers
 unfoldable pub triple_fault : Item → Option Data → Option InfoFault
-triple_fault item member = fault_by ((is_none member, Member item Missing) ∷ (is_none (option_and_then (triple whole) member), Member item WrongKind) ∷ [])
+triple_fault item member = fault_by ((is_none member, Member item Missing)
+    ∷ (is_none (option_and_then (triple whole) member), Member item WrongKind) ∷ [])
 
 abbrev pub sizes_in : Option Data → List ℕ
 sizes_in member = unwrap_or (option_and_then (triple whole) member) []
@@ -60,7 +64,8 @@ has_zero numbers = list_any (λ n. n == 0) numbers
 unfoldable pub sizes_fault : Item → ℕ → Option Data → Option InfoFault
 sizes_fault item limit member = first (
     triple_fault item member ∷
-    fault_by ((has_zero (sizes_in member), Member item BadValue) ∷ (passes limit (sizes_in member), Limit item) ∷ []) ∷ [])
+    fault_by ((has_zero (sizes_in member), Member item BadValue)
+    ∷ (passes limit (sizes_in member), Limit item) ∷ []) ∷ [])
 
 -- ---- the volume
 
@@ -70,8 +75,11 @@ root_fault volume = fault_by ((is_none (as_object volume), Member items.Root Wro
 -- `@type`, which may be absent
 unfoldable pub at_type_fault : Option Data → Option InfoFault
 at_type_fault member = fault_by (
-    (is_some member && is_none (text member), Member items.AtType WrongKind) ∷
-    (is_some member && not (bytes_eq (text_in member) (codes "neuroglancer_multiscale_volume")), Member items.AtType BadValue) ∷ [])
+    (is_some member && is_none (text member), Member items.AtType WrongKind) ∷ (
+      is_some member && not (bytes_eq (text_in member)
+          (codes "neuroglancer_multiscale_volume")),
+      Member items.AtType BadValue,
+    ) ∷ [])
 
 abbrev pub is_segmentation : Option Data → Bool
 is_segmentation member = bytes_eq (text_in member) (codes "segmentation")
@@ -80,7 +88,13 @@ is_segmentation member = bytes_eq (text_in member) (codes "segmentation")
 unfoldable pub type_fault : Option Data → Option InfoFault
 type_fault member = first (
     text_fault items.VolumeType member ∷
-    fault_by ((not (bytes_eq (text_in member) (codes "image") || is_segmentation member), Member items.VolumeType BadValue) ∷ []) ∷ [])
+    fault_by
+    ((
+      not
+          (bytes_eq (text_in member)
+          (codes "image") || is_segmentation member),
+      Member items.VolumeType BadValue,
+    ) ∷ []) ∷ [])
 
 -- the same text but for the case of ASCII letters
 abbrev pub is_like : List ℕ → List ℕ → Bool
@@ -88,7 +102,8 @@ is_like wanted found = str_eq_ignore_ascii_case found wanted
 
 -- types of the format that aren't read
 abbrev pub is_unread_type : List ℕ → Bool
-is_unread_type name = is_like (codes "float32") name || is_like (codes "int8") name || is_like (codes "int16") name || is_like (codes "int32") name || is_like (codes "int64") name
+is_unread_type name = is_like (codes "float32") name || is_like (codes "int8") name || is_like
+    (codes "int16") name || is_like (codes "int32") name || is_like (codes "int64") name
 
 -- the bytes of a value of a type
 unfoldable pub width_of : List ℕ → Option ℕ
@@ -104,7 +119,8 @@ width_in member = unwrap_or (width_of (text_in member)) 0
 unfoldable pub data_type_fault : Option Data → Option InfoFault
 data_type_fault member = first (
     text_fault items.DataType member ∷
-    fault_by ((is_unread_type (text_in member), Unsupported items.DataType) ∷ (is_none (width_of (text_in member)), Member items.DataType BadValue) ∷ []) ∷ [])
+    fault_by ((is_unread_type (text_in member), Unsupported items.DataType)
+    ∷ (is_none (width_of (text_in member)), Member items.DataType BadValue) ∷ []) ∷ [])
 
 -- `num_channels`: 1 to 1,024, and 1 in a segmentation
 unfoldable pub channels_fault : Bool → Option Data → Option InfoFault
@@ -119,7 +135,8 @@ channels_fault segmentation member = first (
 
 -- an object whose key is this text
 abbrev pub has_key : List ℕ → Data → Bool
-has_key key scale = is_some (text (get (codes "key") scale)) && bytes_eq (text_in (get (codes "key") scale)) key
+has_key key scale = is_some (text (get (codes "key") scale)) && bytes_eq
+    (text_in (get (codes "key") scale)) key
 
 -- the first scale with the key; a key of more than 200 bytes names none
 unfoldable pub scale_of_key : List ℕ → List Data → Option Data
@@ -192,17 +209,25 @@ abbrev pub is_sharded : Option Data → Bool
 is_sharded member = is_some member && not (is_null member)
 
 unfoldable pub object_fault : Option Data → Option InfoFault
-object_fault member = fault_by ((is_none (option_and_then as_object member), Member items.Sharding WrongKind) ∷ [])
+object_fault member = fault_by ((is_none (option_and_then as_object member), Member items.Sharding WrongKind)
+    ∷ [])
 
 -- `@type`
 unfoldable pub sharding_type_fault : Option Data → Option InfoFault
 sharding_type_fault member = first (
     text_fault items.ShardingType member ∷
-    fault_by ((not (bytes_eq (text_in member) (codes "neuroglancer_uint64_sharded_v1")), Member items.ShardingType BadValue) ∷ []) ∷ [])
+    fault_by
+    ((
+      not
+          (bytes_eq (text_in member)
+          (codes "neuroglancer_uint64_sharded_v1")),
+      Member items.ShardingType BadValue,
+    ) ∷ []) ∷ [])
 
 -- `preshift_bits`, to 64
 unfoldable pub preshift_fault : Option Data → Option InfoFault
-preshift_fault member = first (number_fault items.PreshiftBits member ∷ fault_by ((nat_lt 64 (number_in member), Member items.PreshiftBits BadValue) ∷ []) ∷ [])
+preshift_fault member = first (number_fault items.PreshiftBits member
+    ∷ fault_by ((nat_lt 64 (number_in member), Member items.PreshiftBits BadValue) ∷ []) ∷ [])
 
 abbrev pub is_identity : Option Data → Bool
 is_identity member = bytes_eq (text_in member) (codes "identity")
@@ -214,15 +239,21 @@ hash_in member = if is_identity member then Identity else Murmur
 unfoldable pub hash_fault : Option Data → Option InfoFault
 hash_fault member = first (
     text_fault items.Hash member ∷
-    fault_by ((not (is_identity member || bytes_eq (text_in member) (codes "murmurhash3_x86_128")), Member items.Hash BadValue) ∷ []) ∷ [])
+    fault_by ((
+      not (is_identity member || bytes_eq (text_in member)
+          (codes "murmurhash3_x86_128")),
+      Member items.Hash BadValue,
+    ) ∷ []) ∷ [])
 
 -- `minishard_bits`, to 24
 unfoldable pub minishard_fault : Option Data → Option InfoFault
-minishard_fault member = first (number_fault items.MinishardBits member ∷ fault_by ((nat_lt 24 (number_in member), Limit items.MinishardBits) ∷ []) ∷ [])
+minishard_fault member = first (number_fault items.MinishardBits member
+    ∷ fault_by ((nat_lt 24 (number_in member), Limit items.MinishardBits) ∷ []) ∷ [])
 
 -- `shard_bits`, to 64 with the minishard bits
 unfoldable pub shard_fault : ℕ → Option Data → Option InfoFault
-shard_fault minishard member = first (number_fault items.ShardBits member ∷ fault_by ((nat_lt 64 (minishard + number_in member), Member items.ShardBits BadValue) ∷ []) ∷ [])
+shard_fault minishard member = first (number_fault items.ShardBits member
+    ∷ fault_by ((nat_lt 64 (minishard + number_in member), Member items.ShardBits BadValue) ∷ []) ∷ [])
 
 -- `minishard_index_encoding` and `data_encoding`, which may be absent: only `raw` is read
 unfoldable pub inner_encoding_fault : Item → Option Data → Option InfoFault
@@ -235,12 +266,21 @@ inner_encoding_fault item member = fault_by (
 
 -- at most 2^27 bytes in the first cell
 unfoldable pub bytes_fault : ℕ → ℕ → List ℕ → List ℕ → Option InfoFault
-bytes_fault width channels size chunk = fault_by ((nat_lt (2 ^ 27) (first_bytes width channels size chunk), Limit items.ChunkBytes) ∷ [])
+bytes_fault width channels size chunk = fault_by ((
+  nat_lt (2 ^ 27)
+      (first_bytes width channels size chunk),
+  Limit items.ChunkBytes,
+) ∷ [])
 
 -- at most 64 bits in the Morton code of a cell
 unfoldable pub codes_fault : List ℕ → List ℕ → Option InfoFault
-codes_fault size chunk = fault_by ((nat_lt 64 (length (pairs (cell_counts size chunk))), Limit items.MortonBits) ∷ [])
+codes_fault size chunk = fault_by ((
+  nat_lt 64 (length
+      (pairs (cell_counts size chunk))),
+  Limit items.MortonBits,
+) ∷ [])
 
 -- at most 2^24 padded voxels times channels in a segmentation
 unfoldable pub padded_fault : Encoding → ℕ → List ℕ → List ℕ → Option InfoFault
-padded_fault encoding channels size chunk = fault_by ((nat_lt (2 ^ 24) (padded_of encoding channels size chunk), Limit items.Padded) ∷ [])
+padded_fault encoding channels size chunk = fault_by
+    ((nat_lt (2 ^ 24) (padded_of encoding channels size chunk), Limit items.Padded) ∷ [])

@@ -1,4 +1,4 @@
--- The texts of faults.
+-- The texts of faults (this project's).
 use Rattle.std.specs.Prelude.{ℕ, codes, List, ◌∷◌, ◌++◌}
 use Rattle.info_doc.specs.declared.fault.Item.{Item}
 use Rattle.info_doc.specs.declared.fault.Item.TheVariants.{Root, AtType, VolumeType, DataType, NumChannels, Scales, Size, VoxelOffset, ChunkSizes, Resolution, Encoding, BlockSize, Sharding, ShardingType, PreshiftBits, Hash, MinishardBits, ShardBits, MinishardIndexEncoding, DataEncoding, ChunkBytes, MortonBits, Padded}

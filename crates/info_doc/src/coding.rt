@@ -15,7 +15,8 @@ use vol_spec::Encoding;
 // Whether the encoding is `compressed_segmentation`; else it is `raw`.
 #[tactic(auto, unfolding(crate::specs::Steps::encoding_fault))]
 fn read_is_seg(scale: &Value, width: u32) -> Result<bool, InfoFault>
-    ensures { let m = get (codes "encoding") (view scale.now) in result ≡ judged (encoding_fault width m) (is_seg m) }
+    ensures { let m = get (codes "encoding") (view scale.now) in
+        result ≡ judged (encoding_fault width m) (is_seg m) }
 {
     let name = read_text(scale.get("encoding"), Item::Encoding)?;
     let is_seg = is_like("compressed_segmentation", name);

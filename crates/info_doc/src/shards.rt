@@ -34,7 +34,8 @@ fn check_type(sharding: &Value) -> Result<(), InfoFault>
 
 #[tactic(auto, unfolding(crate::specs::Steps::preshift_fault))]
 fn read_preshift(sharding: &Value) -> Result<u32, InfoFault>
-    ensures bits { let m = get (codes "preshift_bits") (view sharding.now) in result ≡ judged (preshift_fault m) (number_in m) }
+    ensures bits { let m = get (codes "preshift_bits") (view sharding.now) in
+        result ≡ judged (preshift_fault m) (number_in m) }
     ensures fits { IfOk result (λ bits. bits ≤ 64) }
 {
     let bits = read_number(sharding.get("preshift_bits"), Item::PreshiftBits)?;
@@ -57,7 +58,8 @@ fn read_hash(sharding: &Value) -> Result<HashKind, InfoFault>
 
 #[tactic(auto, unfolding(crate::specs::Steps::minishard_fault))]
 fn read_minishard_bits(sharding: &Value) -> Result<u32, InfoFault>
-    ensures bits { let m = get (codes "minishard_bits") (view sharding.now) in result ≡ judged (minishard_fault m) (number_in m) }
+    ensures bits { let m = get (codes "minishard_bits") (view sharding.now) in
+        result ≡ judged (minishard_fault m) (number_in m) }
     ensures fits { IfOk result (λ bits. bits ≤ 24) }
 {
     let bits = read_number(sharding.get("minishard_bits"), Item::MinishardBits)?;
@@ -72,7 +74,8 @@ fn read_minishard_bits(sharding: &Value) -> Result<u32, InfoFault>
 #[tactic(auto, unfolding(crate::specs::Steps::shard_fault))]
 fn read_shard_bits(sharding: &Value, minishard_bits: u32) -> Result<u32, InfoFault>
     requires { minishard_bits ≤ 24 }
-    ensures bits { let m = get (codes "shard_bits") (view sharding.now) in result ≡ judged (shard_fault minishard_bits m) (number_in m) }
+    ensures bits { let m = get (codes "shard_bits") (view sharding.now) in
+        result ≡ judged (shard_fault minishard_bits m) (number_in m) }
     ensures fits { IfOk result (λ bits. minishard_bits + bits ≤ 64) }
 {
     let bits = read_number(sharding.get("shard_bits"), Item::ShardBits)?;

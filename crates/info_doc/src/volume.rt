@@ -48,7 +48,8 @@ fn check_at_type(volume: &Value) -> Result<(), InfoFault>
 // Whether the volume is a segmentation; else it is an image.
 #[tactic(auto, unfolding(crate::specs::Steps::type_fault))]
 fn read_type(volume: &Value) -> Result<bool, InfoFault>
-    ensures { let m = get (codes "type") (view volume.now) in result ≡ judged (type_fault m) (is_segmentation m) }
+    ensures { let m = get (codes "type") (view volume.now) in
+        result ≡ judged (type_fault m) (is_segmentation m) }
 {
     match read_text(volume.get("type"), Item::VolumeType)? {
         "image" => Ok(false),
@@ -88,7 +89,8 @@ fn width_of(name: &str) -> Option<u32>
 
 #[tactic(auto, unfolding(crate::specs::Steps::data_type_fault))]
 fn read_width(volume: &Value) -> Result<u32, InfoFault>
-    ensures { let m = get (codes "data_type") (view volume.now) in result ≡ judged (data_type_fault m) (width_in m) }
+    ensures { let m = get (codes "data_type") (view volume.now) in
+        result ≡ judged (data_type_fault m) (width_in m) }
 {
     let name = read_text(volume.get("data_type"), Item::DataType)?;
     if is_unread_type(name) {

@@ -1,4 +1,4 @@
--- Numbers of eight bytes in a row.
+-- Numbers of eight bytes in a row (this project's words for the columns of an index).
 use Rattle.std.specs.Prelude.{ℕ, ◌+◌, ◌*◌, ◌^◌, ◌<◌, List, ◌++◌, length, take, drop, slice_index}
 use Rattle.vol_spec.specs.IndexBytes.{eight, ids}
 use Rattle.vol_spec.specs.declared.row.Row.{Row}

@@ -1,4 +1,5 @@
--- A walk over the rows of a minishard index.
+-- A walk over the rows of a minishard index (this project's). Rows are those of the precomputed volume format
+-- (sharded format, minishard index format).
 use Rattle.std.specs.Prelude.{◌≡◌, ℕ, ◌+◌, sum, take, slice_get, Some}
 use Rattle.vol_spec.specs.Rows.{Columns}
 

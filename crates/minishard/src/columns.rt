@@ -102,9 +102,12 @@ pub fn write_rows(rows: &[Row], out: &mut [u8])
     requires rows { AreRows rows.now }
     ensures bytes { out.new ≡ index_bytes (stored rows.now) }
     // Each row is read back, by its number and by its id, and no other id is there.
-    ensures rows { (r : ℕ) (row : Row) → slice_get rows.now r ≡ Some row → judged_row (columns_of out.new) r ≡ Ok row }
-    ensures found { (r : ℕ) (row : Row) → slice_get rows.now r ≡ Some row → find_in (columns_of out.new) row.id ≡ Ok (Some row) }
-    ensures absent { (id : ℕ) → ((r : ℕ) → r < length rows.now → slice_index (ids rows.now) r ≢ id) → find_in (columns_of out.new) id ≡ Ok None }
+    ensures rows { (r : ℕ) (row : Row) → slice_get rows.now r ≡ Some row →
+        judged_row (columns_of out.new) r ≡ Ok row }
+    ensures found { (r : ℕ) (row : Row) → slice_get rows.now r ≡ Some row →
+        find_in (columns_of out.new) row.id ≡ Ok (Some row) }
+    ensures absent { (id : ℕ) → ((r : ℕ) → r < length rows.now → slice_index (ids rows.now) r ≢ id) →
+        find_in (columns_of out.new) id ≡ Ok None }
 {
     write_columns(rows, out);
 }

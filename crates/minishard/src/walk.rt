@@ -83,8 +83,14 @@ impl Walk {
     // The next row by the numbers so far.
     fn step(&mut self, id_delta: u64, start_delta: u64, size: u64) -> Result<Row, IndexFault>
         requires { self.old.rows < 2 ^ 22 }
-        ensures judged { result ≡ judged_by self.old.rows id_delta (self.old.id + id_delta) (self.old.end + start_delta) size }
-        ensures ok { OnOk result (self.new ≡ record { rows = self.old.rows + 1; id = self.old.id + id_delta; end = self.old.end + start_delta + size }) }
+        ensures judged { result ≡ judged_by self.old.rows id_delta (self.old.id + id_delta)
+            (self.old.end + start_delta) size }
+        ensures ok { OnOk result (self.new ≡ record {
+          rows = self.old.rows + 1;
+          id =
+              self.old.id + id_delta;
+          end = self.old.end + start_delta + size;
+        }) }
         ensures err { OnErr result (self.new ≡ self.old) }
     {
         if id_is_bad(self.rows, id_delta, self.id) {
@@ -115,8 +121,10 @@ impl Walk {
         size: u64,
     ) -> Result<Row, IndexFault>
         requires { self.old.rows < 2 ^ 22 }
-        ensures judged { (c : Columns) → IsWalked c self.old → IsStored c self.old.rows id_delta start_delta size → result ≡ judged_row c self.old.rows }
-        ensures walked { OnOk result ((c : Columns) → IsWalked c self.old → IsStored c self.old.rows id_delta start_delta size → IsWalked c self.new) }
+        ensures judged { (c : Columns) → IsWalked c self.old →
+            IsStored c self.old.rows id_delta start_delta size → result ≡ judged_row c self.old.rows }
+        ensures walked { OnOk result ((c : Columns) → IsWalked c self.old →
+            IsStored c self.old.rows id_delta start_delta size → IsWalked c self.new) }
         ensures rows { OnOk result (self.new.rows ≡ self.old.rows + 1) }
         ensures refused { OnErr result (self.new ≡ self.old) }
     {

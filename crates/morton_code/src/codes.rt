@@ -27,7 +27,8 @@ fn count_bits(grid: &Grid) -> u32
 // A code with the coordinate's bit put below its bits, where the bit counts.
 fn put_below(code: u64, size: u64, coordinate: u64, bit: u32) -> u64
     requires { bit < 40 }
-    ensures { result ≡ (if nat_lt (2 ^ bit) size then (coordinate / 2 ^ bit % 2 + 2 * code) % 2 ^ 64 else code) }
+    ensures { result ≡ (if nat_lt (2 ^ bit) size then (coordinate / 2 ^ bit % 2 + 2 * code) % 2 ^ 64
+        else code) }
 {
     if 1 << bit < size {
         code.wrapping_mul(2).wrapping_add((coordinate >> bit) % 2)
@@ -66,7 +67,9 @@ struct Taken {
 fn take_lowest(rest: u64, size: u64, coordinate: u64, bit: u32) -> Taken
     requires bit { bit < 40 }
     requires coordinate { coordinate < 2 ^ bit }
-    ensures { result ≡ (if nat_lt (2 ^ bit) size then (record { rest = rest / 2; coordinate = coordinate + 2 ^ bit * (rest % 2) }) else record { rest = rest; coordinate = coordinate }) }
+    ensures { result ≡ (if nat_lt (2 ^ bit) size then
+        (record { rest = rest / 2; coordinate = coordinate + 2 ^ bit * (rest % 2) })
+        else record { rest = rest; coordinate = coordinate }) }
 {
     if 1 << bit < size {
         Taken {
@@ -95,8 +98,10 @@ fn has_code(grid: &Grid, cell: [u64; 3], wanted: u64) -> bool
 /// The cell that has a code, or None where no cell of the grid has it.
 pub fn cell(grid: &Grid, code: u64) -> Option<[u64; 3]>
     requires bits { length (pairs grid.now.size) ≤ 64 }
-    ensures found { IfSome result (λ cell. IsInGrid grid.now.size cell × (code_of grid.now.size cell ≡ code)) }
-    ensures only { (cell : List ℕ) → IsInGrid grid.now.size cell → code_of grid.now.size cell ≡ code → result ≡ Some cell }
+    ensures found { IfSome result (λ cell. IsInGrid grid.now.size cell ×
+        (code_of grid.now.size cell ≡ code)) }
+    ensures only { (cell : List ℕ) → IsInGrid grid.now.size cell → code_of grid.now.size cell ≡ code →
+        result ≡ Some cell }
 {
     let mut rest = code;
     let mut x = 0;

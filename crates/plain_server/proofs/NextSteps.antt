@@ -12,7 +12,8 @@ use Rattle.request_heads.specs.Answers.{IsNext}
 use Rattle.request_heads.specs.Heads.{BeginsWith, HasNoHead}
 use Rattle.request_heads.specs.declared.kinds.Next.TheVariants as coming
 use Rattle.request_heads.proofs.WaitSteps.{next_cut, next_full, next_never}
-use Rattle.range_server.specs.Bodies.{Gains, bad_bytes, reply_bytes}
+use Rattle.vol_base.specs.Gains.{Gains}
+use Rattle.range_server.specs.Bodies.{bad_bytes, reply_bytes}
 use Rattle.range_server.specs.Plans.{IsPlan}
 use Rattle.range_server.specs.Replies.{AreReplies, EndsWith, Gained, GoesOn, HasReached, closes_at, numbered, planned_at, reply_to}
 use Rattle.range_server.specs.declared.reply.Reply.{Reply}

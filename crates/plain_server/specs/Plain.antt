@@ -1,4 +1,4 @@
--- A reply by what was read of its object.
+-- A reply by what was read of its object (this project's).
 use Rattle.std.specs.Prelude.{◌≡◌, ◌≤◌, ◌+◌, IsTrue, ℕ, Bool, true, ◌||◌, List, [], ◌++◌, length, Option, Some, None, if◌then◌else◌}
 use Rattle.std.specs.FinMap as map
 use Rattle.vol_base.specs.Outside.{Objects, part}
@@ -20,7 +20,8 @@ by_found head_alone range close (Some name) len = by_size head_alone range close
 abbrev pub by_parts : Bool → List ℕ → Option (List ℕ) → Bool → Option (List ℕ) → Option ℕ → Reply
 by_parts body method range close name len =
     if body then refused 400 true else
-    (if asks_head method || asks_get method then by_found (asks_head method) range close name len else refused 405 close)
+    (if asks_head method || asks_get method then by_found (asks_head method) range close name len
+    else refused 405 close)
 
 -- a reply, with its object in hand
 abbrev pub bytes_with : List ℕ → Reply → List ℕ

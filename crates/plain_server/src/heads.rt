@@ -22,8 +22,10 @@ fn find_object<S: Source>(
     store: &mut S,
     name: &Option<Name>,
 ) -> Result<Option<Vec<u8>>, StoreRefusal>
-    ensures object { IfOk result (λ object. WhereTold (S.objects store.old) (λ m. option_map (λ bytes. bytes.items) object ≡ object_at m name.now)) }
-    ensures kept { OnlyReads (S.objects store.old) (S.objects store.new) (S.draft store.old) (S.draft store.new) }
+    ensures object { IfOk result (λ object. WhereTold (S.objects store.old) (λ m.
+        option_map (λ bytes. bytes.items) object ≡ object_at m name.now)) }
+    ensures kept { OnlyReads (S.objects store.old) (S.objects store.new) (S.draft store.old)
+        (S.draft store.new) }
     ensures cause { HasStoreCause (S.faults store.old) (S.faults store.new) result }
 {
     match name {
@@ -64,10 +66,12 @@ pub(crate) fn plan_head<S: Source>(
     requires parts { IsRequestOf front.now spans.now parts.now }
     requires few { length spans.now ≤ 4096 }
     requires short { length front.now ≤ 8192 }
-    ensures reply { IfOk result (λ r. WhereTold (S.objects store.old) (λ m. IsPlan m dataset.now front.now r.0)) }
+    ensures reply { IfOk result (λ r. WhereTold (S.objects store.old) (λ m.
+        IsPlan m dataset.now front.now r.0)) }
     ensures inside { IfOk result (λ r. HasObject r.1.items r.0) }
     ensures object { IfOk result (λ r. WhereTold (S.objects store.old) (λ m. IsObject m r.1.items r.0)) }
-    ensures kept { OnlyReads (S.objects store.old) (S.objects store.new) (S.draft store.old) (S.draft store.new) }
+    ensures kept { OnlyReads (S.objects store.old) (S.objects store.new) (S.draft store.old)
+        (S.draft store.new) }
     ensures cause { HasStoreCause (S.faults store.old) (S.faults store.new) result }
 {
     let Ok(fields) = read_fields(alloc, front, spans, parts) else {

@@ -25,8 +25,10 @@ pub(crate) fn read_object<S: Source>(
     store: &mut S,
     name: &Name,
 ) -> Result<Option<Vec<u8>>, StoreRefusal>
-    ensures object { IfOk result (λ object. WhereTold (S.objects store.old) (λ m. option_map (λ bytes. bytes.items) object ≡ map.get m name.now)) }
-    ensures kept { OnlyReads (S.objects store.old) (S.objects store.new) (S.draft store.old) (S.draft store.new) }
+    ensures object { IfOk result (λ object. WhereTold (S.objects store.old) (λ m.
+        option_map (λ bytes. bytes.items) object ≡ map.get m name.now)) }
+    ensures kept { OnlyReads (S.objects store.old) (S.objects store.new) (S.draft store.old)
+        (S.draft store.new) }
     ensures cause { HasStoreCause (S.faults store.old) (S.faults store.new) result }
 {
     let len = match store.size(name) {

@@ -76,7 +76,8 @@ fn find_head(rest: &[u8], n: usize, spans: &mut [HeaderSpan]) -> Option<RequestS
     requires front { n ≡ min (length rest.now) 8192 }
     requires room { length spans.old ≡ 4096 }
     ensures { MatchOption result ((rest.now ≢ []) × HasNoHead rest.now)
-        (λ parts. IsRequestWithin (take n rest.now) spans.new parts × IsRequestOf (take n rest.now) spans.new parts) }
+        (λ parts. IsRequestWithin (take n rest.now) spans.new parts
+        × IsRequestOf (take n rest.now) spans.new parts) }
 {
     match judge_front(&rest[..n], spans) {
         Front::Head(parts) => Some(parts),
@@ -100,10 +101,13 @@ fn answer_next<S: Source>(
     ensures within { IfOk result (λ next. IfSome next (λ len. len ≤ length rest.now)) }
     ensures last { IfOk result (λ next. IfSome next (λ _. number ≢ 65535)) }
     ensures goes_on { IfOk result (λ next. IfSome next (λ len. WhereTold (S.objects store.old)
-        (λ m. GoesOn m dataset.now number rest.now (Some out.old.items) (Some out.new.items) (Some (drop len rest.now))))) }
+        (λ m. GoesOn m dataset.now number rest.now
+        (Some out.old.items) (Some out.new.items) (Some (drop len rest.now))))) }
     ensures ends { IfOk result (λ next. next ≡ None → WhereTold (S.objects store.old)
-        (λ m. Gained (EndsWith (reply_to m dataset.now) (closes_at m dataset.now) number rest.now) (Some out.old.items) (Some out.new.items))) }
-    ensures kept { OnlyReads (S.objects store.old) (S.objects store.new) (S.draft store.old) (S.draft store.new) }
+        (λ m. Gained (EndsWith (reply_to m dataset.now) (closes_at m dataset.now) number rest.now)
+        (Some out.old.items) (Some out.new.items))) }
+    ensures kept { OnlyReads (S.objects store.old) (S.objects store.new) (S.draft store.old)
+        (S.draft store.new) }
     ensures cause { HasStoreCause (S.faults store.old) (S.faults store.new) result }
 {
     if rest.is_empty() {
@@ -136,8 +140,10 @@ fn answer_all<S: Source>(
     dataset: &Name,
 ) -> Result<Vec<u8>, StoreRefusal>
     requires room { length spans.old ≡ 4096 }
-    ensures replies { IfOk result (λ out. WhereTold (S.objects store.old) (λ m. AreReplies m dataset.now stream.now out.items)) }
-    ensures kept { OnlyReads (S.objects store.old) (S.objects store.new) (S.draft store.old) (S.draft store.new) }
+    ensures replies { IfOk result (λ out. WhereTold (S.objects store.old) (λ m.
+        AreReplies m dataset.now stream.now out.items)) }
+    ensures kept { OnlyReads (S.objects store.old) (S.objects store.new) (S.draft store.old)
+        (S.draft store.new) }
     ensures cause { HasStoreCause (S.faults store.old) (S.faults store.new) result }
 {
     let mut out = Vec::new(alloc);
@@ -171,8 +177,10 @@ pub fn plain_replies<S: Source>(
     store: &mut S,
     dataset: &Name,
 ) -> Result<Vec<u8>, StoreRefusal>
-    ensures replies { IfOk result (λ out. WhereTold (S.objects store.old) (λ m. AreReplies m dataset.now stream.now out.items)) }
-    ensures kept { OnlyReads (S.objects store.old) (S.objects store.new) (S.draft store.old) (S.draft store.new) }
+    ensures replies { IfOk result (λ out. WhereTold (S.objects store.old) (λ m.
+        AreReplies m dataset.now stream.now out.items)) }
+    ensures kept { OnlyReads (S.objects store.old) (S.objects store.new) (S.draft store.old)
+        (S.draft store.new) }
     ensures cause { HasStoreCause (S.faults store.old) (S.faults store.new) result }
 {
     let Ok(mut spans) = reserve_spans(alloc, 4096) else {

@@ -9,7 +9,8 @@ use Rattle.vol_base.specs.Outside.{Objects}
 use Rattle.request_heads.specs.Heads.{BeginsWith}
 use Rattle.request_heads.specs.Answers.{IsNext}
 use Rattle.request_heads.specs.declared.kinds.Next.TheVariants as coming
-use Rattle.range_server.specs.Bodies.{Cuts, CutsReply, Gains, bad_bytes, body_in, failed_bytes}
+use Rattle.vol_base.specs.Gains.{Gains}
+use Rattle.range_server.specs.Bodies.{Cuts, CutsReply, bad_bytes, body_in, failed_bytes}
 use Rattle.range_server.specs.Replies.{Answered, Ends, Gained, GoesOn, Stops, StopsShort, planned_at, reply_to}
 use Rattle.range_server.specs.Texts.{reply_head}
 use Rattle.range_server.specs.declared.fault.ServeFault.{ServeFault}

@@ -2,7 +2,6 @@ mod DigitSteps
 mod NumberSteps
 pub mod TextSteps
 pub mod PlanSteps
-mod Gained
 mod PartSteps
 pub mod SendSteps
 pub mod ReplySteps

@@ -5,7 +5,8 @@ use Rattle.std.proofs.Math.Seq.{take-append-add, take-length}
 use Rattle.std.proofs.lemmas.Bool.{cases_Bool}
 use Rattle.std.proofs.lemmas.List.{take-append-le}
 use Rattle.vol_base.specs.Outside.{Objects, part}
-use Rattle.range_server.specs.Bodies.{CutsPart, CutsReply, Gains, GainsFront, HasBody, IsLead, SendsPart, body_in, held, object_in}
+use Rattle.vol_base.specs.Gains.{Gains, GainsFront}
+use Rattle.range_server.specs.Bodies.{CutsPart, CutsReply, HasBody, IsLead, SendsPart, body_in, held, object_in}
 use Rattle.std.specs.FinMap as map
 use Rattle.range_server.specs.declared.fault.ServeFault.{ServeFault}
 use Rattle.range_server.specs.declared.fault.ServeFault.TheVariants.{LinkFault, OutOfMemory, StoreFault}

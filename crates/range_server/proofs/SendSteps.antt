@@ -3,14 +3,15 @@ use Rattle.std.proofs.Common.{◌≡◌, ◌∙◌, true, if◌then◌else◌, �
 use Rattle.std.specs.Option.{option_map}
 use Rattle.std.proofs.Math.Seq.{take-append-add, take-length}
 use Rattle.vol_base.specs.Outside.{part}
-use Rattle.range_server.specs.Bodies.{CutsPart, Gains, GainsFront, HasBody, IsLead, IsPiece, SendsPart, body_in, object_in}
+use Rattle.vol_base.specs.Gains.{Gains, GainsFront}
+use Rattle.range_server.specs.Bodies.{CutsPart, HasBody, IsLead, IsPiece, SendsPart, body_in, object_in}
 use Rattle.range_server.specs.declared.reply.Reply.{Reply}
 use Rattle.vol_base.specs.Outside.{Objects}
 use Rattle.range_server.specs.declared.fault.ServeFault.{ServeFault}
 use Rattle.range_server.specs.declared.fault.ServeFault.TheVariants.{LinkFault, StoreFault}
 use borrow.Rule.Slice.PartMut.{put_mid, post_of}
 use Rattle.std.proofs.lemmas.List.{take-append-le}
-use Rattle.range_server.proofs.Gained.{gained-more}
+use Rattle.vol_base.proofs.Gained.{gained-more}
 use Rattle.range_server.proofs.PartSteps.{part_more, take_part, whole_inside}
 
 -- nothing of it was sent

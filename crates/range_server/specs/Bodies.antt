@@ -1,8 +1,9 @@
--- The bytes of a reply over the objects, and what a link gains.
+-- The bytes of a reply over the objects (RFC 9112, section 6), and what a link gains (this project's).
 use Rattle.std.specs.Prelude.{◌≡◌, ◌≢◌, ◌⊎◌, ◌<◌, ◌≤◌, IsTrue, IsErrOf, Result, ℕ, List, [], ◌++◌, length, take, Option, Some, None, option_map, if◌then◌else◌}
 use Rattle.std.specs.FinMap as map
 use Rattle.vol_base.specs.Outside.{Objects, part}
 use Rattle.vol_base.specs.Causes.{Rose}
+use Rattle.vol_base.specs.Gains.{Gains, GainsFront}
 use Rattle.range_server.specs.declared.fault.ServeFault.{ServeFault}
 use Rattle.range_server.specs.declared.fault.ServeFault.TheVariants.{LinkFault, OutOfMemory, StoreFault}
 use Rattle.range_server.specs.declared.reply.Sent.{Sent}
@@ -43,17 +44,10 @@ failed_bytes = reply_head failed_reply
 abbrev pub WhereTold : {A : Type 0} → Option A → (A → Type 0) → Type 0
 WhereTold {A} o P = (x : A) → o ≡ Some x → P x
 
--- a link gained these bytes, where it tells what was sent
-abbrev pub Gains : Option (List ℕ) → Option (List ℕ) → List ℕ → Type 0
-Gains old new bytes = new ≡ option_map (λ w. w ++ bytes) old
-
--- or a front of them
-abbrev pub GainsFront : Option (List ℕ) → Option (List ℕ) → List ℕ → Type 0
-GainsFront old new bytes = (k : ℕ) × (k ≤ length bytes) × Gains old new (take k bytes)
-
 -- a piece has the bytes of an object from a place on, where they reach so far
 abbrev pub IsPiece : List ℕ → ℕ → List ℕ → List ℕ → Type 0
-IsPiece object at old new = length (part object at (length old)) ≡ length old → new ≡ part object at (length old)
+IsPiece object at old new = length (part object at (length old)) ≡ length old →
+    new ≡ part object at (length old)
 
 -- n bytes of an object from a place on were sent, where it reaches so far
 abbrev pub SendsPart : List ℕ → ℕ → ℕ → Option (List ℕ) → Option (List ℕ) → Type 0
@@ -62,10 +56,12 @@ SendsPart object from n old new = length (part object from n) ≡ n → Gains ol
 -- a front of them was, and not all where the store failed
 abbrev pub CutsPart : List ℕ → ℕ → ℕ → Option (List ℕ) → Option (List ℕ) → ServeFault → Type 0
 CutsPart object from n old new fault =
-    length (part object from n) ≡ n → (k : ℕ) × (k ≤ n) × (fault ≡ StoreFault → k < n) × Gains old new (take k (part object from n))
+    length (part object from n) ≡ n → (k : ℕ) × (k ≤ n) × (fault ≡ StoreFault → k < n) ×
+    Gains old new (take k (part object from n))
 
 -- the counts of faults of a link and a store don't fall, and a fault comes only where its count rose
-pub record HasServeCause {T : Type 0} (link link_now store store_now : ℕ) (result : Result T ServeFault) : Type 0 where
+pub record HasServeCause {T : Type 0} (link link_now store store_now : ℕ)
+    (result : Result T ServeFault) : Type 0 where
   pub link_later : link ≤ link_now
   pub store_later : store ≤ store_now
   pub link_rose : IsErrOf result LinkFault → Rose link link_now

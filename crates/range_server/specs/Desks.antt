@@ -1,4 +1,4 @@
--- The room that serving a connection takes.
+-- The room that serving a connection takes (this project's).
 use Rattle.std.specs.Prelude.{◌≡◌, ◌≤◌, length}
 use Rattle.range_server.specs.declared.conn.Desk.{Desk}
 

@@ -1,4 +1,4 @@
--- Runs of digits, compared without their numbers.
+-- Runs of digits, compared without their numbers (this project's).
 use Rattle.std.specs.Prelude.{ℕ, Bool, false, nat_lt, ◌==◌, List, [], ◌∷◌, if◌then◌else◌}
 
 abbrev pub skip_zeros : List ℕ → List ℕ

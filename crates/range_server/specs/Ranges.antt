@@ -10,11 +10,13 @@ use Rattle.range_server.specs.declared.range.RangeAnswer.TheVariants.{Whole, Par
 
 -- the number of one or more digits
 unfoldable pub number : List ℕ → Option ℕ
-number text = if nat_lt 0 (length text) && list_all is_ascii_digit text then Some (digits_value 10 text) else None
+number text = if nat_lt 0 (length text) && list_all is_ascii_digit text then Some (digits_value 10 text)
+    else None
 
 -- from a byte up to another
 abbrev pub between : ℕ → ℕ → ℕ → RangeAnswer
-between len a b = if nat_lt b a then Whole else (if nat_le len a then Unsatisfiable else Part a (min b (len - 1)))
+between len a b = if nat_lt b a then Whole else (if nat_le len a then Unsatisfiable
+    else Part a (min b (len - 1)))
 
 -- from a byte on
 abbrev pub onward : ℕ → ℕ → RangeAnswer

@@ -6,7 +6,8 @@ use Rattle.httparse.specs.Grammar.{ReadsRequest, RequestHead}
 use Rattle.vol_base.specs.Causes.{Rose}
 use Rattle.vol_base.specs.Outside.{Objects}
 use Rattle.request_heads.specs.Heads.{BeginsWith, HasNoHead}
-use Rattle.range_server.specs.Bodies.{Gains, bad_bytes, body_in, failed_bytes, reply_bytes}
+use Rattle.vol_base.specs.Gains.{Gains}
+use Rattle.range_server.specs.Bodies.{bad_bytes, body_in, failed_bytes, reply_bytes}
 use Rattle.range_server.specs.Plans.{planned}
 use Rattle.range_server.specs.Texts.{reply_head}
 use Rattle.range_server.specs.declared.fault.ServeFault.{ServeFault}
@@ -40,7 +41,8 @@ module _ (reply : ℕ → RequestHead → List ℕ) (closes : ℕ → RequestHea
   EndsWith n rest out =
       ((rest ≡ []) × (out ≡ []))
       ⊎ ((rest ≢ []) × HasNoHead rest × (out ≡ bad_bytes))
-      ⊎ ((head : RequestHead) × (behind : List ℕ) × BeginsWith rest head behind × (closes n head ≡ true) × (out ≡ reply n head))
+      ⊎ ((head : RequestHead) × (behind : List ℕ) × BeginsWith rest head behind × (closes n head ≡ true) ×
+      (out ≡ reply n head))
 
   -- the reply that comes next, or none
   abbrev pub GoesOnWith : Answers
@@ -51,7 +53,8 @@ module _ (reply : ℕ → RequestHead → List ℕ) (closes : ℕ → RequestHea
 
 -- in place of the reply to the next head, that the store failed
 abbrev pub FailsAt : Answers
-FailsAt n rest out = (head : RequestHead) × (behind : List ℕ) × BeginsWith rest head behind × (out ≡ failed_bytes)
+FailsAt n rest out = (head : RequestHead) × (behind : List ℕ) × BeginsWith rest head behind ×
+    (out ≡ failed_bytes)
 
 -- the reply to the n-th request of a connection, from 0 on; the 65,536th closes it
 abbrev pub numbered : ℕ → Reply → Reply
@@ -102,26 +105,35 @@ module _ (objects : Objects) (dataset : List ℕ) where
 
 -- a reply is that to the head at the front of some bytes, by its number
 abbrev pub IsPlanAt : ℕ → Objects → List ℕ → List ℕ → Reply → Type 0
-IsPlanAt n objects dataset bytes reply = (head : RequestHead) (rest : List ℕ) → ReadsRequest bytes head rest → reply ≡ planned_at objects dataset n head
+IsPlanAt n objects dataset bytes reply = (head : RequestHead) (rest : List ℕ) → ReadsRequest bytes head rest →
+    reply ≡ planned_at objects dataset n head
 
 -- what answering a head sends, and whether the connection goes on behind it
-abbrev pub Answered : Objects → List ℕ → ℕ → RequestHead → ℕ → ℕ → Option (List ℕ) → Option (List ℕ) → Bool → Type 0
-Answered objects dataset n head before now old new true = Gains old new (reply_to objects dataset n head) × (closes_at objects dataset n head ≡ false)
+abbrev pub Answered : Objects → List ℕ → ℕ → RequestHead → ℕ → ℕ → Option (List ℕ) → Option (List ℕ) → Bool →
+    Type 0
+Answered objects dataset n head before now old new true = Gains old new (reply_to objects dataset n head) ×
+    (closes_at objects dataset n head ≡ false)
 Answered objects dataset n head before now old new false =
-    (Gains old new (reply_to objects dataset n head) × (closes_at objects dataset n head ≡ true)) ⊎ (Rose before now × Gains old new failed_bytes)
+    (Gains old new (reply_to objects dataset n head) × (closes_at objects dataset n head ≡ true)) ⊎
+    (Rose before now × Gains old new failed_bytes)
 
 -- a link gained an answer
 abbrev pub Gained : (List ℕ → Type 0) → Option (List ℕ) → Option (List ℕ) → Type 0
 Gained Answer old new = (out : List ℕ) × Answer out × Gains old new out
 
 -- one request was answered, and the connection goes on with what is then pending
-abbrev pub GoesOn : Objects → List ℕ → ℕ → List ℕ → Option (List ℕ) → Option (List ℕ) → Option (List ℕ) → Type 0
+abbrev pub GoesOn : Objects → List ℕ → ℕ → List ℕ → Option (List ℕ) → Option (List ℕ) → Option (List ℕ) →
+    Type 0
 GoesOn objects dataset n rest old new pending =
-    (head : RequestHead) × (behind : List ℕ) × BeginsWith rest head behind × (closes_at objects dataset n head ≡ false)
+    (head : RequestHead) × (behind : List ℕ) × BeginsWith rest head behind ×
+    (closes_at objects dataset n head ≡ false)
     × Gains old new (reply_to objects dataset n head) × (pending ≡ Some behind)
 
 -- n requests of a stream were answered, and the connection goes on with what is pending
-abbrev pub HasReached : Objects → List ℕ → ℕ → List ℕ → Option (List ℕ) → Option (List ℕ) → Option (List ℕ) → Type 0
+abbrev pub HasReached : Objects → List ℕ → ℕ → List ℕ → Option (List ℕ) → Option (List ℕ) → Option (List ℕ) →
+    Type 0
 HasReached objects dataset n stream pending old new =
-    (heads : List RequestHead) × (rest : List ℕ) × (front : List ℕ) × (pending ≡ Some rest) × Gains old new front
-    × (length heads ≡ n) × Reaches (reply_to objects dataset) (closes_at objects dataset) heads 0 stream rest front
+    (heads : List RequestHead) × (rest : List ℕ) × (front : List ℕ) × (pending ≡ Some rest) ×
+    Gains old new front
+    × (length heads ≡ n) × Reaches (reply_to objects dataset)
+    (closes_at objects dataset) heads 0 stream rest front

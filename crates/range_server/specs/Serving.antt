@@ -1,4 +1,4 @@
--- What serving the ends of a door, one after the other, leaves in the door's list.
+-- What serving the ends of a door, one after the other, leaves in the door's list (this project's).
 use Rattle.std.specs.Prelude.{◌≡◌, ◌<◌, ◌≤◌, ◌⊎◌, ◌+◌, ℕ, List, [], ◌∷◌, ◌++◌, length, Option, Some}
 use Rattle.vol_base.specs.Causes.{Rose}
 use Rattle.vol_base.specs.Outside.{Ended, Objects}
@@ -24,18 +24,21 @@ module _ (objects : Objects) (dataset : List ℕ) where
   abbrev pub EndsServed : ℕ → ℕ → List Ended → Type 0
   EndsServed before now [] = before ≤ now
   EndsServed before now (end ∷ ends) =
-      (start : ℕ) × (mid : ℕ) × (before ≤ start) × (start ≤ mid) × EndServed start mid end × EndsServed mid now ends
+      (start : ℕ) × (mid : ℕ) × (before ≤ start) × (start ≤ mid) × EndServed start mid end ×
+      EndsServed mid now ends
 
   -- the same, where memory ran out amid the last of them
   abbrev pub EndsCutShort : ℕ → ℕ → List Ended → Type 0
   EndsCutShort before now ends =
-      (mid : ℕ) × (first : List Ended) × (last : Ended) × (ends ≡ first ++ last ∷ []) × EndsServed before mid first × (mid ≤ now)
+      (mid : ℕ) × (first : List Ended) × (last : Ended) × (ends ≡ first ++ last ∷ []) ×
+      EndsServed before mid first × (mid ≤ now)
       × Stopped objects dataset mid now OutOfMemory last.0 last.1
 
   -- at most so many ends whose link didn't fail are not whole
   abbrev pub AtMostBroken : List Ended → ℕ → Type 0
   AtMostBroken [] k = Unit {0}
-  AtMostBroken (end ∷ ends) k = ((IsWhole end ⊎ (0 < end.2)) × AtMostBroken ends k) ⊎ ((j : ℕ) × (j + 1 ≡ k) × AtMostBroken ends j)
+  AtMostBroken (end ∷ ends) k = ((IsWhole end ⊎ (0 < end.2)) × AtMostBroken ends k) ⊎
+      ((j : ℕ) × (j + 1 ≡ k) × AtMostBroken ends j)
 
 -- a door noted one end more
 abbrev pub AddsEnd : List Ended → Option (List Ended) → (Ended → Type 0) → Type 0
@@ -50,14 +53,18 @@ module _ (objects : Objects) (dataset : List ℕ) where
   -- so many ends more were noted, which were served one after the other
   abbrev pub AddsServed : ℕ → ℕ → ℕ → List Ended → Option (List Ended) → Type 0
   AddsServed n before now list served =
-      (ends : List Ended) × (served ≡ Some (list ++ ends)) × (length ends ≡ n) × EndsServed objects dataset before now ends
+      (ends : List Ended) × (served ≡ Some (list ++ ends)) × (length ends ≡ n) ×
+      EndsServed objects dataset before now ends
 
   -- no end was noted; or one amid which memory ran out
   abbrev pub AddsBy : DoorRefusal → ℕ → ℕ → List Ended → Option (List Ended) → Type 0
   AddsBy refusal.DoorFault before now list served = (served ≡ Some list) × (before ≤ now)
-  AddsBy refusal.OutOfMemory before now list served = AddsEnd list served (λ end. Stopped objects dataset before now OutOfMemory end.0 end.1)
+  AddsBy refusal.OutOfMemory before now list served =
+      AddsEnd list served (λ end. Stopped objects dataset before now OutOfMemory end.0 end.1)
 
   -- the ends that were served before a refusal: fewer than all, or the last of them not whole
   abbrev pub EndsBy : DoorRefusal → ℕ → ℕ → ℕ → List Ended → Type 0
-  EndsBy refusal.DoorFault most before now ends = (length ends < most) × EndsServed objects dataset before now ends
-  EndsBy refusal.OutOfMemory most before now ends = (length ends ≤ most) × EndsCutShort objects dataset before now ends
+  EndsBy refusal.DoorFault most before now ends = (length ends < most) ×
+      EndsServed objects dataset before now ends
+  EndsBy refusal.OutOfMemory most before now ends = (length ends ≤ most) ×
+      EndsCutShort objects dataset before now ends

@@ -30,7 +30,8 @@ plain_lines r =
 
 -- which bytes come
 abbrev pub part_line : Reply → List ℕ
-part_line r = line (codes "Content-Range: bytes " ++ decimal r.from ++ codes "-" ++ decimal (r.from + r.count - 1) ++ codes "/" ++ decimal r.total)
+part_line r = line (codes "Content-Range: bytes " ++ decimal r.from ++ codes "-"
+    ++ decimal (r.from + r.count - 1) ++ codes "/" ++ decimal r.total)
 
 -- that none can, of how many
 abbrev pub length_line : Reply → List ℕ
@@ -47,4 +48,5 @@ close_lines r = if r.close then line (codes "Connection: close") else []
 
 -- the whole head
 unfoldable pub reply_head : Reply → List ℕ
-reply_head r = line (status_line r.status) ++ plain_lines r ++ range_lines r ++ allow_lines r ++ close_lines r ++ line_end
+reply_head r = line (status_line r.status) ++ plain_lines r ++ range_lines r ++ allow_lines r ++ close_lines r
+    ++ line_end

@@ -37,16 +37,22 @@ pub(crate) fn answer_head<L: Link, S: Source>(
     requires few { length found.spans.now ≤ 4096 }
     requires short { length found.received.now ≤ 8192 }
     requires room { 512 ≤ length writer.old.piece.items }
-    ensures answered { IfOk result (λ stays. WhereTold (S.objects store.old) (λ m. (head : RequestHead) (rest : List ℕ) → ReadsRequest found.entry.received.now head rest
-        → Answered m dataset.now number head (S.faults store.old) (S.faults store.new) (L.sent link.old) (L.sent link.new) stays)) }
+    ensures answered { IfOk result (λ stays. WhereTold (S.objects store.old) (λ m.
+        (head : RequestHead) (rest : List ℕ) → ReadsRequest found.entry.received.now head rest
+        → Answered m dataset.now number head (S.faults store.old) (S.faults store.new)
+        (L.sent link.old) (L.sent link.new) stays)) }
     ensures last { IfOk result (λ stays. number ≡ 65535 → stays ≡ false) }
-    ensures cut { IfErr result (λ fault. WhereTold (S.objects store.old) (λ m. (head : RequestHead) (rest : List ℕ) → ReadsRequest found.entry.received.now head rest
-        → Cuts m (planned_at m dataset.now number head) (S.faults store.old) (S.faults store.new) (L.sent link.old) (L.sent link.new) fault)) }
+    ensures cut { IfErr result (λ fault. WhereTold (S.objects store.old) (λ m.
+        (head : RequestHead) (rest : List ℕ) → ReadsRequest found.entry.received.now head rest
+        → Cuts m (planned_at m dataset.now number head) (S.faults store.old) (S.faults store.new)
+        (L.sent link.old) (L.sent link.new) fault)) }
     ensures room { length writer.new.piece.items ≡ length writer.old.piece.items }
     ensures left { L.left link.new ≡ L.left link.old }
     ensures stream { L.stream link.new ≡ L.stream link.old }
-    ensures kept { OnlyReads (S.objects store.old) (S.objects store.new) (S.draft store.old) (S.draft store.new) }
-    ensures cause { HasServeCause (L.faults link.old) (L.faults link.new) (S.faults store.old) (S.faults store.new) result }
+    ensures kept { OnlyReads (S.objects store.old) (S.objects store.new) (S.draft store.old)
+        (S.draft store.new) }
+    ensures cause { HasServeCause (L.faults link.old) (L.faults link.new) (S.faults store.old)
+        (S.faults store.new) result }
 {
     match plan_numbered(
         number,

@@ -38,7 +38,8 @@ fn drop_head(desk: &mut Desk, there: usize, len: usize)
     requires within { there ≤ 8192 }
     requires front { len ≤ there }
     ensures ready { IsReady desk.new }
-    ensures rest { take (there - len) desk.new.received.items ≡ drop len (take there desk.old.received.items) }
+    ensures rest { take (there - len) desk.new.received.items
+        ≡ drop len (take there desk.old.received.items) }
 {
     consume(desk.received.as_mut_slice(), there, len);
 }
@@ -49,9 +50,11 @@ fn wait_head<L: Link>(link: &mut L, len: usize, desk: &mut Desk) -> Result<(Next
     requires within { len ≤ 8192 }
     ensures ready { IsReady desk.new }
     ensures within { IfOk result (λ r. r.1 ≤ 8192) }
-    ensures next { IfOk result (λ r. IfSome (pending desk.old.received.items len (L.left link.old)) (λ stream. IsNext stream r.0)) }
+    ensures next { IfOk result (λ r. IfSome (pending desk.old.received.items len (L.left link.old)) (λ stream.
+        IsNext stream r.0)) }
     ensures parts { IfOk result (λ r. HasParts (take r.1 desk.new.received.items) desk.new.spans.items r.0) }
-    ensures pending { IfOk result (λ r. pending desk.new.received.items r.1 (L.left link.new) ≡ pending desk.old.received.items len (L.left link.old)) }
+    ensures pending { IfOk result (λ r. pending desk.new.received.items r.1 (L.left link.new)
+        ≡ pending desk.old.received.items len (L.left link.old)) }
     ensures sent { L.sent link.new ≡ L.sent link.old }
     ensures stream { L.stream link.new ≡ L.stream link.old }
     ensures cause { HasCause (L.faults link.old) (L.faults link.new) result }
@@ -76,15 +79,25 @@ fn serve_one<L: Link, S: Source>(
     ensures ready { IsReady desk.new }
     ensures within { IfOk result (λ next. IfSome next (λ len. len ≤ 8192)) }
     ensures last { IfOk result (λ next. IfSome next (λ _. number ≢ 65535)) }
-    ensures goes_on { IfOk result (λ next. IfSome next (λ more. WhereTold (S.objects store.old) (λ m. WhereTold (pending desk.old.received.items len (L.left link.old))
-        (λ rest. GoesOn m dataset.now number rest (L.sent link.old) (L.sent link.new) (pending desk.new.received.items more (L.left link.new)))))) }
-    ensures ends { IfOk result (λ next. next ≡ None → WhereTold (S.objects store.old) (λ m. WhereTold (pending desk.old.received.items len (L.left link.old))
-        (λ rest. Gained (Ends m dataset.now (S.faults store.old) (S.faults store.new) number rest) (L.sent link.old) (L.sent link.new)))) }
-    ensures stops { IfErr result (λ fault. WhereTold (S.objects store.old) (λ m. WhereTold (pending desk.old.received.items len (L.left link.old))
-        (λ rest. Gained (Stops m dataset.now (S.faults store.old) (S.faults store.new) fault number rest) (L.sent link.old) (L.sent link.new)))) }
+    ensures goes_on { IfOk result (λ next. IfSome next (λ more.
+        WhereTold (S.objects store.old) (λ m. WhereTold
+        (pending desk.old.received.items len (L.left link.old))
+        (λ rest. GoesOn m dataset.now number rest (L.sent link.old) (L.sent link.new)
+        (pending desk.new.received.items more (L.left link.new)))))) }
+    ensures ends { IfOk result (λ next. next ≡ None →
+        WhereTold (S.objects store.old) (λ m. WhereTold
+        (pending desk.old.received.items len (L.left link.old))
+        (λ rest. Gained (Ends m dataset.now (S.faults store.old) (S.faults store.new) number rest)
+        (L.sent link.old) (L.sent link.new)))) }
+    ensures stops { IfErr result (λ fault. WhereTold (S.objects store.old) (λ m.
+        WhereTold (pending desk.old.received.items len (L.left link.old))
+        (λ rest. Gained (Stops m dataset.now (S.faults store.old) (S.faults store.new) fault number rest)
+        (L.sent link.old) (L.sent link.new)))) }
     ensures stream { L.stream link.new ≡ L.stream link.old }
-    ensures kept { OnlyReads (S.objects store.old) (S.objects store.new) (S.draft store.old) (S.draft store.new) }
-    ensures cause { HasServeCause (L.faults link.old) (L.faults link.new) (S.faults store.old) (S.faults store.new) result }
+    ensures kept { OnlyReads (S.objects store.old) (S.objects store.new) (S.draft store.old)
+        (S.draft store.new) }
+    ensures cause { HasServeCause (L.faults link.old) (L.faults link.new) (S.faults store.old)
+        (S.faults store.new) result }
 {
     let (next, there) = match wait_head(link, len, desk) {
         Ok(found) => found,
@@ -125,12 +138,16 @@ pub(crate) fn serve_link<L: Link, S: Source>(
 ) -> Result<(), ServeFault>
     requires ready { IsReady desk.old }
     ensures served { OnOk result (WhereTold (S.objects store.old) (λ m. WhereTold (L.left link.old)
-        (λ stream. Gained (Served m dataset.now (S.faults store.old) (S.faults store.new) stream) (L.sent link.old) (L.sent link.new)))) }
+        (λ stream. Gained (Served m dataset.now (S.faults store.old) (S.faults store.new) stream)
+        (L.sent link.old) (L.sent link.new)))) }
     ensures stopped { IfErr result (λ fault. WhereTold (S.objects store.old) (λ m. WhereTold (L.left link.old)
-        (λ stream. Gained (Stopped m dataset.now (S.faults store.old) (S.faults store.new) fault stream) (L.sent link.old) (L.sent link.new)))) }
+        (λ stream. Gained (Stopped m dataset.now (S.faults store.old) (S.faults store.new) fault stream)
+        (L.sent link.old) (L.sent link.new)))) }
     ensures stream { L.stream link.new ≡ L.stream link.old }
-    ensures kept { OnlyReads (S.objects store.old) (S.objects store.new) (S.draft store.old) (S.draft store.new) }
-    ensures cause { HasServeCause (L.faults link.old) (L.faults link.new) (S.faults store.old) (S.faults store.new) result }
+    ensures kept { OnlyReads (S.objects store.old) (S.objects store.new) (S.draft store.old)
+        (S.draft store.new) }
+    ensures cause { HasServeCause (L.faults link.old) (L.faults link.new) (S.faults store.old)
+        (S.faults store.new) result }
 {
     let mut len = 0;
     for number in 0..65536 {

@@ -31,13 +31,17 @@ fn serve_end<D: Door, S: Source>(
 ) -> Result<(), DoorRefusal>
     requires { IsSome (D.bound door.old) }
     ensures served { OnOk result (WhereTold (S.objects store.old) (λ m. WhereTold (D.served door.old)
-        (λ list. AddsEnd list (D.served door.new) (EndServed m dataset.now (S.faults store.old) (S.faults store.new))))) }
+        (λ list. AddsEnd list (D.served door.new) (EndServed m dataset.now (S.faults store.old)
+        (S.faults store.new))))) }
     ensures cut { IfErr result (λ refusal. WhereTold (S.objects store.old) (λ m. WhereTold (D.served door.old)
-        (λ list. AddsBy m dataset.now refusal (S.faults store.old) (S.faults store.new) list (D.served door.new)))) }
+        (λ list. AddsBy m dataset.now refusal (S.faults store.old) (S.faults store.new) list
+        (D.served door.new)))) }
     ensures accepted { OnOk result (D.accepted door.new ≡ D.accepted door.old + 1) }
-    ensures refused { IfErr result (λ refusal. GaveBefore refusal 1 (D.accepted door.old) (D.accepted door.new)) }
+    ensures refused { IfErr result (λ refusal. GaveBefore refusal 1 (D.accepted door.old)
+        (D.accepted door.new)) }
     ensures bound { D.bound door.new ≡ D.bound door.old }
-    ensures kept { OnlyReads (S.objects store.old) (S.objects store.new) (S.draft store.old) (S.draft store.new) }
+    ensures kept { OnlyReads (S.objects store.old) (S.objects store.new) (S.draft store.old)
+        (S.draft store.new) }
     ensures store_later { S.faults store.old ≤ S.faults store.new }
     ensures later { D.faults door.old ≤ D.faults door.new }
     ensures cause { IsErrOf result DoorFault → Rose (D.faults door.old) (D.faults door.new) }
@@ -67,14 +71,18 @@ pub fn serve_ends<D: Door, S: Source>(
 ) -> Result<(), DoorRefusal>
     requires { IsSome (D.bound door.old) }
     ensures served { OnOk result (WhereTold (S.objects store.old) (λ m. WhereTold (D.served door.old)
-        (λ list. AddsServed m dataset.now connections (S.faults store.old) (S.faults store.new) list (D.served door.new)))) }
+        (λ list. AddsServed m dataset.now connections (S.faults store.old) (S.faults store.new) list
+        (D.served door.new)))) }
     ensures cut { IfErr result (λ refusal. WhereTold (S.objects store.old) (λ m. WhereTold (D.served door.old)
-        (λ list. (ends : List Ended) × (D.served door.new ≡ Some (list ++ ends)) × (D.accepted door.new ≡ D.accepted door.old + length ends)
+        (λ list. (ends : List Ended) × (D.served door.new ≡ Some (list ++ ends)) ×
+        (D.accepted door.new ≡ D.accepted door.old + length ends)
         × EndsBy m dataset.now refusal connections (S.faults store.old) (S.faults store.new) ends))) }
     ensures accepted { OnOk result (D.accepted door.new ≡ D.accepted door.old + connections) }
-    ensures refused { IfErr result (λ refusal. GaveBefore refusal connections (D.accepted door.old) (D.accepted door.new)) }
+    ensures refused { IfErr result (λ refusal. GaveBefore refusal connections (D.accepted door.old)
+        (D.accepted door.new)) }
     ensures bound { D.bound door.new ≡ D.bound door.old }
-    ensures kept { OnlyReads (S.objects store.old) (S.objects store.new) (S.draft store.old) (S.draft store.new) }
+    ensures kept { OnlyReads (S.objects store.old) (S.objects store.new) (S.draft store.old)
+        (S.draft store.new) }
     ensures store_later { S.faults store.old ≤ S.faults store.new }
     ensures later { D.faults door.old ≤ D.faults door.new }
     ensures cause { IsErrOf result DoorFault → Rose (D.faults door.old) (D.faults door.new) }

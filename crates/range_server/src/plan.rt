@@ -125,8 +125,10 @@ fn plan_name<S: Source>(
 ) -> Result<Reply, Failed>
     ensures sound { IfOk result IsSound }
     ensures body { IfOk result (λ reply. WhereTold (S.objects store.old) (λ m. HasBody m reply)) }
-    ensures reply { IfOk result (λ reply. IfSome (S.objects store.old) (λ m. reply ≡ by_name m head_alone (option_map (λ b. b.now) range.entry) close name)) }
-    ensures kept { OnlyReads (S.objects store.old) (S.objects store.new) (S.draft store.old) (S.draft store.new) }
+    ensures reply { IfOk result (λ reply. IfSome (S.objects store.old) (λ m.
+        reply ≡ by_name m head_alone (option_map (λ b. b.now) range.entry) close name)) }
+    ensures kept { OnlyReads (S.objects store.old) (S.objects store.new) (S.draft store.old)
+        (S.draft store.new) }
     ensures cause { HasCause (S.faults store.old) (S.faults store.new) result }
 {
     let Some(name) = name else {
@@ -150,8 +152,11 @@ fn plan_parts<S: Source>(
 ) -> Result<Reply, Failed>
     ensures sound { IfOk result IsSound }
     ensures body { IfOk result (λ reply. WhereTold (S.objects store.old) (λ m. HasBody m reply)) }
-    ensures reply { IfOk result (λ reply. IfSome (S.objects store.old) (λ m. reply ≡ judged m dataset.now body method.now target.now (option_map (λ b. b.now) range.entry) close)) }
-    ensures kept { OnlyReads (S.objects store.old) (S.objects store.new) (S.draft store.old) (S.draft store.new) }
+    ensures reply { IfOk result (λ reply. IfSome (S.objects store.old) (λ m.
+        reply ≡ judged m dataset.now body method.now target.now
+        (option_map (λ b. b.now) range.entry) close)) }
+    ensures kept { OnlyReads (S.objects store.old) (S.objects store.new) (S.draft store.old)
+        (S.draft store.new) }
     ensures cause { HasCause (S.faults store.old) (S.faults store.new) result }
 {
     if body {
@@ -186,8 +191,10 @@ pub(crate) fn plan_head<S: Source>(
     requires short { length received.now ≤ 8192 }
     ensures sound { IfOk result IsSound }
     ensures body { IfOk result (λ reply. WhereTold (S.objects store.old) (λ m. HasBody m reply)) }
-    ensures reply { IfOk result (λ reply. IfSome (S.objects store.old) (λ m. IsPlan m dataset.now received.now reply)) }
-    ensures kept { OnlyReads (S.objects store.old) (S.objects store.new) (S.draft store.old) (S.draft store.new) }
+    ensures reply { IfOk result (λ reply. IfSome (S.objects store.old) (λ m.
+        IsPlan m dataset.now received.now reply)) }
+    ensures kept { OnlyReads (S.objects store.old) (S.objects store.new) (S.draft store.old)
+        (S.draft store.new) }
     ensures cause { HasStoreCause (S.faults store.old) (S.faults store.new) result }
 {
     let Ok(fields) = read_fields(alloc, received, spans, parts) else {
@@ -227,9 +234,12 @@ pub fn plan_reply<S: Source>(
 ) -> Result<Reply, OutOfMemory>
     requires head { (h : RequestHead) × ReadsRequest head.now h [] }
     requires short { length head.now ≤ 8192 }
-    ensures planned { IfOk result (λ reply. reply.status ≢ 500 → IfSome (S.objects store.old) (λ m. IsPlan m dataset.now head.now reply)) }
-    ensures failed { IfOk result (λ reply. reply.status ≡ 500 → (reply ≡ failed_reply) × Rose (S.faults store.old) (S.faults store.new)) }
-    ensures kept { OnlyReads (S.objects store.old) (S.objects store.new) (S.draft store.old) (S.draft store.new) }
+    ensures planned { IfOk result (λ reply. reply.status ≢ 500 →
+        IfSome (S.objects store.old) (λ m. IsPlan m dataset.now head.now reply)) }
+    ensures failed { IfOk result (λ reply. reply.status ≡ 500 → (reply ≡ failed_reply) ×
+        Rose (S.faults store.old) (S.faults store.new)) }
+    ensures kept { OnlyReads (S.objects store.old) (S.objects store.new) (S.draft store.old)
+        (S.draft store.new) }
     ensures later { S.faults store.old ≤ S.faults store.new }
 {
     let mut spans = reserve_spans(alloc, 4096)?;
@@ -271,9 +281,11 @@ pub(crate) fn plan_numbered<S: Source>(
     requires short { length received.now ≤ 8192 }
     ensures sound { IfOk result IsSound }
     ensures body { IfOk result (λ reply. WhereTold (S.objects store.old) (λ m. HasBody m reply)) }
-    ensures reply { IfOk result (λ reply. WhereTold (S.objects store.old) (λ m. IsPlanAt number m dataset.now received.now reply)) }
+    ensures reply { IfOk result (λ reply. WhereTold (S.objects store.old) (λ m.
+        IsPlanAt number m dataset.now received.now reply)) }
     ensures last { IfOk result (λ reply. number ≡ 65535 → reply.close ≡ true) }
-    ensures kept { OnlyReads (S.objects store.old) (S.objects store.new) (S.draft store.old) (S.draft store.new) }
+    ensures kept { OnlyReads (S.objects store.old) (S.objects store.new) (S.draft store.old)
+        (S.draft store.new) }
     ensures cause { HasStoreCause (S.faults store.old) (S.faults store.new) result }
 {
     match plan_head(alloc, received, spans, parts, store, dataset) {

@@ -3,7 +3,7 @@ use vol_base::Name;
 
 /// A reply: its status, the object at 200 and 206, how many bytes follow and from which byte on, the length of
 /// the object at 200, 206 and 416, whether the connection ends behind it, and whether its bytes follow.
-#[derive(Drop)]
+#[derive(Debug, Drop)]
 pub struct Reply {
     pub status: u16,
     pub name: Option<Name>,

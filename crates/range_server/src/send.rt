@@ -3,7 +3,8 @@ ghost use Rattle.std.specs.Prelude.{◌≡◌, ◌≢◌, ◌+◌, ◌-◌, ◌<
 ghost use Rattle.vol_base.specs.Causes.{HasCause};
 ghost use Rattle.vol_base.specs.Outside.{OnlyReads, part};
 ghost use Rattle.range_server.specs.declared.fault.ServeFault.TheVariants.{OutOfMemory};
-ghost use Rattle.range_server.specs.Bodies.{CutsPart, Gains, GainsFront, HasServeCause, IsPiece, SendsPart, WhereTold, object_in};
+ghost use Rattle.vol_base.specs.Gains.{Gains, GainsFront};
+ghost use Rattle.range_server.specs.Bodies.{CutsPart, HasServeCause, IsPiece, SendsPart, WhereTold, object_in};
 
 use crate::fault::ServeFault;
 use vol_base::{Failed, Got, Link, Name, Source};
@@ -34,8 +35,10 @@ pub(crate) fn read_piece<S: Source>(
     out: &mut [u8],
 ) -> Result<(), Failed>
     requires { at + length out.old < 2 ^ 64 }
-    ensures bytes { OnOk result (WhereTold (S.objects store.old) (λ m. IsPiece (object_in m (Some name.now)) at out.old out.new)) }
-    ensures kept { OnlyReads (S.objects store.old) (S.objects store.new) (S.draft store.old) (S.draft store.new) }
+    ensures bytes { OnOk result (WhereTold (S.objects store.old) (λ m.
+        IsPiece (object_in m (Some name.now)) at out.old out.new)) }
+    ensures kept { OnlyReads (S.objects store.old) (S.objects store.new) (S.draft store.old)
+        (S.draft store.new) }
     ensures cause { HasCause (S.faults store.old) (S.faults store.new) result }
 {
     let given = match store.read_at(name, at, out)? {
@@ -56,13 +59,18 @@ fn send_piece<L: Link, S: Source>(
 ) -> Result<(), ServeFault>
     requires some { 0 < length piece.old }
     requires within { at + length piece.old < 2 ^ 64 }
-    ensures sent { OnOk result (WhereTold (S.objects store.old) (λ m. SendsPart (object_in m (Some name.now)) at (length piece.old) (L.sent link.old) (L.sent link.new))) }
-    ensures cut { IfErr result (λ fault. WhereTold (S.objects store.old) (λ m. CutsPart (object_in m (Some name.now)) at (length piece.old) (L.sent link.old) (L.sent link.new) fault)) }
+    ensures sent { OnOk result (WhereTold (S.objects store.old) (λ m.
+        SendsPart (object_in m (Some name.now)) at (length piece.old) (L.sent link.old) (L.sent link.new))) }
+    ensures cut { IfErr result (λ fault. WhereTold (S.objects store.old) (λ m.
+        CutsPart (object_in m (Some name.now)) at (length piece.old) (L.sent link.old)
+        (L.sent link.new) fault)) }
     ensures memory { IfErr result (λ fault. fault ≢ OutOfMemory) }
     ensures left { L.left link.new ≡ L.left link.old }
     ensures stream { L.stream link.new ≡ L.stream link.old }
-    ensures kept { OnlyReads (S.objects store.old) (S.objects store.new) (S.draft store.old) (S.draft store.new) }
-    ensures cause { HasServeCause (L.faults link.old) (L.faults link.new) (S.faults store.old) (S.faults store.new) result }
+    ensures kept { OnlyReads (S.objects store.old) (S.objects store.new) (S.draft store.old)
+        (S.draft store.new) }
+    ensures cause { HasServeCause (L.faults link.old) (L.faults link.new) (S.faults store.old)
+        (S.faults store.new) result }
 {
     match read_piece(store, name, at, piece) {
         Ok(()) => {}
@@ -85,13 +93,17 @@ pub(crate) fn send_rest<L: Link, S: Source>(
 ) -> Result<(), ServeFault>
     requires room { 0 < length piece.old }
     requires order { from ≤ end }
-    ensures sent { OnOk result (WhereTold (S.objects store.old) (λ m. SendsPart (object_in m (Some name.now)) from (end - from) (L.sent link.old) (L.sent link.new))) }
-    ensures cut { IfErr result (λ fault. WhereTold (S.objects store.old) (λ m. CutsPart (object_in m (Some name.now)) from (end - from) (L.sent link.old) (L.sent link.new) fault)) }
+    ensures sent { OnOk result (WhereTold (S.objects store.old) (λ m.
+        SendsPart (object_in m (Some name.now)) from (end - from) (L.sent link.old) (L.sent link.new))) }
+    ensures cut { IfErr result (λ fault. WhereTold (S.objects store.old) (λ m.
+        CutsPart (object_in m (Some name.now)) from (end - from) (L.sent link.old) (L.sent link.new) fault)) }
     ensures memory { IfErr result (λ fault. fault ≢ OutOfMemory) }
     ensures left { L.left link.new ≡ L.left link.old }
     ensures stream { L.stream link.new ≡ L.stream link.old }
-    ensures kept { OnlyReads (S.objects store.old) (S.objects store.new) (S.draft store.old) (S.draft store.new) }
-    ensures cause { HasServeCause (L.faults link.old) (L.faults link.new) (S.faults store.old) (S.faults store.new) result }
+    ensures kept { OnlyReads (S.objects store.old) (S.objects store.new) (S.draft store.old)
+        (S.draft store.new) }
+    ensures cause { HasServeCause (L.faults link.old) (L.faults link.new) (S.faults store.old)
+        (S.faults store.new) result }
 {
     let mut at = from;
     while at < end {

@@ -57,12 +57,16 @@ pub fn serve_conn<L: Link, S: Source>(
     dataset: &Name,
 ) -> Result<(), ServeFault>
     ensures served { OnOk result (WhereTold (S.objects store.old) (λ m. WhereTold (L.left link.old)
-        (λ stream. Gained (Served m dataset.now (S.faults store.old) (S.faults store.new) stream) (L.sent link.old) (L.sent link.new)))) }
+        (λ stream. Gained (Served m dataset.now (S.faults store.old) (S.faults store.new) stream)
+        (L.sent link.old) (L.sent link.new)))) }
     ensures stopped { IfErr result (λ fault. WhereTold (S.objects store.old) (λ m. WhereTold (L.left link.old)
-        (λ stream. Gained (Stopped m dataset.now (S.faults store.old) (S.faults store.new) fault stream) (L.sent link.old) (L.sent link.new)))) }
+        (λ stream. Gained (Stopped m dataset.now (S.faults store.old) (S.faults store.new) fault stream)
+        (L.sent link.old) (L.sent link.new)))) }
     ensures stream { L.stream link.new ≡ L.stream link.old }
-    ensures kept { OnlyReads (S.objects store.old) (S.objects store.new) (S.draft store.old) (S.draft store.new) }
-    ensures cause { HasServeCause (L.faults link.old) (L.faults link.new) (S.faults store.old) (S.faults store.new) result }
+    ensures kept { OnlyReads (S.objects store.old) (S.objects store.new) (S.draft store.old)
+        (S.draft store.new) }
+    ensures cause { HasServeCause (L.faults link.old) (L.faults link.new) (S.faults store.old)
+        (S.faults store.new) result }
 {
     let mut desk = match open_desk(alloc) {
         Ok(desk) => desk,
@@ -77,7 +81,9 @@ pub fn serve_conn<L: Link, S: Source>(
 /// A stream has one list of replies. Of ends that were served one after the other, and whose link didn't fail, no more
 /// are not whole than the store's count of faults rose by, or that count is at its end.
 pub fn tell_replies()
-    ensures one { (m : Objects) (dataset stream out more : List ℕ) → AreReplies m dataset stream out → AreReplies m dataset stream more → out ≡ more }
-    ensures few { (m : Objects) (dataset : List ℕ) (before now : ℕ) (ends : List Ended) → EndsServed m dataset before now ends
+    ensures one { (m : Objects) (dataset stream out more : List ℕ) → AreReplies m dataset stream out →
+        AreReplies m dataset stream more → out ≡ more }
+    ensures few { (m : Objects) (dataset : List ℕ) (before now : ℕ) (ends : List Ended) →
+        EndsServed m dataset before now ends
         → (most_count ≤ now) ⊎ AtMostBroken m dataset ends (now - before) }
 {}

@@ -2,7 +2,8 @@
 ghost use Rattle.std.specs.Prelude.{◌≡◌, ◌≢◌, ◌+◌, ◌<◌, ◌≤◌, ◌++◌, ℕ, List, [], length, take, IfErr, IfOk, IsErrOf, OnOk};
 ghost use Rattle.vol_base.specs.Causes.{HasCause, Rose};
 ghost use Rattle.vol_base.specs.Outside.{OnlyReads};
-ghost use Rattle.range_server.specs.Bodies.{bad_bytes, Cuts, CutsReply, Gains, HasBody, HasServeCause, IsLead, Sends, WhereTold, body_in, failed_bytes};
+ghost use Rattle.vol_base.specs.Gains.{Gains};
+ghost use Rattle.range_server.specs.Bodies.{bad_bytes, Cuts, CutsReply, HasBody, HasServeCause, IsLead, Sends, WhereTold, body_in, failed_bytes};
 ghost use Rattle.range_server.specs.Plans.{IsSound};
 ghost use Rattle.range_server.specs.declared.reply.Sent.TheVariants.{Broken};
 ghost use Rattle.range_server.specs.declared.fault.ServeFault.TheVariants.{LinkFault, OutOfMemory, StoreFault};
@@ -41,8 +42,10 @@ fn load_lead<S: Source>(
     requires fits { reply.now.from + reply.now.count ≤ reply.now.total }
     ensures within { IfOk result (λ r. r.0 ≤ length piece.old) }
     ensures taken { IfOk result (λ r. r.1 ≤ reply.now.count) }
-    ensures lead { IfOk result (λ r. WhereTold (S.objects store.old) (λ m. HasBody m reply.now → IsLead head.now (body_in m reply.now) r.1 (take r.0 piece.new))) }
-    ensures kept { OnlyReads (S.objects store.old) (S.objects store.new) (S.draft store.old) (S.draft store.new) }
+    ensures lead { IfOk result (λ r. WhereTold (S.objects store.old) (λ m. HasBody m reply.now →
+        IsLead head.now (body_in m reply.now) r.1 (take r.0 piece.new))) }
+    ensures kept { OnlyReads (S.objects store.old) (S.objects store.new) (S.draft store.old)
+        (S.draft store.new) }
     ensures cause { HasCause (S.faults store.old) (S.faults store.new) result }
 {
     let _total = reply.total;
@@ -73,12 +76,18 @@ fn send_loaded<L: Link, S: Source>(
     requires filled { loaded.0 ≤ length piece.old }
     requires taken { loaded.1 ≤ reply.now.count }
     requires fits { reply.now.from + reply.now.count ≤ reply.now.total }
-    ensures sent { OnOk result (WhereTold (S.objects store.old) (λ m. HasBody m reply.now → (head : List ℕ) → IsLead head (body_in m reply.now) loaded.1 (take loaded.0 piece.old) → Gains (L.sent link.old) (L.sent link.new) (head ++ body_in m reply.now))) }
-    ensures cut { IfErr result (λ fault. WhereTold (S.objects store.old) (λ m. HasBody m reply.now → (head : List ℕ) → IsLead head (body_in m reply.now) loaded.1 (take loaded.0 piece.old) → CutsReply head (body_in m reply.now) (L.sent link.old) (L.sent link.new) fault)) }
+    ensures sent { OnOk result (WhereTold (S.objects store.old) (λ m. HasBody m reply.now → (head : List ℕ) →
+        IsLead head (body_in m reply.now) loaded.1 (take loaded.0 piece.old) →
+        Gains (L.sent link.old) (L.sent link.new) (head ++ body_in m reply.now))) }
+    ensures cut { IfErr result (λ fault. WhereTold (S.objects store.old) (λ m. HasBody m reply.now →
+        (head : List ℕ) → IsLead head (body_in m reply.now) loaded.1 (take loaded.0 piece.old) →
+        CutsReply head (body_in m reply.now) (L.sent link.old) (L.sent link.new) fault)) }
     ensures left { L.left link.new ≡ L.left link.old }
     ensures stream { L.stream link.new ≡ L.stream link.old }
-    ensures kept { OnlyReads (S.objects store.old) (S.objects store.new) (S.draft store.old) (S.draft store.new) }
-    ensures cause { HasServeCause (L.faults link.old) (L.faults link.new) (S.faults store.old) (S.faults store.new) result }
+    ensures kept { OnlyReads (S.objects store.old) (S.objects store.new) (S.draft store.old)
+        (S.draft store.new) }
+    ensures cause { HasServeCause (L.faults link.old) (L.faults link.new) (S.faults store.old)
+        (S.faults store.new) result }
 {
     let total = reply.total;
     prove!(reply.from + reply.count <= total);
@@ -128,14 +137,19 @@ pub(crate) fn send_reply<L: Link, S: Source>(
 ) -> Result<Sent, ServeFault>
     requires room { 512 ≤ length writer.old.piece.items }
     requires fits { reply.now.from + reply.now.count ≤ reply.now.total }
-    ensures sent { IfOk result (λ sent. WhereTold (S.objects store.old) (λ m. HasBody m reply.now → Sends m reply.now (L.sent link.old) (L.sent link.new) sent)) }
+    ensures sent { IfOk result (λ sent. WhereTold (S.objects store.old) (λ m. HasBody m reply.now →
+        Sends m reply.now (L.sent link.old) (L.sent link.new) sent)) }
     ensures broken { IfOk result (λ sent. sent ≡ Broken → Rose (S.faults store.old) (S.faults store.new)) }
-    ensures cut { IfErr result (λ fault. WhereTold (S.objects store.old) (λ m. HasBody m reply.now → Cuts m reply.now (S.faults store.old) (S.faults store.new) (L.sent link.old) (L.sent link.new) fault)) }
+    ensures cut { IfErr result (λ fault. WhereTold (S.objects store.old) (λ m. HasBody m reply.now →
+        Cuts m reply.now (S.faults store.old) (S.faults store.new) (L.sent link.old)
+        (L.sent link.new) fault)) }
     ensures room { length writer.new.piece.items ≡ length writer.old.piece.items }
     ensures left { L.left link.new ≡ L.left link.old }
     ensures stream { L.stream link.new ≡ L.stream link.old }
-    ensures kept { OnlyReads (S.objects store.old) (S.objects store.new) (S.draft store.old) (S.draft store.new) }
-    ensures cause { HasServeCause (L.faults link.old) (L.faults link.new) (S.faults store.old) (S.faults store.new) result }
+    ensures kept { OnlyReads (S.objects store.old) (S.objects store.new) (S.draft store.old)
+        (S.draft store.new) }
+    ensures cause { HasServeCause (L.faults link.old) (L.faults link.new) (S.faults store.old)
+        (S.faults store.new) result }
 {
     match write_head(&mut writer.text, reply) {
         Ok(()) => {}

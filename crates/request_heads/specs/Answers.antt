@@ -1,4 +1,4 @@
--- What judging a front, and waiting for a head, answer.
+-- What judging a front, and waiting for a head, answer (this project's).
 use Rattle.std.specs.Prelude.{◌≡◌, ◌≢◌, ◌<◌, ℕ, List, [], length, ⊤}
 use Rattle.httparse.specs.Grammar.{RequestHead, HasNoRequest, NeverHasRequest}
 use Rattle.httparse.specs.Spans.{IsRequestOf, IsRequestWithin}
@@ -11,7 +11,8 @@ use Rattle.request_heads.specs.declared.kinds.Next.TheVariants as next
 
 -- the front of what comes is a whole head, not yet one, or none whatever follows
 abbrev pub IsFront : List ℕ → List HeaderSpan → Front → Type 0
-IsFront received spans (front.Head parts) = IsRequestWithin received spans parts × IsRequestOf received spans parts
+IsFront received spans (front.Head parts) = IsRequestWithin received spans parts ×
+    IsRequestOf received spans parts
 IsFront received spans front.Partial = HasNoRequest received
 IsFront received spans front.Never = (0 < length received) × NeverHasRequest received
 
@@ -23,6 +24,7 @@ IsNext stream next.Bad = (stream ≢ []) × HasNoHead stream
 
 -- the parts are those of the head at the front of what was received
 abbrev pub HasParts : List ℕ → List HeaderSpan → Next → Type 0
-HasParts received spans (next.Head parts) = IsRequestWithin received spans parts × IsRequestOf received spans parts
+HasParts received spans (next.Head parts) = IsRequestWithin received spans parts ×
+    IsRequestOf received spans parts
 HasParts received spans next.End = ⊤
 HasParts received spans next.Bad = ⊤

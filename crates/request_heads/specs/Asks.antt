@@ -1,4 +1,5 @@
--- What the fields of a request ask.
+-- What the fields of a request ask: a body (RFC 9112, section 6), an end of the connection (RFC 9112,
+-- sections 9.3 and 9.6), a range (RFC 9110, sections 13.1.5 and 14.2).
 use Rattle.std.specs.Prelude.{ℕ, Bool, ◌||◌, not, nat_lt, ◌==◌, List, [], ◌∷◌, length, map, filter, Option, Some, None, bytes_eq, codes}
 use Rattle.std.specs.List.{list_any}
 use Rattle.httparse.specs.Grammar.{Field, RequestHead, field_value}
@@ -13,10 +14,12 @@ values_of name fields = map field_value (filter (λ f. bytes_eq (lowercase f.nam
 
 -- a body comes, or may come, behind the head
 abbrev pub brings_body : List (List ℕ) → List (List ℕ) → Bool
-brings_body codings lengths = nat_lt 0 (length codings) || list_any (λ v. not (bytes_eq v (codes "0"))) lengths
+brings_body codings lengths = nat_lt 0 (length codings) || list_any (λ v.
+    not (bytes_eq v (codes "0"))) lengths
 
 abbrev pub has_body : List Field → Bool
-has_body fields = brings_body (values_of (codes "transfer-encoding") fields) (values_of (codes "content-length") fields)
+has_body fields = brings_body (values_of (codes "transfer-encoding") fields)
+    (values_of (codes "content-length") fields)
 
 -- the connection is to end behind the reply: HTTP/1.0, or `close` is a member of a Connection field
 abbrev pub closes : RequestHead → Bool

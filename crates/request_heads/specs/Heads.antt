@@ -1,4 +1,4 @@
--- Heads of requests in a stream.
+-- Heads of requests in a stream (RFC 9112, sections 2 to 5, by the statements of `httparse`).
 use Rattle.std.specs.Prelude.{◌<◌, ◌≤◌, ℕ, List, ◌++◌, length, take, Option, option_map}
 use Rattle.httparse.specs.Grammar.{RequestHead, ReadsRequest, print_request}
 
@@ -9,7 +9,8 @@ pub record BeginsWith (stream : List ℕ) (head : RequestHead) (rest : List ℕ)
 
 -- no prefix of at most 8,192 bytes is a head
 abbrev pub HasNoHead : List ℕ → Type 0
-HasNoHead stream = (head : RequestHead) (rest : List ℕ) → ReadsRequest stream head rest → 8192 < length (print_request head)
+HasNoHead stream = (head : RequestHead) (rest : List ℕ) → ReadsRequest stream head rest →
+    8192 < length (print_request head)
 
 -- what was received and not yet used, and then what is left to receive, where that is told
 abbrev pub pending : List ℕ → ℕ → Option (List ℕ) → Option (List ℕ)

@@ -10,7 +10,8 @@ use http_header::HeaderMap;
 
 // Whether a length of a body isn't `0`.
 fn has_length(fields: &HeaderMap) -> bool
-    ensures { result ≡ list_any (λ v. not (bytes_eq v (codes "0"))) (bytes_of fields.now (codes "content-length")) }
+    ensures { result ≡ list_any (λ v. not (bytes_eq v (codes "0")))
+        (bytes_of fields.now (codes "content-length")) }
 {
     fields
         .get_all("content-length")
@@ -20,7 +21,8 @@ fn has_length(fields: &HeaderMap) -> bool
 
 /// Whether a body comes, or may come, behind the head.
 pub fn has_body(fields: &HeaderMap) -> bool
-    ensures { result ≡ brings_body (bytes_of fields.now (codes "transfer-encoding")) (bytes_of fields.now (codes "content-length")) }
+    ensures { result ≡ brings_body (bytes_of fields.now (codes "transfer-encoding"))
+        (bytes_of fields.now (codes "content-length")) }
 {
     fields.get("transfer-encoding").is_some() || has_length(fields)
 }
@@ -37,7 +39,8 @@ pub fn asks_close(fields: &HeaderMap) -> bool
 
 /// The only range value, unless it is asked on a condition.
 pub fn find_range(fields: &HeaderMap) -> Option<&[u8]>
-    ensures { option_map (λ b. b.now) result ≡ only_range (bytes_of fields.now (codes "range")) (bytes_of fields.now (codes "if-range")) }
+    ensures { option_map (λ b. b.now) result ≡ only_range (bytes_of fields.now (codes "range"))
+        (bytes_of fields.now (codes "if-range")) }
 {
     if fields.get("if-range").is_some() {
         return None;

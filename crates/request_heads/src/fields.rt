@@ -51,7 +51,8 @@ fn add_field(
     requires value { IsFieldValue (span_bytes received.now span.now.value) }
     requires names { length map.old ≤ 4096 }
     requires values { value_count map.old ≤ 4096 }
-    ensures { OnOk result (map.new ≡ append map.old (entry_of (header_bytes received.now span.now)).0 (entry_of (header_bytes received.now span.now)).1) }
+    ensures { OnOk result (map.new ≡ append map.old (entry_of (header_bytes received.now span.now)).0
+        (entry_of (header_bytes received.now span.now)).1) }
 {
     let name = read_name(alloc, span.name.of(received))?;
     let value = read_value(alloc, span.value.of(received))?;
@@ -76,7 +77,8 @@ pub fn read_fields(
     requires parts { IsRequestOf received.now spans.now parts.now }
     requires few { length spans.now ≤ 4096 }
     requires short { length received.now ≤ 8192 }
-    ensures { IfOk result (λ map. (head : RequestHead) (rest : List ℕ) → ReadsRequest received.now head rest → map ≡ field_map head.fields) }
+    ensures { IfOk result (λ map. (head : RequestHead) (rest : List ℕ) → ReadsRequest received.now head rest →
+        map ≡ field_map head.fields) }
 {
     let mut map = HeaderMap::new(alloc);
     for number in 0..parts.headers {

@@ -14,7 +14,8 @@ fn receive<L: Link>(link: &mut L, buffer: &mut [u8], len: usize) -> Result<usize
     requires { len < length buffer.old }
     ensures more { IfOk result (λ n. len ≤ n) }
     ensures within { IfOk result (λ n. n ≤ length buffer.old) }
-    ensures pending { IfOk result (λ n. pending buffer.new n (L.left link.new) ≡ pending buffer.old len (L.left link.old)) }
+    ensures pending { IfOk result (λ n. pending buffer.new n (L.left link.new)
+        ≡ pending buffer.old len (L.left link.old)) }
     ensures end { IfOk result (λ n. n ≡ len → IfSome (L.left link.old) (λ bytes. bytes ≡ [])) }
     ensures kept { take len buffer.new ≡ take len buffer.old }
     ensures sent { L.sent link.new ≡ L.sent link.old }
@@ -40,9 +41,11 @@ pub fn read_head<L: Link>(
     requires within { len ≤ 8192 }
     requires room { 4096 ≤ length spans.old }
     ensures within { IfOk result (λ r. r.1 ≤ 8192) }
-    ensures next { IfOk result (λ r. IfSome (pending buffer.old len (L.left link.old)) (λ stream. IsNext stream r.0)) }
+    ensures next { IfOk result (λ r. IfSome (pending buffer.old len (L.left link.old)) (λ stream.
+        IsNext stream r.0)) }
     ensures parts { IfOk result (λ r. HasParts (take r.1 buffer.new) spans.new r.0) }
-    ensures pending { IfOk result (λ r. pending buffer.new r.1 (L.left link.new) ≡ pending buffer.old len (L.left link.old)) }
+    ensures pending { IfOk result (λ r. pending buffer.new r.1 (L.left link.new)
+        ≡ pending buffer.old len (L.left link.old)) }
     ensures sent { L.sent link.new ≡ L.sent link.old }
     ensures stream { L.stream link.new ≡ L.stream link.old }
     ensures cause { HasCause (L.faults link.old) (L.faults link.new) result }

@@ -20,6 +20,7 @@ pub fn read_count(text: &[u8]) -> Option<u64>
     Some(count)
 }
 
+/// Whether a byte is a space or a tab.
 pub(crate) fn is_blank(b: u8) -> bool
     ensures { result ≡ is_blank b }
 {
@@ -46,7 +47,7 @@ fn is_close(member: &[u8]) -> bool
     trim(member).eq_ignore_ascii_case(b"close")
 }
 
-// The bytes without the blanks at both ends.
+/// The bytes without the blanks, spaces and tabs, at both ends.
 pub fn trim(text: &[u8]) -> &[u8]
     ensures { result.now ≡ trimmed text.now }
 {

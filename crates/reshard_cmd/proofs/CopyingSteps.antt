@@ -1,6 +1,8 @@
 -- What a copier's jobs are stored as, and what storing them answers.
 use Rattle.std.proofs.Common.{◌≡◌, ◌∙◌, ℕ, ◌+◌, ◌<◌, ◌≤◌, ◌^◌, List, [], length, map, get_or, Option, Some, None, IfSome, false, refl, ap, sym, subst, arith}
-use Rattle.std.specs.Prelude.{Result, Ok, Err}
+use Rattle.std.specs.Prelude.{Contains, Result, Ok, Err}
+use Rattle.std.specs.FinMap as fin
+use Rattle.std.proofs.lemmas.List.{get_or_default}
 use Rattle.vol_base.specs.Outside.{HaveBytes, Objects, any_under}
 use Rattle.vol_base.specs.declared.faults.Fault.{Fault}
 use Rattle.vol_spec.specs.BoxValues.{first_some}
@@ -8,27 +10,29 @@ use Rattle.vol_spec.specs.CellNames.{folder_of}
 use Rattle.vol_spec.specs.Copies.{AreOfOneVolume, copied_cells, copied_raw, copy, is_copied}
 use Rattle.vol_spec.specs.Cut.{first_fault}
 use Rattle.vol_spec.specs.Grid.{cell_box}
-use Rattle.vol_spec.specs.StoredCells.{put_in}
+use Rattle.vol_spec.specs.StoredBytes.{object_of}
+use Rattle.vol_spec.specs.StoredCells.{cell_of, put_in}
 use Rattle.vol_spec.specs.StoredLists.{in_key_order, stored_list}
 use Rattle.vol_spec.specs.Writable.{IsWritable}
 use Rattle.vol_spec.specs.declared.scale.Scale.{Scale}
 use Rattle.copy_laws.proofs.CopyLaw.{copied_sound, copied_value}
 use Rattle.copy_laws.proofs.CopySteps.{are_apart}
-use Rattle.copy_laws.proofs.CopyValues.{AreInOrder-copied_cells}
+use Rattle.chunk_laws.specs.Told.{HasNoFault}
+use Rattle.copy_laws.proofs.CopyValues.{AreInOrder-copied_cells, none_anywhere}
 use Rattle.copier.proofs.MarkSteps.{few_pass}
 use Rattle.copier.specs.Held.{Held, IsApart, cells_of, work_of}
-use Rattle.shard_writer.proofs.PlannedSteps.{by_place, chunk_by}
+use Rattle.shard_writer.proofs.PlannedSteps.{by_place, chunk_by, stored_by_key}
+use Rattle.shard_writer.specs.Writing as spared
 use Rattle.shard_writer.specs.Writing.{KnowsLens, PutsFront, PutsJobs, PutsSome, WritesAll, first_of_jobs, job_objects, joint_len, told_objects}
 use Rattle.shard_writer.specs.declared.written.Written.{Written}
 use Rattle.shard_writer.specs.declared.written.WriteFault.{WriteFault}
 use Rattle.shard_writer.specs.declared.written.WriteFault.TheVariants as writes
-use Rattle.write_plan.proofs.KeySteps.{distinct_cells, length-in_key_order}
+use Rattle.write_plan.proofs.KeySteps.{distinct_cells, length-in_key_order, to_key_order}
 use Rattle.write_plan.specs.Pairs.{cell_count}
-use Rattle.reshard_cmd.specs.Resharding.{Copies, HasCopyJobs, IsCopied, copy_fault, copy_list}
+use Rattle.reshard_cmd.specs.Resharding.{Copies, HasCopyJobs, IsCopied, PutsCopyFront, SparesFaulty, copy_fault, copy_list}
 use Rattle.reshard_cmd.specs.declared.fault.ReshardFault.{ReshardFault}
 use Rattle.reshard_cmd.specs.declared.fault.ReshardFault.TheVariants.{Damaged}
 use Rattle.reshard_cmd.proofs.FaultSteps.{first_is, none_is}
-use Rattle.reshard_cmd.proofs.ObjectSteps.{stored_by_key}
 
 -- the copy is few cells,
 pub few_copied : (m : Objects) (dataset : List ℕ) (from to : Scale) → cell_count to ≤ 2 ^ 22 → length (copied_cells m dataset from to) ≤ 2 ^ 22
@@ -76,8 +80,18 @@ module _ (m : Objects) (h : Held) (to_dataset : List ℕ) (to : Scale) (scale : 
       let count = copier_count in
       are_apart m h.dataset to_dataset h.from to none (omega (arith, count, some))
 
-  front_of : (now : Option Objects) → PutsSome to_dataset (work_of h) (Some m) now → PutsFront (copy_list m h.dataset h.from to_dataset to) m now
-  front_of now front = subst (λ list. PutsFront list m now) copier_objects front
+  -- the objects of jobs with a fault are those of the cells
+  spares_of : (now : Option Objects) → spared.SparesFaulty to_dataset (work_of h) (Some m) now → SparesFaulty m now h.dataset h.from to_dataset to
+  spares_of None spares = tt
+  spares_of (Some n) spares = λ cell listed faulty.
+      let (k, low, at) = subst (λ cells. Contains cells cell) (sym jobs) (to_key_order to copied cell (AreInOrder-copied_cells m h.dataset h.from to).each listed) in
+      let is : cell_of (cells_of h) k ≡ cell = get_or_default (cells_of h) k [] cell low ∙ at in
+      let kept = spares k low (λ none. faulty (ap (λ s. first_fault m h.dataset h.from (cell_box s cell)) (sym scale) ∙ ap (λ c. first_fault m h.dataset h.from (cell_box h.to c)) (sym is) ∙ none)) in
+      subst (λ s. fin.get n (object_of to_dataset s cell) ≡ fin.get m (object_of to_dataset s cell)) scale
+      (subst (λ c. fin.get n (object_of to_dataset h.to c) ≡ fin.get m (object_of to_dataset h.to c)) is kept)
+
+  front_of : (now : Option Objects) → PutsSome to_dataset (work_of h) (Some m) now → spared.SparesFaulty to_dataset (work_of h) (Some m) now → PutsCopyFront m now h.dataset h.from to_dataset to
+  front_of now front spares = (subst (λ list. PutsFront list m now) copier_objects front, spares_of now spares)
 
   module _ (volume : AreOfOneVolume h.from to) (few : cell_count to ≤ 2 ^ 22) (can : IsWritable to) (none : any_under m (folder_of to_dataset to) ≡ false) (all_bytes : HaveBytes m) where
     stored : (written : Written) (now : Option Objects) → written.objects ≡ length (told_objects to_dataset (work_of h) (Some m)) → written.cells ≡ length (cells_of h)
@@ -105,18 +119,18 @@ copied_ok None now h to_dataset to written scale jobs volume few can none bytes 
 copied_ok (Some m) now h to_dataset to written scale jobs volume few can none bytes objects cells joint put first =
     stored m h to_dataset to scale jobs volume few can none bytes written now objects cells (joint tt) put first
 
-pub copied_front : (o now : Option Objects) (h : Held) (to_dataset : List ℕ) (to : Scale) → h.to ≡ to → IfSome o (λ m. HasCopyJobs m h to) → PutsSome to_dataset (work_of h) o now
-    → IfSome o (λ m. PutsFront (copy_list m h.dataset h.from to_dataset to) m now)
-copied_front None now h to_dataset to scale jobs front = tt
-copied_front (Some m) now h to_dataset to scale jobs front = front_of m h to_dataset to scale jobs now front
+pub copied_front : (o now : Option Objects) (h : Held) (to_dataset : List ℕ) (to : Scale) → h.to ≡ to → IfSome o (λ m. HasCopyJobs m h to) → PutsSome to_dataset (work_of h) o now → spared.SparesFaulty to_dataset (work_of h) o now
+    → IfSome o (λ m. PutsCopyFront m now h.dataset h.from to_dataset to)
+copied_front None now h to_dataset to scale jobs front spares = tt
+copied_front (Some m) now h to_dataset to scale jobs front spares = front_of m h to_dataset to scale jobs now front spares
 
 pub copied_damaged : (o now : Option Objects) (h : Held) (to_dataset : List ℕ) (to : Scale) (cell : List ℕ) (refusal : WriteFault) (fault : Fault) → h.to ≡ to → IfSome o (λ m. HasCopyJobs m h to)
-    → PutsSome to_dataset (work_of h) o now → refusal ≡ writes.Damaged cell fault → IfSome o (λ m. WritesAll {A = Written} (Err refusal) (first_of_jobs (work_of h) m))
+    → PutsSome to_dataset (work_of h) o now → spared.SparesFaulty to_dataset (work_of h) o now → refusal ≡ writes.Damaged cell fault → IfSome o (λ m. WritesAll {A = Written} (Err refusal) (first_of_jobs (work_of h) m))
     → IfSome o (λ m. Copies (Err (Damaged cell fault)) m now h.dataset h.from to_dataset to)
-copied_damaged None now h to_dataset to cell refusal fault scale jobs front is first = tt
-copied_damaged (Some m) now h to_dataset to cell refusal fault scale jobs front is first =
+copied_damaged None now h to_dataset to cell refusal fault scale jobs front spares is first = tt
+copied_damaged (Some m) now h to_dataset to cell refusal fault scale jobs front spares is first =
     let told : first_of_jobs (work_of h) m ≡ Some (cell, fault) = subst (λ r. WritesAll {A = Written} (Err r) (first_of_jobs (work_of h) m)) is first in
-    (first_is m h.dataset h.from to cell fault (sym (copier_fault m h to_dataset to scale jobs) ∙ told), front_of m h to_dataset to scale jobs now front)
+    (first_is m h.dataset h.from to cell fault (sym (copier_fault m h to_dataset to scale jobs) ∙ told), front_of m h to_dataset to scale jobs now front spares)
 
 pub apart_in : (o : Option Objects) (h : Held) (to_dataset : List ℕ) (to : Scale) → h.to ≡ to → IfSome o (λ m. HasCopyJobs m h to) → IfSome o (λ m. any_under m (folder_of to_dataset to) ≡ false)
     → IfSome o (λ m. IsApart h to_dataset to)
@@ -124,9 +138,21 @@ apart_in None h to_dataset to scale jobs none = tt
 apart_in (Some m) h to_dataset to scale jobs none = copier_apart m h to_dataset to scale jobs none
 
 -- nothing is put yet
-pub front_none : (o now : Option Objects) (from_dataset : List ℕ) (from : Scale) (to_dataset : List ℕ) (to : Scale) → now ≡ o → IfSome o (λ m. PutsFront (copy_list m from_dataset from to_dataset to) m now)
+pub front_none : (o now : Option Objects) (from_dataset : List ℕ) (from : Scale) (to_dataset : List ℕ) (to : Scale) → now ≡ o → IfSome o (λ m. PutsCopyFront m now from_dataset from to_dataset to)
 front_none None now from_dataset from to_dataset to e = tt
-front_none (Some m) now from_dataset from to_dataset to e = record { count = 0; within = omega arith; put = e }
+front_none (Some m) now from_dataset from to_dataset to e = (
+  record { count = 0; within = omega arith; put = e },
+  subst (λ o. SparesFaulty m o from_dataset from to_dataset to) (sym e) (λ cell listed faulty. refl),
+)
+
+-- all is put, of a source that has no fault
+pub front_whole : (m : Objects) (now : Option Objects) (from_dataset : List ℕ) (from : Scale) (to_dataset : List ℕ) (to : Scale) → PutsFront (copy_list m from_dataset from to_dataset to) m now → HasNoFault m from_dataset from
+    → PutsCopyFront m now from_dataset from to_dataset to
+front_whole m now from_dataset from to_dataset to front sound = (front, spares now)
+  where
+    spares : (now : Option Objects) → SparesFaulty m now from_dataset from to_dataset to
+    spares None = tt
+    spares (Some n) = λ cell listed faulty. absurd (faulty (none_anywhere m from_dataset from (cell_box to cell) sound))
 
 -- a copier's jobs, volume and objects in the words of the scale that it reads
 pub jobs_in : (o p : Option Objects) (h : Held) (dataset : List ℕ) (from to : Scale) → p ≡ o → h.dataset ≡ dataset → h.from ≡ from

@@ -1,4 +1,3 @@
 pub mod AnswerSteps
 pub mod CopyingSteps
 pub mod FaultSteps
-pub mod ObjectSteps

@@ -1,5 +1,5 @@
--- What is judged before a scale is copied: that both scales are of one volume, that no grid has too many cells, and that no object is under
--- the target's folder, in this order.
+-- What is judged before a scale is copied (this project's profile): that both scales are of one volume, that
+-- no grid has too many cells, and that no object is under the target's folder, in this order.
 use Rattle.std.specs.Prelude.{◌≡◌, ◌≢◌, ◌^◌, ℕ, nat_lt, true, false, Option, Some, None, Result, Ok, Err, ⊤, if◌then◌else◌}
 use Rattle.vol_base.specs.Outside.{Objects, any_under}
 use Rattle.vol_spec.specs.CellNames.{folder_of}
@@ -17,13 +17,15 @@ abbrev pub DiffersFirst : Scale → Scale → Item → Type 0
 DiffersFirst from to Size = from.size ≢ to.size
 DiffersFirst from to VoxelOffset = (from.size ≡ to.size) × (from.offset ≢ to.offset)
 DiffersFirst from to DataType = (from.size ≡ to.size) × (from.offset ≡ to.offset) × (from.width ≢ to.width)
-DiffersFirst from to NumChannels = (from.size ≡ to.size) × (from.offset ≡ to.offset) × (from.width ≡ to.width) × (from.channels ≢ to.channels)
+DiffersFirst from to NumChannels = (from.size ≡ to.size) × (from.offset ≡ to.offset) ×
+    (from.width ≡ to.width) × (from.channels ≢ to.channels)
 DiffersFirst from to other = ⊥
 
 -- the number of cells of the first grid, the source's or the target's, that has more than 2^22 (this project's limit)
 abbrev pub too_many : Scale → Scale → Option ℕ
 too_many from to =
-    if nat_lt (2 ^ 22) (cell_count from) then Some (cell_count from) else (if nat_lt (2 ^ 22) (cell_count to) then Some (cell_count to) else None)
+    if nat_lt (2 ^ 22) (cell_count from) then Some (cell_count from)
+    else (if nat_lt (2 ^ 22) (cell_count to) then Some (cell_count to) else None)
 
 -- what is answered by the scales alone
 abbrev pub Judges : {A : Type 0} → Result A ReshardFault → Scale → Scale → Type 0

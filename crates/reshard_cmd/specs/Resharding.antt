@@ -1,5 +1,6 @@
--- What copying a scale into another layout answers, and what stands after it.
-use Rattle.std.specs.Prelude.{◌≡◌, ◌⊎◌, true, false, map, length, Option, Some, Result, Ok, Err}
+-- What copying a scale into another layout answers, and what stands after it (this project's).
+use Rattle.std.specs.Prelude.{◌≡◌, ◌≢◌, ◌⊎◌, true, false, map, length, Option, Some, None, Result, Ok, Err, Contains, IfSome}
+use Rattle.std.specs.FinMap as fin
 use Rattle.vol_base.specs.Outside.{Draft, Objects, OnlyReads, any_under}
 use Rattle.vol_base.specs.declared.faults.Fault.{Fault}
 use Rattle.vol_spec.specs.BoxValues.{first_some}
@@ -8,6 +9,7 @@ use Rattle.vol_spec.specs.Chunks.{fault_in}
 use Rattle.vol_spec.specs.Copies.{copied_cells, copy}
 use Rattle.vol_spec.specs.Cut.{first_fault}
 use Rattle.vol_spec.specs.Grid.{IsCell, cell_box}
+use Rattle.vol_spec.specs.StoredBytes.{object_of}
 use Rattle.vol_spec.specs.StoredLists.{in_key_order, stored_list}
 use Rattle.vol_spec.specs.Types.{Cell, Listed, Name}
 use Rattle.vol_spec.specs.declared.scale.Scale.{Scale}
@@ -26,17 +28,33 @@ copy_list m from_dataset from to_dataset to = stored_list to_dataset to (copy m 
 -- the first fault of the source on the way: the cells that are copied are made in the order of their keys, and of each its box is read, x
 -- fastest
 abbrev pub copy_fault : Objects → Name → Scale → Scale → Option (Cell × Fault)
-copy_fault m dataset from to = first_some (map (λ cell. first_fault m dataset from (cell_box to cell)) (in_key_order to (copied_cells m dataset from to)))
+copy_fault m dataset from to = first_some (map (λ cell.
+    first_fault m dataset from (cell_box to cell)) (in_key_order to (copied_cells m dataset from to)))
+
+-- the object of each copied cell in whose box a cell of the source has a fault is as before: what has no value isn't stored
+abbrev pub SparesFaulty : Objects → Option Objects → Name → Scale → Name → Scale → Type 0
+SparesFaulty m now from_dataset from to_dataset to = IfSome now (λ n. (cell : Cell) →
+    Contains (copied_cells m from_dataset from to) cell →
+    first_fault m from_dataset from (cell_box to cell) ≢ None →
+    fin.get n (object_of to_dataset to cell) ≡ fin.get m (object_of to_dataset to cell))
+
+-- a front of the copy's objects was put in, none of them with a cell in whose box the source has a fault
+abbrev pub PutsCopyFront : Objects → Option Objects → Name → Scale → Name → Scale → Type 0
+PutsCopyFront m now from_dataset from to_dataset to =
+    PutsFront (copy_list m from_dataset from to_dataset to) m now
+    × SparesFaulty m now from_dataset from to_dataset to
 
 -- a cell of the source that has a fault, the first on the way
-pub record IsFirstFault (m : Objects) (dataset : Name) (from to : Scale) (cell : Cell) (fault : Fault) : Type 0 where
+pub record IsFirstFault (m : Objects) (dataset : Name) (from to : Scale) (cell : Cell)
+    (fault : Fault) : Type 0 where
   pub first : copy_fault m dataset from to ≡ Some (cell, fault)
   pub of_source : IsCell from cell
   pub its_own : fault_in m dataset from cell ≡ Some fault
 
 -- a copy was stored: its objects were put in and nothing else was changed, as many as are told; the source had no fault, each value of the
 -- target is the source's, and the target has no fault
-pub record IsCopied (m : Objects) (now : Option Objects) (from_dataset : Name) (from : Scale) (to_dataset : Name) (to : Scale) (written : Written) : Type 0 where
+pub record IsCopied (m : Objects) (now : Option Objects) (from_dataset : Name) (from : Scale)
+    (to_dataset : Name) (to : Scale) (written : Written) : Type 0 where
   pub put : now ≡ Some (copied_in m from_dataset from to_dataset to)
   pub objects : written.objects ≡ length (copy_list m from_dataset from to_dataset to)
   pub cells : written.cells ≡ length (copied_cells m from_dataset from to)
@@ -57,22 +75,31 @@ IsLate OutOfMemory = Unit {0}
 IsLate other = ⊥
 
 -- what storing a copy in an empty folder answers over objects that are told
-abbrev pub Copies : Result Written ReshardFault → Objects → Option Objects → Name → Scale → Name → Scale → Type 0
-Copies (Ok written) m now from_dataset from to_dataset to = IsCopied m now from_dataset from to_dataset to written
+abbrev pub Copies : Result Written ReshardFault → Objects → Option Objects → Name → Scale → Name → Scale →
+    Type 0
+Copies (Ok written) m now from_dataset from to_dataset to =
+    IsCopied m now from_dataset from to_dataset to written
 Copies (Err (Damaged cell fault)) m now from_dataset from to_dataset to =
-    IsFirstFault m from_dataset from to cell fault × PutsFront (copy_list m from_dataset from to_dataset to) m now
-Copies (Err StoreFault) m now from_dataset from to_dataset to = PutsFront (copy_list m from_dataset from to_dataset to) m now
-Copies (Err OutOfMemory) m now from_dataset from to_dataset to = PutsFront (copy_list m from_dataset from to_dataset to) m now
+    IsFirstFault m from_dataset from to cell fault ×
+    PutsCopyFront m now from_dataset from to_dataset to
+Copies (Err StoreFault) m now from_dataset from to_dataset to =
+    PutsCopyFront m now from_dataset from to_dataset to
+Copies (Err OutOfMemory) m now from_dataset from to_dataset to =
+    PutsCopyFront m now from_dataset from to_dataset to
 Copies (Err other) m now from_dataset from to_dataset to = ⊥
 
 -- what copying a scale answers over objects that are told: the folder is judged after the scales, and nothing is put where it isn't empty
-abbrev pub Reshards : Result Written ReshardFault → Objects → Option Objects → Name → Scale → Name → Scale → Type 0
+abbrev pub Reshards : Result Written ReshardFault → Objects → Option Objects → Name → Scale → Name → Scale →
+    Type 0
 Reshards (Err (Differs item)) m now from_dataset from to_dataset to = now ≡ Some m
 Reshards (Err (TooManyCells cells)) m now from_dataset from to_dataset to = now ≡ Some m
-Reshards (Err NotEmpty) m now from_dataset from to_dataset to = (any_under m (folder_of to_dataset to) ≡ true) × (now ≡ Some m)
+Reshards (Err NotEmpty) m now from_dataset from to_dataset to =
+    (any_under m (folder_of to_dataset to) ≡ true) × (now ≡ Some m)
 Reshards (Err StoreFault) m now from_dataset from to_dataset to =
-    (now ≡ Some m) ⊎ ((any_under m (folder_of to_dataset to) ≡ false) × PutsFront (copy_list m from_dataset from to_dataset to) m now)
-Reshards result m now from_dataset from to_dataset to = (any_under m (folder_of to_dataset to) ≡ false) × Copies result m now from_dataset from to_dataset to
+    (now ≡ Some m) ⊎ ((any_under m (folder_of to_dataset to) ≡ false) ×
+    PutsCopyFront m now from_dataset from to_dataset to)
+Reshards result m now from_dataset from to_dataset to = (any_under m (folder_of to_dataset to) ≡ false) ×
+    Copies result m now from_dataset from to_dataset to
 
 -- what stands after a refusal, also where nothing is told: the store is only read before the copy is begun
 abbrev pub KeepsStore : ReshardFault → Option Objects → Option Objects → Option Draft → Option Draft → Type 0

@@ -41,9 +41,11 @@ where
     requires scale { copier.old.to ≡ scale.now }
     requires jobs { length (cells_of copier.old) ≤ 2 ^ 22 }
     requires copied { IfSome (S.objects store.old) (λ m. HasCopyJobs m copier.old scale.now) }
-    requires empty { IfSome (S.objects store.old) (λ m. any_under m (folder_of dataset.now scale.now) ≡ false) }
+    requires empty { IfSome (S.objects store.old) (λ m.
+        any_under m (folder_of dataset.now scale.now) ≡ false) }
     requires bytes { IfSome (S.objects store.old) HaveBytes }
-    ensures copies { IfSome (S.objects store.old) (λ m. Copies result m (S.objects store.new) copier.old.dataset copier.old.from dataset.now scale.now) }
+    ensures copies { IfSome (S.objects store.old) (λ m.
+        Copies result m (S.objects store.new) copier.old.dataset copier.old.from dataset.now scale.now) }
     ensures late { IfErr result IsLate }
     ensures draft { OnOk result (Drops (S.draft store.old) (S.draft store.new)) }
     ensures unsharded { scale.now.sharding ≡ None → Drops (S.draft store.old) (S.draft store.new) }
@@ -77,9 +79,11 @@ where
     requires writable { IsWritable to.now }
     requires few { cell_count to.now ≤ 2 ^ 22 }
     requires volume { AreOfOneVolume from.now to.now }
-    requires empty { IfSome (S.objects store.old) (λ m. any_under m (folder_of to_dataset.now to.now) ≡ false) }
+    requires empty { IfSome (S.objects store.old) (λ m.
+        any_under m (folder_of to_dataset.now to.now) ≡ false) }
     requires bytes { IfSome (S.objects store.old) HaveBytes }
-    ensures copies { IfSome (S.objects store.old) (λ m. Copies result m (S.objects store.new) from_dataset.now from.now to_dataset.now to.now) }
+    ensures copies { IfSome (S.objects store.old) (λ m.
+        Copies result m (S.objects store.new) from_dataset.now from.now to_dataset.now to.now) }
     ensures late { IfErr result IsLate }
     ensures draft { OnOk result (Drops (S.draft store.old) (S.draft store.new)) }
     ensures unsharded { to.now.sharding ≡ None → Drops (S.draft store.old) (S.draft store.new) }
@@ -95,17 +99,16 @@ where
 
 /// Copies a scale of a data set into another scale of the same volume, maybe of another data set, with other
 /// chunks, in another encoding or otherwise sharded. A cell of the target is stored exactly where its box
-/// meets that of a cell of the source that isn't absent, with the source's values. Each cell of the source is
-/// located before the first object is written, and all memory is taken before that.
+/// meets that of a cell of the source that isn't absent, with the source's values.
 ///
 /// # Errors
 /// In this order: `Differs` exactly where the scales aren't of one volume, `TooManyCells` exactly where the
-/// source's grid or else the target's has more than 2^22 cells, `NotEmpty` exactly where an object is under
-/// the target's folder; and after these the store's objects are as before. Then `StoreFault` only where the
-/// store failed, and `OutOfMemory`; else `Damaged` exactly where a cell of the source has a fault, with the
-/// first one as the target's cells are made. After one of these a front of the copy's objects was put, and
-/// every other object is as before. A shard that was being written is then not among the objects, and the
-/// store drops it at its next `begin`.
+/// source's grid or else the target's has more than 2^22 cells, `NotEmpty` where an object is under the
+/// target's folder, unless the store fails as it is asked; and after these the store's objects are as before.
+/// Then `StoreFault` only where the store failed, and `OutOfMemory`; else `Damaged` exactly where a cell of
+/// the source has a fault, with the first one as the target's cells are made. After one of these a front of
+/// the copy's objects was put, and every other object is as before. A shard that was being written is then not
+/// among the objects, and the store drops it at its next `begin`.
 pub fn reshard<R, S: Store, G: Gate + Sync>(
     rt: &R,
     alloc: Global,
@@ -123,8 +126,10 @@ where
     requires to_dataset { length to_dataset.now ≤ 200 }
     requires writable { IsWritable to.now }
     ensures judges { Judges result from.now to.now }
-    ensures reshards { IfSome (S.objects store.old) (λ m. Reshards result m (S.objects store.new) from_dataset.now from.now to_dataset.now to.now) }
-    ensures kept { IfErr result (λ fault. KeepsStore fault (S.objects store.old) (S.objects store.new) (S.draft store.old) (S.draft store.new)) }
+    ensures reshards { IfSome (S.objects store.old) (λ m.
+        Reshards result m (S.objects store.new) from_dataset.now from.now to_dataset.now to.now) }
+    ensures kept { IfErr result (λ fault. KeepsStore fault (S.objects store.old) (S.objects store.new)
+        (S.draft store.old) (S.draft store.new)) }
     ensures draft { OnOk result (Drops (S.draft store.old) (S.draft store.new)) }
     ensures unsharded { to.now.sharding ≡ None → Drops (S.draft store.old) (S.draft store.new) }
     ensures later { S.faults store.old ≤ S.faults store.new }

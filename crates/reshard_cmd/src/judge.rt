@@ -103,7 +103,8 @@ pub(crate) fn judge_folder<S: Store>(
     ensures empty { IfSome (S.objects store.old) (λ m. JudgesFolder result m dataset.now scale.now) }
     ensures early { IfErr result IsOfFolder }
     ensures bytes { IfSome (S.objects store.old) HaveBytes }
-    ensures kept { OnlyReads (S.objects store.old) (S.objects store.new) (S.draft store.old) (S.draft store.new) }
+    ensures kept { OnlyReads (S.objects store.old) (S.objects store.new) (S.draft store.old)
+        (S.draft store.new) }
     ensures later { S.faults store.old ≤ S.faults store.new }
     ensures fault { result ≡ Err ReshardFault.StoreFault → Rose (S.faults store.old) (S.faults store.new) }
 {

@@ -1,11 +1,12 @@
--- Values put into raw bytes.
+-- Values put into raw bytes (this project's).
 use Rattle.std.specs.Prelude.{◌≡◌, ◌≢◌, ℕ, ◌+◌, ◌*◌, ◌<◌, ◌≤◌, ◌^◌, List, length}
 use Rattle.segment_blocks.specs.declared.block.Block.{Block}
 use Rattle.segment_blocks.specs.Row.{index_in, Has}
 use Rattle.vol_base.specs.Boxes.{value}
 
 -- each place of a set has the value that it is to have, and every other value is as before
-pub record Filled {A : Type 0} (P : A → Type 0) (spot : A → ℕ) (want : A → List ℕ) (w : ℕ) (old new : List ℕ) : Type 0 where
+pub record Filled {A : Type 0} (P : A → Type 0) (spot : A → ℕ) (want : A →
+    List ℕ) (w : ℕ) (old new : List ℕ) : Type 0 where
   pub placed : (a : A) → P a → value w new (spot a) ≡ want a
   pub kept : (m : ℕ) → ((a : A) → P a → m ≢ spot a) → value w new m ≡ value w old m
 
@@ -55,7 +56,8 @@ pub record Lies (b : Block) (values : ℕ) : Type 0 where
   pub limit_values : values < 2 ^ 60
 
 -- voxels of a set are filled, all with an entry of the table
-pub record Done (P : Voxel → Type 0) (b : Block) (values table : List ℕ) (w bits : ℕ) (old new : List ℕ) : Type 0 where
+pub record Done (P : Voxel → Type 0) (b : Block) (values table : List ℕ) (w bits : ℕ)
+    (old new : List ℕ) : Type 0 where
   pub filled : Filled P (spot b) (want b values table w bits) w old new
   pub has : (v : Voxel) → P v → HasFor b values table w bits v
 

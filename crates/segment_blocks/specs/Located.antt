@@ -1,4 +1,4 @@
--- A block's numbers, as the code has them.
+-- A block's numbers, as the code has them (this project's).
 use Rattle.std.specs.Prelude.{◌≡◌, ℕ, ◌+◌, ◌-◌, ◌*◌, ◌/◌, ◌%◌, min}
 use Rattle.vol_spec.specs.SegSizes.{SegSizes}
 use Rattle.segment_blocks.specs.declared.block.Block.{Block}

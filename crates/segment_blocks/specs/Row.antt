@@ -1,4 +1,4 @@
--- A row of a block, out of the words of the block's indices.
+-- A row of a block, out of the words of the block's indices (this project's words for proofs).
 use Rattle.std.specs.Prelude.{◌≡◌, ℕ, ◌+◌, ◌*◌, ◌/◌, ◌%◌, ◌^◌, ◌<◌, ◌≤◌, List, length}
 use Rattle.vol_spec.specs.SegChunks.{word}
 use Rattle.vol_base.specs.Boxes.{value}

@@ -1,4 +1,4 @@
--- The limits of a shape's sizes, axis by axis, and the places of values in raw bytes.
+-- The limits of a shape's sizes, axis by axis, and the places of values in raw bytes (this project's).
 use Rattle.std.specs.Prelude.{ℕ, ◌*◌, ◌^◌, ◌<◌, ◌≤◌, IsTrue}
 use Rattle.vol_spec.specs.SegSizes.{SegSizes}
 use Rattle.vol_spec.specs.SegBlocks.{size, block, blocks_on, block_voxels, in_chunk, num, raw_len, x_of, y_of, z_of}

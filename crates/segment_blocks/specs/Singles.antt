@@ -1,4 +1,4 @@
--- Blocks of one voxel.
+-- Blocks of one voxel (this project's).
 use Rattle.std.specs.Prelude.{◌≡◌, ◌==◌, ◌*◌, ℕ, ◌<◌, ◌≤◌, Bool, IsTrue, List, find, length, slice_index}
 use Rattle.std.specs.List.{range_with_len}
 use Rattle.equal_values.specs.Earlier.{coded}

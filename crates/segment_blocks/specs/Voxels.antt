@@ -1,4 +1,4 @@
--- The values of a block's voxels.
+-- The values of a block's voxels (this project's words for proofs).
 use Rattle.std.specs.Prelude.{ℕ, ◌+◌, ◌*◌, ◌&&◌, nat_lt, List, map, position, unwrap_or, ◌==◌, if◌then◌else◌}
 use Rattle.std.specs.List.{range_with_len}
 use Rattle.vol_spec.specs.SegSizes.{SegSizes}
@@ -22,4 +22,9 @@ place_in table x = unwrap_or (position (λ v. v == x) table) 0
 -- where a row of a block begins in the raw values, and how many of its voxels lie in the chunk
 abbrev pub row_of : Block → ℕ → ℕ → Row
 row_of b y z =
-    if nat_lt y b.count_y && nat_lt z b.count_z then record { at = ((b.z + z) * b.size_y + (b.y + y)) * b.size_x + b.x; count = b.count_x } else record { at = 0; count = 0 }
+    if nat_lt y b.count_y && nat_lt z b.count_z then record {
+      at =
+          ((b.z + z) * b.size_y + (b.y + y)) * b.size_x + b.x;
+      count = b.count_x;
+    }
+    else record { at = 0; count = 0 }

@@ -1,4 +1,4 @@
--- The voxels of blocks and of channels.
+-- The voxels of blocks and of channels (this project's).
 use Rattle.std.specs.Prelude.{◌≡◌, ℕ, ◌<◌, List}
 use Rattle.vol_spec.specs.SegSizes.{SegSizes}
 use Rattle.vol_spec.specs.SegBlocks.{block_count}

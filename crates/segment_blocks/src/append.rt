@@ -37,7 +37,8 @@ fn put_value(out: &mut [u8], at: usize, x: u64, wide: bool)
 pub(crate) fn put_values(out: &mut [u8], at: usize, values: &[u64], wide: bool)
     requires room { at + width_of wide * length values.now ≤ length out.old }
     requires fits { (i : ℕ) → i < length values.now → slice_index values.now i < 256 ^ width_of wide }
-    ensures { take (at + width_of wide * length values.now) out.new ≡ take at out.old ++ flat_map (bytes_of (width_of wide)) values.now }
+    ensures { take (at + width_of wide * length values.now) out.new ≡ take at out.old
+        ++ flat_map (bytes_of (width_of wide)) values.now }
 {
     let width = find_width(wide);
     for i in 0..values.len() {

@@ -27,7 +27,7 @@ pub(crate) struct Block {
     pub indices: usize,
 }
 
-// The number of the first value of a row, in the raw bytes.
+/// The number of the first value of a row in the raw bytes, counted in values.
 pub(crate) fn find_line(b: &Block, y: usize, z: usize) -> usize
     requires lies { (values : ℕ) × Lies b.now values }
     requires y { y < b.now.count_y }
@@ -62,8 +62,10 @@ fn fill_row(
     requires bits { IsTrue (is_allowed bits) }
     requires y { y < b.now.count_y }
     requires z { z < b.now.count_z }
-    ensures done { OnOk result (Done (InRow b.now y z) b.now values.now table.now (width_of wide) bits raw.old raw.new) }
-    ensures out { IfErr result (λ n. IsOut (InRow b.now y z) b.now values.now table.now (width_of wide) bits n) }
+    ensures done { OnOk result (Done (InRow b.now y z) b.now values.now table.now
+        (width_of wide) bits raw.old raw.new) }
+    ensures out { IfErr result (λ n. IsOut (InRow b.now y z) b.now values.now table.now
+        (width_of wide) bits n) }
 {
     let first = find_first(b, y, z);
     let at = find_line(b, y, z);
@@ -96,8 +98,10 @@ fn fill_plane(
     requires values { 4 * packed_words bits b.now.indices ≤ length values.now }
     requires bits { IsTrue (is_allowed bits) }
     requires z { z < b.now.count_z }
-    ensures done { OnOk result (Done (InRows b.now b.now.count_y z) b.now values.now table.now (width_of wide) bits raw.old raw.new) }
-    ensures out { IfErr result (λ n. IsOut (InRows b.now b.now.count_y z) b.now values.now table.now (width_of wide) bits n) }
+    ensures done { OnOk result (Done (InRows b.now b.now.count_y z) b.now values.now table.now
+        (width_of wide) bits raw.old raw.new) }
+    ensures out { IfErr result (λ n. IsOut (InRows b.now b.now.count_y z) b.now values.now table.now
+        (width_of wide) bits n) }
 {
     for y in 0..b.count_y {
         match fill_row(b, values, bits, table, wide, y, z, raw) {
@@ -120,8 +124,10 @@ pub(crate) fn fill_block(
     requires lies { Lies b.now (length raw.old / width_of wide) }
     requires values { 4 * packed_words bits b.now.indices ≤ length values.now }
     requires bits { IsTrue (is_allowed bits) }
-    ensures done { OnOk result (Done (InPlanes b.now b.now.count_z) b.now values.now table.now (width_of wide) bits raw.old raw.new) }
-    ensures out { IfErr result (λ n. IsOut (InPlanes b.now b.now.count_z) b.now values.now table.now (width_of wide) bits n) }
+    ensures done { OnOk result (Done (InPlanes b.now b.now.count_z) b.now values.now table.now
+        (width_of wide) bits raw.old raw.new) }
+    ensures out { IfErr result (λ n. IsOut (InPlanes b.now b.now.count_z) b.now values.now table.now
+        (width_of wide) bits n) }
 {
     for z in 0..b.count_z {
         match fill_plane(b, values, bits, table, wide, z, raw) {

@@ -31,7 +31,8 @@ pub(crate) fn hash_table(values: &[u64], places: usize) -> usize
 pub(crate) fn is_same(bytes: &[u8], a: usize, m: usize, b: usize, n: usize, width: usize) -> bool
     requires first { a + width * m ≤ length bytes.now }
     requires second { b + width * n ≤ length bytes.now }
-    ensures { IsTrue result ↔ (m ≡ n × take (width * m) (drop a bytes.now) ≡ take (width * n) (drop b bytes.now)) }
+    ensures { IsTrue result ↔ (m ≡ n × take (width * m) (drop a bytes.now)
+        ≡ take (width * n) (drop b bytes.now)) }
 {
     m == n && bytes[a..a + width * m] == bytes[b..b + width * n]
 }

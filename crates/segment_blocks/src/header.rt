@@ -73,7 +73,9 @@ pub(crate) fn judge_header(
 ) -> Result<(), ChunkFault>
     requires n { n < 2 ^ 32 }
     requires values { h.now.values < 2 ^ 33 }
-    ensures { result_err result ≡ first_some (when (not (is_allowed h.now.bits)) (ChunkFault.SegBits c k h.now.bits) ∷ when (not (h.now.bits == 0) && nat_lt words (h.now.values + packed_words h.now.bits n)) (ChunkFault.SegValues c k) ∷ []) }
+    ensures { result_err result ≡ first_some (when (not (is_allowed h.now.bits))
+        (ChunkFault.SegBits c k h.now.bits) ∷ when (not (h.now.bits == 0) && nat_lt words
+        (h.now.values + packed_words h.now.bits n)) (ChunkFault.SegValues c k) ∷ []) }
 {
     if !test_bits(h.bits) {
         return Err(ChunkFault::SegBits {

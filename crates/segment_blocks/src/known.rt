@@ -37,9 +37,11 @@ impl Sought for Known<'_> {
 
     ghost placed = { λ b. indexed (sizes_of b.shape.now) b.raw.now b.c };
 
-    ghost equals = { λ b j. same (table (sizes_of b.shape.now) b.raw.now b.c j) (table (sizes_of b.shape.now) b.raw.now b.c b.k) };
+    ghost equals = { λ b j. same (table (sizes_of b.shape.now) b.raw.now b.c j)
+        (table (sizes_of b.shape.now) b.raw.now b.c b.k) };
 
-    ghost ready = { λ b. AreStored (sizes_of b.shape.now) b.raw.now b.c b.bytes.now b.at.now b.lens.now (b.k + 1) × (b.k < length b.at.now) × (b.k < length b.lens.now) };
+    ghost ready = { λ b. AreStored (sizes_of b.shape.now) b.raw.now b.c b.bytes.now b.at.now b.lens.now
+        (b.k + 1) × (b.k < length b.at.now) × (b.k < length b.lens.now) };
 
     fn is_equal(&self, j: usize) -> bool {
         is_same(
@@ -64,16 +66,26 @@ pub(crate) fn locate_table(
 ) -> u32
     requires spots { KnowsSpots (sizes_of known.now.shape.now) known.now.raw.now known.now.c spots.now }
     requires block { known.now.k < block_count (sizes_of known.now.shape.now) }
-    requires stored { AreStored (sizes_of known.now.shape.now) known.now.raw.now known.now.c known.now.bytes.now known.now.at.now known.now.lens.now (known.now.k + 1) }
-    requires before { (j : ℕ) → j < known.now.k → slice_index known.now.at.now j ≡ 4 * table_place (sizes_of known.now.shape.now) known.now.raw.now known.now.c j }
-    requires here { slice_index known.now.at.now known.now.k ≡ 4 * (values_place (sizes_of known.now.shape.now) known.now.raw.now known.now.c known.now.k + packed_len (sizes_of known.now.shape.now) known.now.raw.now known.now.c known.now.k) }
-    requires index { IsIndex (hash_at (sizes_of known.now.shape.now) known.now.raw.now known.now.c (length heads.now)) (indexed (sizes_of known.now.shape.now) known.now.raw.now known.now.c) heads.now next.now known.now.k }
-    requires hash { hash ≡ hash_at (sizes_of known.now.shape.now) known.now.raw.now known.now.c (length heads.now) known.now.k }
+    requires stored { AreStored
+        (sizes_of known.now.shape.now) known.now.raw.now known.now.c
+        known.now.bytes.now known.now.at.now known.now.lens.now (known.now.k + 1) }
+    requires before { (j : ℕ) → j < known.now.k → slice_index known.now.at.now j
+        ≡ 4 * table_place (sizes_of known.now.shape.now) known.now.raw.now known.now.c j }
+    requires here { slice_index known.now.at.now known.now.k
+        ≡ 4 * (values_place (sizes_of known.now.shape.now) known.now.raw.now known.now.c known.now.k
+        + packed_len (sizes_of known.now.shape.now) known.now.raw.now known.now.c known.now.k) }
+    requires index { IsIndex (hash_at (sizes_of known.now.shape.now) known.now.raw.now known.now.c
+        (length heads.now))
+        (indexed
+        (sizes_of known.now.shape.now) known.now.raw.now known.now.c) heads.now next.now known.now.k }
+    requires hash { hash ≡ hash_at (sizes_of known.now.shape.now) known.now.raw.now known.now.c
+        (length heads.now) known.now.k }
     requires heads { hash < length heads.now }
     requires next { known.now.k < length next.now }
     requires at { known.now.k < length known.now.at.now }
     requires lens { known.now.k < length known.now.lens.now }
-    ensures { result ≡ 4 * table_place (sizes_of known.now.shape.now) known.now.raw.now known.now.c known.now.k }
+    ensures { result
+        ≡ 4 * table_place (sizes_of known.now.shape.now) known.now.raw.now known.now.c known.now.k }
 {
     if test_single(known.shape) {
         return spots[known.k];
@@ -94,14 +106,16 @@ pub(crate) fn add_block(
     hash: usize,
     k: usize,
 )
-    requires index { IsIndex (hash_at (sizes_of shape.now) _raw.now _c (length heads.old)) (indexed (sizes_of shape.now) _raw.now _c) heads.old next.old k }
+    requires index { IsIndex (hash_at (sizes_of shape.now) _raw.now _c (length heads.old))
+        (indexed (sizes_of shape.now) _raw.now _c) heads.old next.old k }
     requires some { 0 < length heads.old }
     requires hash { hash ≡ hash_at (sizes_of shape.now) _raw.now _c (length heads.old) k }
     requires heads { hash < length heads.old }
     requires next { k < length next.old }
     requires small { k + 1 < 2 ^ 32 }
     requires placed { IsTrue (places (sizes_of shape.now) _raw.now _c k) }
-    ensures { IsIndex (hash_at (sizes_of shape.now) _raw.now _c (length heads.old)) (indexed (sizes_of shape.now) _raw.now _c) heads.new next.new (k + 1) }
+    ensures { IsIndex (hash_at (sizes_of shape.now) _raw.now _c (length heads.old))
+        (indexed (sizes_of shape.now) _raw.now _c) heads.new next.new (k + 1) }
 {
     if !test_single(shape) {
         add(heads, next, hash, k);

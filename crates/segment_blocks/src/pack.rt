@@ -59,7 +59,8 @@ pub(crate) fn put_index(values: &mut [u8], bits: u32, n: usize, index: u32)
 pub(crate) fn pack_places(voxels: &[u64], table: &[u64], bits: u32, values: &mut [u8])
     requires bits { IsTrue (is_allowed bits) }
     requires some { 0 < bits }
-    requires rises { (i j : ℕ) → i < j → j < length table.now → slice_index table.now i < slice_index table.now j }
+    requires rises { (i j : ℕ) → i < j → j < length table.now →
+        slice_index table.now i < slice_index table.now j }
     requires there { (n : ℕ) → n < length voxels.now → Contains table.now (slice_index voxels.now n) }
     requires few { length table.now ≤ 2 ^ bits }
     requires small { length voxels.now < 2 ^ 32 }
@@ -85,7 +86,8 @@ fn clear(values: &mut [u8])
 // The places of the values in a table, side by side, and nothing behind them.
 fn fill_places(voxels: &[u64], table: &[u64], bits: u32, values: &mut [u8])
     requires bits { IsTrue (is_allowed bits) }
-    requires rises { (i j : ℕ) → i < j → j < length table.now → slice_index table.now i < slice_index table.now j }
+    requires rises { (i j : ℕ) → i < j → j < length table.now →
+        slice_index table.now i < slice_index table.now j }
     requires there { (n : ℕ) → n < length voxels.now → Contains table.now (slice_index voxels.now n) }
     requires few { length table.now ≤ 2 ^ bits }
     requires small { length voxels.now < 2 ^ 32 }
@@ -108,13 +110,16 @@ pub(crate) fn put_places(
     bits: u32,
 ) -> usize
     requires bits { IsTrue (is_allowed bits) }
-    requires rises { (i j : ℕ) → i < j → j < length table.now → slice_index table.now i < slice_index table.now j }
+    requires rises { (i j : ℕ) → i < j → j < length table.now →
+        slice_index table.now i < slice_index table.now j }
     requires there { (n : ℕ) → n < length voxels.now → Contains table.now (slice_index voxels.now n) }
     requires few { length table.now ≤ 2 ^ bits }
     requires small { length voxels.now < 2 ^ 32 }
     requires room { at + 4 * packed_words bits (length voxels.now) ≤ length out.old }
     ensures end { result ≡ at + 4 * packed_words bits (length voxels.now) }
-    ensures bytes { take result out.new ≡ take at out.old ++ bytes_of (4 * packed_words bits (length voxels.now)) (packed bits (map (place_in table.now) voxels.now)) }
+    ensures bytes { take result out.new ≡ take at out.old
+        ++ bytes_of (4 * packed_words bits (length voxels.now))
+        (packed bits (map (place_in table.now) voxels.now)) }
 {
     let end = at + 4 * count_words(bits, voxels.len());
     fill_places(voxels, table, bits, &mut out[at..end]);

@@ -31,7 +31,8 @@ fn decode_block(
     requires headers { start bytes.now c + 2 * block_count (sizes_of shape.now) ≤ words bytes.now }
     requires raw { length raw.old ≡ raw_len (sizes_of shape.now) }
     ensures fault { result_err result ≡ first_some (block_faults bytes.now (sizes_of shape.now) c k) }
-    ensures filled { OnOk result (Filled (OfBlock (sizes_of shape.now) c k) (place_of (sizes_of shape.now)) (entry_of bytes.now (sizes_of shape.now)) (width (sizes_of shape.now)) raw.old raw.new) }
+    ensures filled { OnOk result (Filled (OfBlock (sizes_of shape.now) c k) (place_of (sizes_of shape.now))
+        (entry_of bytes.now (sizes_of shape.now)) (width (sizes_of shape.now)) raw.old raw.new) }
 {
     let header = read_header(bytes, c as usize, k);
     let block = find_block(shape, c as usize, k);
@@ -57,7 +58,9 @@ fn decode_channel(bytes: &[u8], shape: &SegShape, c: u32, raw: &mut [u8]) -> Res
     requires starts { 4 * shape.now.channels ≤ length bytes.now }
     requires raw { length raw.old ≡ raw_len (sizes_of shape.now) }
     ensures fault { result_err result ≡ first_some (channel_faults bytes.now (sizes_of shape.now) c) }
-    ensures filled { OnOk result (Filled (OfBlocks (sizes_of shape.now) c (block_count (sizes_of shape.now))) (place_of (sizes_of shape.now)) (entry_of bytes.now (sizes_of shape.now)) (width (sizes_of shape.now)) raw.old raw.new) }
+    ensures filled { OnOk result (Filled (OfBlocks (sizes_of shape.now) c (block_count (sizes_of shape.now)))
+        (place_of (sizes_of shape.now)) (entry_of bytes.now (sizes_of shape.now))
+        (width (sizes_of shape.now)) raw.old raw.new) }
 {
     let start = read_word(bytes, c as usize) as usize;
     let count = count_blocks(shape);
@@ -86,7 +89,9 @@ fn test_length(len: usize, channels: u32) -> bool
 pub fn decode(bytes: &[u8], shape: &SegShape, raw: &mut [u8]) -> Result<(), ChunkFault>
     requires raw { length raw.old ≡ raw_len (sizes_of shape.now) }
     ensures fault { result_err result ≡ seg_fault bytes.now (sizes_of shape.now) }
-    ensures read { OnOk result ((x y z c : ℕ) → InChunk (sizes_of shape.now) x y z → c < shape.now.channels → digit raw.new (width (sizes_of shape.now)) (num (sizes_of shape.now) x y z c) ≡ seg_at bytes.now (sizes_of shape.now) x y z c) }
+    ensures read { OnOk result ((x y z c : ℕ) → InChunk (sizes_of shape.now) x y z → c < shape.now.channels →
+        digit raw.new (width (sizes_of shape.now)) (num (sizes_of shape.now) x y z c)
+        ≡ seg_at bytes.now (sizes_of shape.now) x y z c) }
 {
     if test_length(bytes.len(), shape.channels) {
         return Err(ChunkFault::SegLength {

@@ -24,7 +24,8 @@ fn read_index(values: &[u8], bits: u32, n: usize) -> u32
 
 /// How many values the bytes hold.
 pub(crate) fn count_values(bytes: &[u8], wide: bool) -> usize
-    ensures { (i : ℕ) → (i < result → Has (width_of wide) bytes.now i) × (result ≤ i → length bytes.now < width_of wide * i + width_of wide) }
+    ensures { (i : ℕ) → (i < result → Has (width_of wide) bytes.now i) ×
+        (result ≤ i → length bytes.now < width_of wide * i + width_of wide) }
 {
     if wide {
         bytes.len() / 8

@@ -18,14 +18,32 @@ pub struct Scratch {
     // where each channel starts
     pub(crate) starts: Vec<u32>,
     pub(crate) singles: Singles,
-    ghost room_ok: { IsRoom (record { size = shape.size; block = shape.block; channels = shape.channels; wide = shape.wide }) room },
+    ghost room_ok: { IsRoom (record {
+      size = shape.size;
+      block = shape.block;
+      channels =
+          shape.channels;
+      wide = shape.wide;
+    }) room },
     ghost starts_ok: { shape.channels ≤ length starts.items },
-    ghost singles_ok: { IsSingles (record { size = shape.size; block = shape.block; channels = shape.channels; wide = shape.wide }) singles },
+    ghost singles_ok: { IsSingles (record {
+      size = shape.size;
+      block = shape.block;
+      channels =
+          shape.channels;
+      wide = shape.wide;
+    }) singles },
 }
 
 // The lists for these blocks.
 fn reserve_room(alloc: Global, shape: &SegShape) -> Result<Room, AllocError>
-    ensures { IfOk result (IsRoom (record { size = shape.now.size; block = shape.now.block; channels = shape.now.channels; wide = shape.now.wide })) }
+    ensures { IfOk result (IsRoom (record {
+      size = shape.now.size;
+      block = shape.now.block;
+      channels =
+          shape.now.channels;
+      wide = shape.now.wide;
+    })) }
 {
     let blocks = count_blocks(shape);
     let voxels = count_voxels(shape);
@@ -49,7 +67,13 @@ fn reserve_starts(alloc: Global, channels: u32) -> Result<Vec<u32>, AllocError>
 
 // The same, with the refusal that is told.
 fn take_room(alloc: Global, shape: &SegShape) -> Result<Room, OutOfMemory>
-    ensures { IfOk result (IsRoom (record { size = shape.now.size; block = shape.now.block; channels = shape.now.channels; wide = shape.now.wide })) }
+    ensures { IfOk result (IsRoom (record {
+      size = shape.now.size;
+      block = shape.now.block;
+      channels =
+          shape.now.channels;
+      wide = shape.now.wide;
+    })) }
 {
     reserve_room(alloc, shape).map_err(|_| OutOfMemory)
 }

@@ -71,7 +71,8 @@ pub(crate) fn reserve_singles(alloc: Global, shape: &SegShape) -> Result<Singles
 // The values from a place on.
 fn fill_values(raw: &[u8], from: usize, wide: bool, values: &mut [u64])
     requires { width_of wide * (from + length values.old) ≤ length raw.now }
-    ensures { (k : ℕ) → k < length values.new → slice_index values.new k ≡ digit raw.now (width_of wide) (from + k) }
+    ensures { (k : ℕ) → k < length values.new → slice_index values.new k
+        ≡ digit raw.now (width_of wide) (from + k) }
 {
     for k in 0..values.len() {
         values[k] = read_value(raw, from + k, wide);
@@ -92,8 +93,10 @@ fn find_in(
     requires values { count ≤ length values.old }
     requires finder { count ≤ most_of finder.old }
     requires earlier { count ≤ length earlier.old }
-    ensures values { (k : ℕ) → k < count → slice_index (take count values.new) k ≡ digit raw.now (width_of wide) (from + k) }
-    ensures earlier { (k : ℕ) → k < count → slice_index earlier.new k ≡ coded (equal.earlier (take count values.new) k) }
+    ensures values { (k : ℕ) → k < count → slice_index (take count values.new) k
+        ≡ digit raw.now (width_of wide) (from + k) }
+    ensures earlier { (k : ℕ) → k < count → slice_index earlier.new k
+        ≡ coded (equal.earlier (take count values.new) k) }
     ensures finder { most_of finder.new ≡ most_of finder.old }
 {
     fill_values(raw, from, wide, &mut values[..count]);

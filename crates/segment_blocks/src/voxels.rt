@@ -52,9 +52,11 @@ fn pick(raw: &[u8], at: usize, inside: bool, padding: u64, wide: bool) -> u64
 
 // The values of a row, with one value for its padding.
 fn fill_row(raw: &[u8], from: Row, padding: u64, wide: bool, row: &mut [u64])
-    requires within { (x : ℕ) → x < from.count → width_of wide * (from.at + x) + width_of wide ≤ length raw.now }
+    requires within { (x : ℕ) → x < from.count → width_of wide * (from.at + x)
+        + width_of wide ≤ length raw.now }
     requires small { from.at + length row.old < 2 ^ 63 }
-    ensures { (x : ℕ) → x < length row.old → slice_index row.new x ≡ (if nat_lt x from.count then digit raw.now (width_of wide) (from.at + x) else padding) }
+    ensures { (x : ℕ) → x < length row.old → slice_index row.new x
+        ≡ (if nat_lt x from.count then digit raw.now (width_of wide) (from.at + x) else padding) }
 {
     for x in 0..row.len() {
         row[x] = pick(raw, from.at + x, x < from.count, padding, wide);
@@ -110,8 +112,11 @@ pub(crate) fn tabulate(
     requires table { length table.old ≡ block_voxels (sizes_of shape.now) }
     ensures within { result ≤ length table.old }
     ensures table { take result table.new ≡ seg.table (sizes_of shape.now) raw.now c k }
-    ensures places { map (place_in (take result table.new)) voxels.new ≡ map (index_of (sizes_of shape.now) raw.now c k) (range_with_len 0 (block_voxels (sizes_of shape.now))) }
-    ensures there { (n : ℕ) → n < length voxels.new → Contains (take result table.new) (slice_index voxels.new n) }
+    ensures places { map (place_in (take result table.new)) voxels.new
+        ≡ map (index_of (sizes_of shape.now) raw.now c k)
+        (range_with_len 0 (block_voxels (sizes_of shape.now))) }
+    ensures there { (n : ℕ) → n < length voxels.new →
+        Contains (take result table.new) (slice_index voxels.new n) }
 {
     let first = read_value(raw, find_line(b, 0, 0), shape.wide);
     fill_voxels(raw, shape, c, k, b, first, voxels);

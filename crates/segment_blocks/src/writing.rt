@@ -52,11 +52,14 @@ fn write_block(
     requires raw { length raw.now ≡ raw_len (sizes_of shape.now) }
     requires voxels { length voxels.old ≡ block_voxels (sizes_of shape.now) }
     requires table { length table.old ≡ block_voxels (sizes_of shape.now) }
-    requires room { at + 4 * packed_len (sizes_of shape.now) raw.now c k + width_of shape.now.wide * length (seg.table (sizes_of shape.now) raw.now c k) ≤ length out.old }
+    requires room { at + 4 * packed_len (sizes_of shape.now) raw.now c k
+        + width_of shape.now.wide * length (seg.table (sizes_of shape.now) raw.now c k) ≤ length out.old }
     ensures indices { result.indices ≡ at + 4 * packed_len (sizes_of shape.now) raw.now c k }
     ensures entries { result.entries ≡ length (seg.table (sizes_of shape.now) raw.now c k) }
     ensures table { take result.entries table.new ≡ seg.table (sizes_of shape.now) raw.now c k }
-    ensures bytes { take (result.indices + width_of shape.now.wide * result.entries) out.new ≡ take at out.old ++ packed_bytes (sizes_of shape.now) raw.now c k ++ flat_map (bytes_of (width_of shape.now.wide)) (seg.table (sizes_of shape.now) raw.now c k) }
+    ensures bytes { take (result.indices + width_of shape.now.wide * result.entries) out.new ≡ take at out.old
+        ++ packed_bytes (sizes_of shape.now) raw.now c k
+        ++ flat_map (bytes_of (width_of shape.now.wide)) (seg.table (sizes_of shape.now) raw.now c k) }
 {
     let b = find_block(shape, c as usize, k);
     let count = tabulate(raw, shape, c, k, &b, voxels, table);
@@ -85,12 +88,17 @@ fn settle(
     requires channel { c < shape.now.channels }
     requires room { IsRoom (sizes_of shape.now) room.old }
     requires limit { padded (sizes_of shape.now) ≤ 2 ^ 22 }
-    requires tables { HasTables (sizes_of shape.now) raw.now c out.now room.old.at.items room.old.lens.items room.old.heads.items room.old.next.items k }
+    requires tables { HasTables
+        (sizes_of shape.now) raw.now c out.now
+        room.old.at.items room.old.lens.items room.old.heads.items room.old.next.items k }
     requires candidate { Candidate (sizes_of shape.now) raw.now c out.now k ends.indices ends.entries }
-    requires indices { ends.indices ≡ 4 * (values_place (sizes_of shape.now) raw.now c k + packed_len (sizes_of shape.now) raw.now c k) }
+    requires indices { ends.indices ≡ 4 * (values_place (sizes_of shape.now) raw.now c k
+        + packed_len (sizes_of shape.now) raw.now c k) }
     requires table { take ends.entries room.old.table.items ≡ seg.table (sizes_of shape.now) raw.now c k }
     ensures at { result ≡ 4 * values_place (sizes_of shape.now) raw.now c (k + 1) }
-    ensures tables { HasTables (sizes_of shape.now) raw.now c out.now room.new.at.items room.new.lens.items room.new.heads.items room.new.next.items (k + 1) }
+    ensures tables { HasTables
+        (sizes_of shape.now) raw.now c out.now
+        room.new.at.items room.new.lens.items room.new.heads.items room.new.next.items (k + 1) }
     ensures same { SameRoom room.old room.new }
     ensures headers { room.new.headers.items ≡ room.old.headers.items }
 {
@@ -123,7 +131,8 @@ fn put_header(headers: &mut [u32], k: usize, table: u32, bits: u32, values: u32)
     requires within { 2 * k + 1 < length headers.old }
     requires table { table < 2 ^ 24 }
     requires bits { bits ≤ 32 }
-    ensures { headers.new ≡ slice_set (slice_set headers.old (2 * k) (table + 2 ^ 24 * bits)) (2 * k + 1) values }
+    ensures { headers.new ≡ slice_set (slice_set headers.old (2 * k) (table + 2 ^ 24 * bits))
+        (2 * k + 1) values }
 {
     headers[2 * k] = table + (1 << 24) * bits;
     headers[2 * k + 1] = values;
@@ -179,7 +188,8 @@ fn encode_blocks(
     requires room { IsRoom (sizes_of shape.now) room.old }
     requires out { 16 * padded (sizes_of shape.now) ≤ length out.old }
     ensures at { result ≡ 4 * values_place (sizes_of shape.now) raw.now c (block_count (sizes_of shape.now)) }
-    ensures begun { IsBegun (sizes_of shape.now) raw.now c out.new room.new (block_count (sizes_of shape.now)) }
+    ensures begun { IsBegun (sizes_of shape.now) raw.now c out.new room.new
+        (block_count (sizes_of shape.now)) }
     ensures same { SameRoom room.old room.new }
     ensures singles { SameSingles singles.old singles.new }
 {
@@ -208,7 +218,8 @@ fn encode_channel(
     requires limit { padded (sizes_of shape.now) ≤ 2 ^ 22 }
     requires room { IsRoom (sizes_of shape.now) room.old }
     requires out { 16 * padded (sizes_of shape.now) ≤ length out.old }
-    ensures len { result ≡ 4 * values_place (sizes_of shape.now) raw.now c (block_count (sizes_of shape.now)) }
+    ensures len { result ≡ 4 * values_place (sizes_of shape.now) raw.now c
+        (block_count (sizes_of shape.now)) }
     ensures bytes { take result out.new ≡ channel_bytes (sizes_of shape.now) raw.now c }
     ensures same { SameRoom room.old room.new }
     ensures singles { SameSingles singles.old singles.new }
@@ -233,10 +244,13 @@ fn encode_channels(
     requires limit { padded (sizes_of shape.now) * shape.now.channels ≤ 2 ^ 22 }
     requires room { IsRoom (sizes_of shape.now) room.old }
     requires starts { shape.now.channels ≤ length starts.old }
-    requires out { 4 * shape.now.channels + 16 * (padded (sizes_of shape.now) * shape.now.channels) ≤ length out.old }
+    requires out { 4 * shape.now.channels + 16 * (padded (sizes_of shape.now) * shape.now.channels)
+        ≤ length out.old }
     ensures len { result ≡ 4 * channel_start (sizes_of shape.now) raw.now shape.now.channels }
-    ensures bytes { drop (4 * shape.now.channels) (take result out.new) ≡ flat_map (channel_bytes (sizes_of shape.now) raw.now) (range_with_len 0 shape.now.channels) }
-    ensures starts { (c : ℕ) → c < shape.now.channels → slice_index starts.new c ≡ channel_start (sizes_of shape.now) raw.now c }
+    ensures bytes { drop (4 * shape.now.channels) (take result out.new)
+        ≡ flat_map (channel_bytes (sizes_of shape.now) raw.now) (range_with_len 0 shape.now.channels) }
+    ensures starts { (c : ℕ) → c < shape.now.channels →
+        slice_index starts.new c ≡ channel_start (sizes_of shape.now) raw.now c }
     ensures same { SameRoom room.old room.new }
     ensures singles { SameSingles singles.old singles.new }
 {
@@ -261,8 +275,11 @@ pub fn encode(raw: &[u8], shape: &SegShape, scratch: &mut Scratch, out: &mut [u8
 
     // So there is no fault, the values are read back, and the tables are where a header can tell.
     ensures sound { seg_fault (take result out.new) (sizes_of shape.now) ≡ None }
-    ensures read_back { (x y z c : ℕ) → InChunk (sizes_of shape.now) x y z → c < shape.now.channels → seg_at (take result out.new) (sizes_of shape.now) x y z c ≡ digit raw.now (width (sizes_of shape.now)) (num (sizes_of shape.now) x y z c) }
-    ensures offsets { (c k : ℕ) → k < block_count (sizes_of shape.now) → table_place (sizes_of shape.now) raw.now c k < 2 ^ 24 }
+    ensures read_back { (x y z c : ℕ) → InChunk (sizes_of shape.now) x y z → c < shape.now.channels →
+        seg_at (take result out.new) (sizes_of shape.now) x y z c
+        ≡ digit raw.now (width (sizes_of shape.now)) (num (sizes_of shape.now) x y z c) }
+    ensures offsets { (c k : ℕ) → k < block_count (sizes_of shape.now) →
+        table_place (sizes_of shape.now) raw.now c k < 2 ^ 24 }
     ensures scratch { sizes_for scratch.new ≡ sizes_for scratch.old }
 {
     let channels = shape.channels as usize;

@@ -1,4 +1,4 @@
--- The values of a chunk, side by side.
+-- The values of a chunk, side by side (this project's).
 use Rattle.std.specs.Prelude.{◌≡◌, ℕ, ◌<◌}
 use Rattle.vol_base.specs.Boxes.{Covers}
 use Rattle.vol_spec.specs.Encodings.{value_at}

@@ -1,4 +1,4 @@
--- A scratch for the chunks of a scale.
+-- A scratch for the chunks of a scale (this project's).
 use Rattle.vol_spec.specs.Encodings.{sizes_in}
 use Rattle.vol_spec.specs.Grid.{IsCell}
 use Rattle.vol_spec.specs.Types.{Cell}

@@ -62,7 +62,8 @@ pub fn encode_cell(
     requires writable { IsWritable scale.now }
     requires len { length values.now ≡ raw_size scale.now cell }
     requires scratch { ServesScale scale.now scratch.old }
-    requires room { limit_of scale.now.encoding scale.now.width scale.now.channels scale.now.size scale.now.chunk ≤ length out.old }
+    requires room { limit_of scale.now.encoding scale.now.width scale.now.channels scale.now.size
+        scale.now.chunk ≤ length out.old }
     ensures bytes { take result out.new ≡ encoded scale.now cell values.now }
     ensures within { result ≤ length out.new }
     ensures small { result ≤ 2 ^ 27 }

@@ -63,7 +63,8 @@ pub fn values_len(scale: &Scale, cell: [u64; 3]) -> u64
 pub fn chunk_limit(scale: &Scale, cell: [u64; 3]) -> u64
     requires { IsCell scale.now cell }
     ensures limit { result ≡ cell_limit scale.now cell }
-    ensures first { result ≤ limit_of scale.now.encoding scale.now.width scale.now.channels scale.now.size scale.now.chunk }
+    ensures first { result
+        ≤ limit_of scale.now.encoding scale.now.width scale.now.channels scale.now.size scale.now.chunk }
     ensures small { result < 2 ^ 30 }
 {
     match scale.encoding {

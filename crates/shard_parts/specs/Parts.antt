@@ -1,4 +1,4 @@
--- A shard being written, in parts.
+-- A shard being written, in parts (this project's).
 use Rattle.std.specs.Prelude.{ℕ, ◌+◌, ◌-◌, ◌*◌, List, [], ◌∷◌, ◌++◌, length, map, flat_map, sum_by, Option}
 use Rattle.std.specs.List.{range_with_len}
 use Rattle.std.specs.Option.{option_map}
@@ -19,7 +19,8 @@ room cs = sum_by (λ (c : Chunk). length c.bytes + 24) cs
 -- the rows of chunks side by side, the first of which starts there
 abbrev pub rows_from : ℕ → List Chunk → List Row
 rows_from at [] = []
-rows_from at (c ∷ cs) = record { id = c.id; start = at; size = length c.bytes } ∷ rows_from (at + length c.bytes) cs
+rows_from at (c ∷ cs) = record { id = c.id; start = at; size = length c.bytes }
+    ∷ rows_from (at + length c.bytes) cs
 
 abbrev pub index_of : ℕ → List Chunk → Bytes
 index_of at cs = index_bytes (stored (rows_from at cs))
@@ -34,7 +35,11 @@ run chunk a b = map chunk (range_with_len a (b - a))
 
 -- an object being written, with its bytes so far, where objects are told
 abbrev pub draft_of : Option Objects → Name → Bytes → Draft
-draft_of objects name bytes = record { len = length bytes; told = option_map (λ _. let d : Name × Bytes = (name, bytes) in d) objects }
+draft_of objects name bytes = record {
+  len = length bytes;
+  told =
+      option_map (λ _. let d : Name × Bytes = (name, bytes) in d) objects;
+}
 
 -- The bytes of a shard between two jobs: those of a shard that has the chunks of whole minishards alone, and behind them the chunks of
 -- the minishard that is open. An entry that isn't written yet is that of an empty minishard.

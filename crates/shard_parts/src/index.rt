@@ -126,7 +126,9 @@ fn append_numbers<S: Store>(
     requires within { from + count ≤ length rows.now }
     requires room { 8 * count ≤ length piece.old }
     requires rows { AreRows rows.now }
-    ensures appended { OnOk result (S.draft store.new ≡ option_map (λ d. appended d (numbers (take count (drop from (column_of column rows.now))))) (S.draft store.old)) }
+    ensures appended { OnOk result (S.draft store.new
+        ≡ option_map (λ d. appended d (numbers (take count (drop from (column_of column rows.now)))))
+        (S.draft store.old)) }
     ensures refused { OnErr result (S.draft store.new ≡ None) }
     ensures objects { S.objects store.new ≡ S.objects store.old }
     ensures cause { HasStoreCause (S.faults store.old) (S.faults store.new) result }
@@ -146,7 +148,8 @@ fn append_column<S: Store>(
     requires some { IsSome (S.draft store.old) }
     requires room { 8 ≤ length piece.old }
     requires rows { AreRows rows.now }
-    ensures appended { OnOk result (S.draft store.new ≡ option_map (λ d. appended d (numbers (column_of column rows.now))) (S.draft store.old)) }
+    ensures appended { OnOk result (S.draft store.new
+        ≡ option_map (λ d. appended d (numbers (column_of column rows.now))) (S.draft store.old)) }
     ensures refused { OnErr result (S.draft store.new ≡ None) }
     ensures objects { S.objects store.new ≡ S.objects store.old }
     ensures cause { HasStoreCause (S.faults store.old) (S.faults store.new) result }
@@ -170,7 +173,8 @@ pub(crate) fn append_index<S: Store>(
     requires some { IsSome (S.draft store.old) }
     requires room { 8 ≤ length piece.old }
     requires rows { AreRows rows.now }
-    ensures appended { OnOk result (S.draft store.new ≡ option_map (λ d. appended d (index_bytes (stored rows.now))) (S.draft store.old)) }
+    ensures appended { OnOk result (S.draft store.new
+        ≡ option_map (λ d. appended d (index_bytes (stored rows.now))) (S.draft store.old)) }
     ensures refused { OnErr result (S.draft store.new ≡ None) }
     ensures objects { S.objects store.new ≡ S.objects store.old }
     ensures cause { HasStoreCause (S.faults store.old) (S.faults store.new) result }

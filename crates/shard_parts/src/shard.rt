@@ -24,7 +24,8 @@ fn append_some<S: Store>(store: &mut S, count: usize, piece: &[u8]) -> Result<()
     requires some { IsSome (S.draft store.old) }
     requires within { count ≤ length piece.now }
     requires zeros { piece.now ≡ replicate (length piece.now) 0 }
-    ensures appended { OnOk result (S.draft store.new ≡ option_map (λ d. appended d (replicate count 0)) (S.draft store.old)) }
+    ensures appended { OnOk result (S.draft store.new
+        ≡ option_map (λ d. appended d (replicate count 0)) (S.draft store.old)) }
     ensures refused { OnErr result (S.draft store.new ≡ None) }
     ensures objects { S.objects store.new ≡ S.objects store.old }
     ensures cause { HasStoreCause (S.faults store.old) (S.faults store.new) result }
@@ -36,7 +37,8 @@ fn append_some<S: Store>(store: &mut S, count: usize, piece: &[u8]) -> Result<()
 fn append_zeros<S: Store>(store: &mut S, count: usize, piece: &mut [u8]) -> Result<(), StoreRefusal>
     requires some { IsSome (S.draft store.old) }
     requires room { 8 ≤ length piece.old }
-    ensures appended { OnOk result (S.draft store.new ≡ option_map (λ d. appended d (replicate count 0)) (S.draft store.old)) }
+    ensures appended { OnOk result (S.draft store.new
+        ≡ option_map (λ d. appended d (replicate count 0)) (S.draft store.old)) }
     ensures refused { OnErr result (S.draft store.new ≡ None) }
     ensures objects { S.objects store.new ≡ S.objects store.old }
     ensures cause { HasStoreCause (S.faults store.old) (S.faults store.new) result }
@@ -67,7 +69,8 @@ fn begin_shard<S: Store>(
 ) -> Result<(), StoreRefusal>
     requires bits { bits ≤ 24 }
     requires room { 8 ≤ length piece.old }
-    ensures begun { OnOk result (S.draft store.new ≡ Some (draft_of (S.objects store.old) name.now (shard_bytes bits []))) }
+    ensures begun { OnOk result (S.draft store.new ≡ Some
+        (draft_of (S.objects store.old) name.now (shard_bytes bits []))) }
     ensures refused { OnErr result (S.draft store.new ≡ None) }
     ensures objects { S.objects store.new ≡ S.objects store.old }
     ensures cause { HasStoreCause (S.faults store.old) (S.faults store.new) result }
@@ -91,7 +94,8 @@ pub fn begin_if<S: Store>(
 ) -> Result<(), StoreRefusal>
     requires bits { bits ≤ 24 }
     requires room { 8 ≤ length piece.old }
-    ensures begun { OnOk result (S.draft store.new ≡ (if fresh then Some (draft_of (S.objects store.old) name.now (shard_bytes bits [])) else S.draft store.old)) }
+    ensures begun { OnOk result (S.draft store.new ≡ (if fresh
+        then Some (draft_of (S.objects store.old) name.now (shard_bytes bits [])) else S.draft store.old)) }
     ensures refused { OnErr result (S.draft store.new ≡ None) }
     ensures objects { S.objects store.new ≡ S.objects store.old }
     ensures cause { HasStoreCause (S.faults store.old) (S.faults store.new) result }
@@ -117,7 +121,9 @@ fn end_minishard<S: Store>(
     requires room { 8 ≤ length piece.old }
     requires rows { AreRows rows.now }
     requires fits { at + 24 * length rows.now < 2 ^ 63 }
-    ensures ended { OnOk result (S.draft store.new ≡ option_map (λ d. patched (appended d (index_bytes (stored rows.now))) (16 * minishard) (entry_bytes (record { start = at; end = at + 24 * length rows.now }))) (S.draft store.old)) }
+    ensures ended { OnOk result (S.draft store.new ≡ option_map (λ d.
+        patched (appended d (index_bytes (stored rows.now))) (16 * minishard)
+        (entry_bytes (record { start = at; end = at + 24 * length rows.now }))) (S.draft store.old)) }
     ensures refused { OnErr result (S.draft store.new ≡ None) }
     ensures objects { S.objects store.new ≡ S.objects store.old }
     ensures cause { HasStoreCause (S.faults store.old) (S.faults store.new) result }
@@ -151,7 +157,10 @@ pub fn end_if<S: Store>(
     requires room { 8 ≤ length piece.old }
     requires rows { AreRows rows.old.items }
     requires fits { at + 24 * length rows.old.items < 2 ^ 63 }
-    ensures ended { OnOk result (S.draft store.new ≡ (if ends then option_map (λ d. patched (appended d (index_bytes (stored rows.old.items))) (16 * minishard) (entry_bytes (record { start = at; end = at + 24 * length rows.old.items }))) (S.draft store.old) else S.draft store.old)) }
+    ensures ended { OnOk result (S.draft store.new ≡ (if ends
+        then option_map (λ d. patched (appended d (index_bytes (stored rows.old.items))) (16 * minishard)
+        (entry_bytes (record { start = at; end = at + 24 * length rows.old.items }))) (S.draft store.old)
+        else S.draft store.old)) }
     ensures rows { OnOk result (rows.new.items ≡ (if ends then [] else rows.old.items)) }
     ensures capacity { OnOk result (vec_capacity rows.new ≡ vec_capacity rows.old) }
     ensures at { IfOk result (λ next. next ≡ (if ends then at + 24 * length rows.old.items else at)) }
@@ -174,7 +183,9 @@ pub fn end_if<S: Store>(
 /// Those of the store. Then nothing is being written, and the objects are as before.
 pub fn finish_if<S: Store>(store: &mut S, ends: bool) -> Result<(), StoreRefusal>
     requires { IsSome (S.draft store.old) }
-    ensures finished { OnOk result (IfSome (S.draft store.old) (λ d. S.objects store.new ≡ (if ends then option_map (finished d.told) (S.objects store.old) else S.objects store.old))) }
+    ensures finished { OnOk result (IfSome (S.draft store.old) (λ d.
+        S.objects store.new ≡ (if ends then option_map (finished d.told) (S.objects store.old)
+        else S.objects store.old))) }
     ensures draft { OnOk result (S.draft store.new ≡ (if ends then None else S.draft store.old)) }
     ensures refused { OnErr result (S.draft store.new ≡ None) }
     ensures kept { OnErr result (S.objects store.new ≡ S.objects store.old) }

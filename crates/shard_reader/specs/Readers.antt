@@ -1,4 +1,4 @@
--- What a reader of shards keeps between two look-ups, as its calls say it.
+-- What a reader of shards keeps between two look-ups, as its calls say it (this project's).
 use Rattle.std.specs.Prelude.{◌≡◌, ℕ, ◌+◌, ◌-◌, ◌*◌, ◌<◌, ◌≤◌, ◌==◌, ◌&&◌, Option, None, Some, if◌then◌else◌}
 use Rattle.minishard.specs.Walks.{Progress}
 use Rattle.vol_base.specs.Outside.{Objects, part}
@@ -15,11 +15,14 @@ use Rattle.shard_reader.specs.declared.reader.ShardReader.{ShardReader}
 
 -- what a reader keeps is what the objects of a scale say, where they are told
 abbrev pub Keeps : Option Objects → Name → Scale → Sharding → ShardReader → Type 0
-Keeps objects dataset s sharding reader = KeepsIndex objects (shard_name dataset s) sharding reader.kept reader.window.before reader.window.count reader.window.columns.bytes
+Keeps objects dataset s sharding reader = KeepsIndex objects
+    (shard_name dataset s) sharding reader.kept reader.window.before reader.window.count
+    reader.window.columns.bytes
 
 -- it keeps nothing: whatever the objects are
 abbrev pub KeepsNothing : ShardReader → Type 0
-KeepsNothing reader = (objects : Option Objects) (dataset : Name) (s : Scale) (sharding : Sharding) → Keeps objects dataset s sharding reader
+KeepsNothing reader = (objects : Option Objects) (dataset : Name) (s : Scale) (sharding : Sharding) →
+    Keeps objects dataset s sharding reader
 
 -- the index that it keeps is that of an id
 abbrev pub KeepsOf : ShardReader → Sharding → ℕ → Type 0
@@ -29,10 +32,12 @@ KeepsOf reader sharding id = IsOf reader.kept (shard_of sharding id) (minishard_
 abbrev pub left_by : Option KeptIndex → Progress → ℕ → ℕ → ℕ → ℕ → Option ℕ
 left_by None w count shard m id = None
 left_by (Some kept) w count shard m id =
-    if (kept.shard == shard) && (kept.minishard == m) then Some (kept.opened.index.rows - resumed w count kept.opened.index.rows id) else None
+    if (kept.shard == shard) && (kept.minishard == m)
+    then Some (kept.opened.index.rows - resumed w count kept.opened.index.rows id) else None
 
 abbrev pub rows_left : ShardReader → Sharding → ℕ → Option ℕ
-rows_left reader sharding id = left_by reader.kept reader.window.before reader.window.count (shard_of sharding id) (minishard_of sharding id) id
+rows_left reader sharding id = left_by reader.kept reader.window.before reader.window.count
+    (shard_of sharding id) (minishard_of sharding id) id
 
 -- a look-up of an id ends at a row that is kept
 pub record EndsInside (kept : KeptIndex) (w : Progress) (count shard m id : ℕ) (object : Bytes) : Type 0 where
@@ -50,4 +55,5 @@ EndsBy (Some kept) w count shard m id (Some object) = EndsInside kept w count sh
 
 -- the same of what a reader keeps, by the object of the id's shard
 abbrev pub EndsKept : ShardReader → Sharding → ℕ → Option Bytes → Type 0
-EndsKept reader sharding id object = EndsBy reader.kept reader.window.before reader.window.count (shard_of sharding id) (minishard_of sharding id) id object
+EndsKept reader sharding id object = EndsBy reader.kept reader.window.before reader.window.count
+    (shard_of sharding id) (minishard_of sharding id) id object

@@ -1,4 +1,4 @@
--- What reading a shard answers.
+-- What reading a shard answers (this project's).
 use Rattle.std.specs.Prelude.{◌≡◌, ℕ, ◌+◌, ◌*◌, ◌<◌, ◌≤◌, length, take, drop, Option, None, Some, Result, Ok, Err, Bool, false, true, nat_le, nat_lt, ◌==◌, ◌||◌, ◌&&◌, if◌then◌else◌}
 use Rattle.std.specs.FinMap as map
 use Rattle.vol_base.specs.Outside.{Objects, part}
@@ -30,7 +30,8 @@ OnObject objects name P = (object : Bytes) → told_object objects name ≡ Some
 
 -- of the bytes of so many rows, where the source tells them
 abbrev pub OnIndex : Option Objects → Name → ℕ → ℕ → (Bytes → Type 0) → Type 0
-OnIndex objects name at rows P = (object : Bytes) → told_object objects name ≡ Some object → at + 24 * rows ≤ length object → P (part object at (24 * rows))
+OnIndex objects name at rows P = (object : Bytes) → told_object objects name ≡ Some object →
+    at + 24 * rows ≤ length object → P (part object at (24 * rows))
 
 -- the front of some bytes holds n numbers of an index, from the k-th on
 abbrev pub HoldsNumbers : ℕ → ℕ → Bytes → Bytes → Type 0
@@ -38,7 +39,8 @@ HoldsNumbers k n out index = (i : ℕ) → i < n → number_at out i ≡ number_
 
 -- three columns hold the numbers of n rows, from row `first` on
 abbrev pub Holds : Columns → ℕ → ℕ → Bytes → Bytes → Bytes → Type 0
-Holds c first n ids starts sizes = (i : ℕ) → i < n → IsStored c (first + i) (number_at ids i) (number_at starts i) (number_at sizes i)
+Holds c first n ids starts sizes = (i : ℕ) → i < n →
+    IsStored c (first + i) (number_at ids i) (number_at starts i) (number_at sizes i)
 
 -- The walk has come to where a look-up of an id goes on: it hasn't stopped before, nor would that of a higher id.
 pub record IsAt (c : Columns) (w : Progress) (wanted : ℕ) : Type 0 where
@@ -122,7 +124,8 @@ Opens sharding m None (Ok None) = Unit {0}
 Opens sharding m None (Ok (Some opened)) = ⊥
 Opens sharding m None (Err (Faulty fault)) = ⊥
 Opens sharding m (Some object) (Ok None) = ⊥
-Opens sharding m (Some object) (Ok (Some opened)) = IsOpened sharding m object opened.len opened.index.at opened.index.rows
+Opens sharding m (Some object) (Ok (Some opened)) =
+    IsOpened sharding m object opened.len opened.index.at opened.index.rows
 Opens sharding m (Some object) (Err (Faulty fault)) = of_shard (rows_in object sharding m) ≡ Err fault
 
 -- where an object has the chunk of an id
@@ -149,4 +152,5 @@ Gets (Err NotRead) buffer seen = Unit {0}
 
 -- the bytes that reading a chunk asks for at most
 abbrev pub chunk_cost : Option Bytes → Sharding → ℕ → ℕ → ℕ
-chunk_cost object sharding limit id = cost_of object sharding id + span_cost (found_of object sharding limit id)
+chunk_cost object sharding limit id = cost_of object sharding id
+    + span_cost (found_of object sharding limit id)

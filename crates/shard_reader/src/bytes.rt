@@ -22,9 +22,14 @@ pub(crate) fn read_exact<S: Source>(
 ) -> Result<bool, Failed>
     requires some { 0 < length out.old }
     requires fits { at + length out.old < 2 ^ 64 }
-    ensures whole { IfOk result (λ whole. (object : List ℕ) → told_object (S.objects store.old) name.now ≡ Some object → whole ≡ nat_le (at + length out.old) (length object)) }
-    ensures read { IfOk result (λ _. (object : List ℕ) → told_object (S.objects store.old) name.now ≡ Some object → at + length out.old ≤ length object → out.new ≡ part object at (length out.old)) }
-    ensures kept { OnlyReads (S.objects store.old) (S.objects store.new) (S.draft store.old) (S.draft store.new) }
+    ensures whole { IfOk result (λ whole. (object : List ℕ) →
+        told_object (S.objects store.old) name.now ≡ Some object →
+        whole ≡ nat_le (at + length out.old) (length object)) }
+    ensures read { IfOk result (λ _. (object : List ℕ) →
+        told_object (S.objects store.old) name.now ≡ Some object → at + length out.old ≤ length object →
+        out.new ≡ part object at (length out.old)) }
+    ensures kept { OnlyReads (S.objects store.old) (S.objects store.new) (S.draft store.old)
+        (S.draft store.new) }
     ensures asked { S.asked store.new ≤ S.asked store.old + length out.old }
     ensures cause { HasCause (S.faults store.old) (S.faults store.new) result }
 {

@@ -17,9 +17,13 @@ pub(crate) fn read_span<S: Source>(
 ) -> Result<(), LookupFault>
     requires room { span.now.len ≤ length buffer.old }
     requires within { span.now.start + span.now.len < 2 ^ 64 }
-    ensures read { OnOk result (OnObject (S.objects store.old) name.now (λ object. span.now.start + span.now.len ≤ length object → take span.now.len buffer.new ≡ part object span.now.start span.now.len)) }
-    ensures whole { IfErr result (λ fault. OnObject (S.objects store.old) name.now (λ object. span.now.start + span.now.len ≤ length object → fault ≡ LookupFault.NotRead)) }
-    ensures kept { OnlyReads (S.objects store.old) (S.objects store.new) (S.draft store.old) (S.draft store.new) }
+    ensures read { OnOk result (OnObject (S.objects store.old) name.now (λ object.
+        span.now.start + span.now.len ≤ length object →
+        take span.now.len buffer.new ≡ part object span.now.start span.now.len)) }
+    ensures whole { IfErr result (λ fault. OnObject (S.objects store.old) name.now (λ object.
+        span.now.start + span.now.len ≤ length object → fault ≡ LookupFault.NotRead)) }
+    ensures kept { OnlyReads (S.objects store.old) (S.objects store.new) (S.draft store.old)
+        (S.draft store.new) }
     ensures asked { S.asked store.new ≤ S.asked store.old + span.now.len }
     ensures later { S.faults store.old ≤ S.faults store.new }
     ensures fault { result ≡ Err LookupFault.NotRead → Rose (S.faults store.old) (S.faults store.new) }

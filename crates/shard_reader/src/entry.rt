@@ -39,10 +39,12 @@ pub(crate) fn open_index<S: Source>(
     minishard: u64,
 ) -> Result<Option<OpenedIndex>, LookupFault>
     requires { minishard < 2 ^ sharding.now.minishard_bits }
-    ensures opened { IfSome (S.objects store.old) (λ m. Opens sharding.now minishard (map.get m name.now) result) }
+    ensures opened { IfSome (S.objects store.old) (λ m.
+        Opens sharding.now minishard (map.get m name.now) result) }
     ensures few { IfOk result (λ o. IfSome o (λ opened. opened.index.rows ≤ 2 ^ 22)) }
     ensures fits { IfOk result (λ o. IfSome o (λ opened. opened.index.at + 24 * opened.index.rows < 2 ^ 64)) }
-    ensures kept { OnlyReads (S.objects store.old) (S.objects store.new) (S.draft store.old) (S.draft store.new) }
+    ensures kept { OnlyReads (S.objects store.old) (S.objects store.new) (S.draft store.old)
+        (S.draft store.new) }
     ensures asked { S.asked store.new ≤ S.asked store.old + 16 }
     ensures later { S.faults store.old ≤ S.faults store.new }
     ensures fault { result ≡ Err LookupFault.NotRead → Rose (S.faults store.old) (S.faults store.new) }

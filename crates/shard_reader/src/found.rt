@@ -59,16 +59,27 @@ pub(crate) fn find_chunk<S: Source>(
 ) -> Result<Option<ChunkSpan>, LookupFault>
     requires few { opened.now.index.rows ≤ 2 ^ 22 }
     requires fits { opened.now.index.at + 24 * opened.now.index.rows < 2 ^ 64 }
-    requires opened { OnObject (S.objects store.old) name.now (λ object. IsOpened sharding.now (minishard_of sharding.now id) object opened.now.len opened.now.index.at opened.now.index.rows) }
-    requires window { OnIndex (S.objects store.old) name.now opened.now.index.at opened.now.index.rows (IsWindow window.old.before window.old.count window.old.columns.bytes) }
-    ensures found { OnObject (S.objects store.old) name.now (λ object. Answers (found object sharding.now limit id) result) }
+    requires opened { OnObject (S.objects store.old) name.now (λ object.
+        IsOpened sharding.now
+        (minishard_of sharding.now id) object opened.now.len opened.now.index.at opened.now.index.rows) }
+    requires window { OnIndex (S.objects store.old) name.now opened.now.index.at opened.now.index.rows
+        (IsWindow window.old.before window.old.count window.old.columns.bytes) }
+    ensures found { OnObject (S.objects store.old) name.now (λ object.
+        Answers (found object sharding.now limit id) result) }
     ensures short { IfOk result (λ span. IfSome span (λ s. s.len ≤ limit)) }
     ensures within { IfOk result (λ span. IfSome span (λ s. s.start + s.len < 2 ^ 64)) }
-    ensures window { OnIndex (S.objects store.old) name.now opened.now.index.at opened.now.index.rows (IsWindow window.new.before window.new.count window.new.columns.bytes) }
-    ensures kept { OnlyReads (S.objects store.old) (S.objects store.new) (S.draft store.old) (S.draft store.new) }
-    ensures asked { S.asked store.new ≤ S.asked store.old + 24 * (opened.now.index.rows - resumed window.old.before window.old.count opened.now.index.rows id) }
-    ensures ends { IfOk result (λ span. IfSome span (λ _. OnIndex (S.objects store.old) name.now opened.now.index.at opened.now.index.rows (λ bytes. EndsIn (columns_of bytes) id window.new.before.rows window.new.count))) }
-    ensures again { OnIndex (S.objects store.old) name.now opened.now.index.at opened.now.index.rows (λ bytes. (r : ℕ) → EndsAt (columns_of bytes) id r → window.old.before.rows ≤ r → r < window.old.before.rows + window.old.count → S.asked store.new ≡ S.asked store.old) }
+    ensures window { OnIndex (S.objects store.old) name.now opened.now.index.at opened.now.index.rows
+        (IsWindow window.new.before window.new.count window.new.columns.bytes) }
+    ensures kept { OnlyReads (S.objects store.old) (S.objects store.new) (S.draft store.old)
+        (S.draft store.new) }
+    ensures asked { S.asked store.new ≤ S.asked store.old
+        + 24 * (opened.now.index.rows - resumed window.old.before window.old.count opened.now.index.rows id) }
+    ensures ends { IfOk result (λ span. IfSome span (λ _.
+        OnIndex (S.objects store.old) name.now opened.now.index.at opened.now.index.rows (λ bytes.
+        EndsIn (columns_of bytes) id window.new.before.rows window.new.count))) }
+    ensures again { OnIndex (S.objects store.old) name.now opened.now.index.at opened.now.index.rows (λ bytes.
+        (r : ℕ) → EndsAt (columns_of bytes) id r → window.old.before.rows ≤ r →
+        r < window.old.before.rows + window.old.count → S.asked store.new ≡ S.asked store.old) }
     ensures later { S.faults store.old ≤ S.faults store.new }
     ensures fault { result ≡ Err LookupFault.NotRead → Rose (S.faults store.old) (S.faults store.new) }
 {

@@ -83,16 +83,23 @@ impl ShardReader {
         requires minishard { place.now.minishard < 2 ^ sharding.now.minishard_bits }
         requires name { name.now ≡ shard_name dataset.now scale.now place.now.shard }
         requires keeps { Keeps (S.objects store.old) dataset.now scale.now sharding.now self.old }
-        ensures opened { IfSome (S.objects store.old) (λ m. Opens sharding.now place.now.minishard (map.get m name.now) result) }
+        ensures opened { IfSome (S.objects store.old) (λ m.
+            Opens sharding.now place.now.minishard (map.get m name.now) result) }
         ensures few { IfOk result (λ o. IfSome o (λ opened. opened.index.rows ≤ 2 ^ 22)) }
-        ensures fits { IfOk result (λ o. IfSome o (λ opened. opened.index.at + 24 * opened.index.rows < 2 ^ 64)) }
-        ensures window { IfOk result (λ o. IfSome o (λ opened. OnIndex (S.objects store.old) name.now opened.index.at opened.index.rows (IsWindow self.new.window.before self.new.window.count self.new.window.columns.bytes))) }
-        ensures index { IfOk result (λ o. IfSome o (λ opened. IsKept self.new.kept place.now.shard place.now.minishard opened)) }
+        ensures fits { IfOk result (λ o. IfSome o (λ opened.
+            opened.index.at + 24 * opened.index.rows < 2 ^ 64)) }
+        ensures window { IfOk result (λ o. IfSome o (λ opened.
+            OnIndex (S.objects store.old) name.now opened.index.at opened.index.rows
+            (IsWindow self.new.window.before self.new.window.count self.new.window.columns.bytes))) }
+        ensures index { IfOk result (λ o. IfSome o (λ opened.
+            IsKept self.new.kept place.now.shard place.now.minishard opened)) }
         ensures none { result ≡ Ok None → self.new.kept ≡ None }
         ensures err { OnErr result (self.new.kept ≡ None) }
         ensures same { IsOf self.old.kept place.now.shard place.now.minishard → self.new ≡ self.old }
-        ensures asked_same { IsOf self.old.kept place.now.shard place.now.minishard → S.asked store.new ≡ S.asked store.old }
-        ensures kept { OnlyReads (S.objects store.old) (S.objects store.new) (S.draft store.old) (S.draft store.new) }
+        ensures asked_same { IsOf self.old.kept place.now.shard place.now.minishard →
+            S.asked store.new ≡ S.asked store.old }
+        ensures kept { OnlyReads (S.objects store.old) (S.objects store.new) (S.draft store.old)
+            (S.draft store.new) }
         ensures asked { S.asked store.new ≤ S.asked store.old + 16 }
         ensures later { S.faults store.old ≤ S.faults store.new }
         ensures fault { result ≡ Err LookupFault.NotRead → Rose (S.faults store.old) (S.faults store.new) }
@@ -133,25 +140,36 @@ impl ShardReader {
         requires dataset { length dataset.now ≤ 200 }
         requires sharding { scale.now.sharding ≡ Some sharding.now }
         requires keeps { Keeps (S.objects store.old) dataset.now scale.now sharding.now self.old }
-        ensures found { IfSome (S.objects store.old) (λ m. Answers (found_of (map.get m (shard_name dataset.now scale.now (shard_of sharding.now id))) sharding.now limit id) result) }
+        ensures found { IfSome (S.objects store.old) (λ m.
+            Answers (found_of (map.get m (shard_name dataset.now scale.now
+            (shard_of sharding.now id))) sharding.now limit id) result) }
         ensures short { IfOk result (λ span. IfSome span (λ s. s.len ≤ limit)) }
         ensures within { IfOk result (λ span. IfSome span (λ s. s.start + s.len < 2 ^ 64)) }
         ensures keeps { Keeps (S.objects store.old) dataset.now scale.now sharding.now self.new }
-        ensures kept { OnlyReads (S.objects store.old) (S.objects store.new) (S.draft store.old) (S.draft store.new) }
+        ensures kept { OnlyReads (S.objects store.old) (S.objects store.new) (S.draft store.old)
+            (S.draft store.new) }
         ensures later { S.faults store.old ≤ S.faults store.new }
         ensures fault { result ≡ Err LookupFault.NotRead → Rose (S.faults store.old) (S.faults store.new) }
 
         // The bytes asked for: an entry and an index, less what is kept of them, and none where the look-up
         // ends at a row that is kept.
-        ensures asked { IfSome (S.objects store.old) (λ m. S.asked store.new ≤ S.asked store.old + cost_of (map.get m (shard_name dataset.now scale.now (shard_of sharding.now id))) sharding.now id) }
+        ensures asked { IfSome (S.objects store.old) (λ m.
+            S.asked store.new ≤ S.asked store.old + cost_of
+            (map.get m (shard_name dataset.now scale.now (shard_of sharding.now id))) sharding.now id) }
         ensures asked_most { S.asked store.new ≤ S.asked store.old + (16 + 24 * 2 ^ 22) }
-        ensures asked_left { IfSome (rows_left self.old sharding.now id) (λ rows. S.asked store.new ≤ S.asked store.old + 24 * rows) }
-        ensures again { IfSome (S.objects store.old) (λ m. EndsKept self.old sharding.now id (map.get m (shard_name dataset.now scale.now (shard_of sharding.now id))) → S.asked store.new ≡ S.asked store.old) }
+        ensures asked_left { IfSome (rows_left self.old sharding.now id) (λ rows.
+            S.asked store.new ≤ S.asked store.old + 24 * rows) }
+        ensures again { IfSome (S.objects store.old) (λ m.
+            EndsKept self.old sharding.now id (map.get m
+            (shard_name dataset.now scale.now (shard_of sharding.now id))) →
+            S.asked store.new ≡ S.asked store.old) }
 
         // Behind a look-up that found a chunk its index is kept, and the row at which it ended: the same look-up
         // again asks for nothing.
         ensures stays { IfOk result (λ span. IfSome span (λ _. KeepsOf self.new sharding.now id)) }
-        ensures ends { IfSome (S.objects store.old) (λ m. IfOk result (λ span. IfSome span (λ _. EndsKept self.new sharding.now id (map.get m (shard_name dataset.now scale.now (shard_of sharding.now id)))))) }
+        ensures ends { IfSome (S.objects store.old) (λ m.
+            IfOk result (λ span. IfSome span (λ _. EndsKept self.new sharding.now id
+            (map.get m (shard_name dataset.now scale.now (shard_of sharding.now id)))))) }
     {
         let place = place(sharding, id);
         let name = shard_name(dataset, scale, place.shard);
@@ -186,15 +204,22 @@ impl ShardReader {
         requires sharding { scale.now.sharding ≡ Some sharding.now }
         requires room { limit ≤ length buffer.old }
         requires keeps { Keeps (S.objects store.old) dataset.now scale.now sharding.now self.old }
-        ensures gets { IfSome (S.objects store.old) (λ m. Gets result buffer.new (chunk_bytes (map.get m (shard_name dataset.now scale.now (shard_of sharding.now id))) sharding.now limit id)) }
+        ensures gets { IfSome (S.objects store.old) (λ m.
+            Gets result buffer.new (chunk_bytes (map.get m
+            (shard_name dataset.now scale.now (shard_of sharding.now id))) sharding.now limit id)) }
         ensures short { IfOk result (λ n. IfSome n (λ len. len ≤ limit)) }
         ensures keeps { Keeps (S.objects store.old) dataset.now scale.now sharding.now self.new }
         ensures stays { IfOk result (λ n. IfSome n (λ _. KeepsOf self.new sharding.now id)) }
-        ensures ends { IfSome (S.objects store.old) (λ m. IfOk result (λ n. IfSome n (λ _. EndsKept self.new sharding.now id (map.get m (shard_name dataset.now scale.now (shard_of sharding.now id)))))) }
-        ensures kept { OnlyReads (S.objects store.old) (S.objects store.new) (S.draft store.old) (S.draft store.new) }
+        ensures ends { IfSome (S.objects store.old) (λ m.
+            IfOk result (λ n. IfSome n (λ _. EndsKept self.new sharding.now id
+            (map.get m (shard_name dataset.now scale.now (shard_of sharding.now id)))))) }
+        ensures kept { OnlyReads (S.objects store.old) (S.objects store.new) (S.draft store.old)
+            (S.draft store.new) }
         ensures later { S.faults store.old ≤ S.faults store.new }
         ensures fault { result ≡ Err LookupFault.NotRead → Rose (S.faults store.old) (S.faults store.new) }
-        ensures asked { IfSome (S.objects store.old) (λ m. S.asked store.new ≤ S.asked store.old + chunk_cost (map.get m (shard_name dataset.now scale.now (shard_of sharding.now id))) sharding.now limit id) }
+        ensures asked { IfSome (S.objects store.old) (λ m.
+            S.asked store.new ≤ S.asked store.old + chunk_cost
+            (map.get m (shard_name dataset.now scale.now (shard_of sharding.now id))) sharding.now limit id) }
     {
         match self.locate(store, dataset, scale, sharding, limit, id) {
             Err(fault) => Err(fault),

@@ -35,8 +35,12 @@ fn next_of(
     requires ids { 8 * i + 8 ≤ length ids.now }
     requires starts { 8 * i + 8 ≤ length starts.now }
     requires sizes { 8 * i + 8 ≤ length sizes.now }
-    ensures judged { (c : Columns) → IsWalked c walk.old → IsStored c walk.old.rows (number_at ids.now i) (number_at starts.now i) (number_at sizes.now i) → result ≡ judged_row c walk.old.rows }
-    ensures walked { OnOk result ((c : Columns) → IsWalked c walk.old → IsStored c walk.old.rows (number_at ids.now i) (number_at starts.now i) (number_at sizes.now i) → IsWalked c walk.new) }
+    ensures judged { (c : Columns) → IsWalked c walk.old →
+        IsStored c walk.old.rows (number_at ids.now i) (number_at starts.now i) (number_at sizes.now i) →
+        result ≡ judged_row c walk.old.rows }
+    ensures walked { OnOk result ((c : Columns) → IsWalked c walk.old →
+        IsStored c walk.old.rows (number_at ids.now i) (number_at starts.now i) (number_at sizes.now i) →
+        IsWalked c walk.new) }
     ensures rows { OnOk result (walk.new.rows ≡ walk.old.rows + 1) }
 {
     let id = read_number(ids, i);
@@ -60,8 +64,12 @@ pub(crate) fn scan(
     requires starts { 8 * count ≤ length starts.now }
     requires sizes { 8 * count ≤ length sizes.now }
     ensures rows { result ≡ Ok Seen.Nothing → walk.new.rows ≡ walk.old.rows + count }
-    ensures seen { (c : Columns) → IsAt c walk.old id → Holds c walk.old.rows count ids.now starts.now sizes.now → walk.old.rows + count ≤ length c.ids → Sees c id result walk.new }
-    ensures ends { (c : Columns) → IsAt c walk.old id → Holds c walk.old.rows count ids.now starts.now sizes.now → walk.old.rows + count ≤ length c.ids → EndsSeen c id result walk.old.rows count }
+    ensures seen { (c : Columns) → IsAt c walk.old id →
+        Holds c walk.old.rows count ids.now starts.now sizes.now → walk.old.rows + count ≤ length c.ids →
+        Sees c id result walk.new }
+    ensures ends { (c : Columns) → IsAt c walk.old id →
+        Holds c walk.old.rows count ids.now starts.now sizes.now → walk.old.rows + count ≤ length c.ids →
+        EndsSeen c id result walk.old.rows count }
 {
     for i in 0..count {
         match next_of(walk, i, ids, starts, sizes) {

@@ -1,4 +1,4 @@
-//! Windows of an index.
+//! Windows of an index: up to 1,024 of its rows, side by side, read at once.
 ghost use Rattle.std.specs.Prelude.{◌≡◌, ◌≢◌, ◌+◌, ◌-◌, ◌*◌, ◌<◌, ◌≤◌, ◌^◌, length, take, drop, Ok, Err, OnOk, OnErr, IfErr, IfOk, IfSome, true, ℕ};
 ghost use Rattle.shard_reader.specs.Reading.{Answers, EndsAt, EndsIn, EndsSeen, Holds, HoldsNumbers, IsAt, IsWindow, OnIndex, resumed, resumes, serves, sizes_of, starts_of, Tells};
 ghost use Rattle.vol_base.specs.Causes.{Rose};
@@ -26,9 +26,12 @@ fn read_numbers<S: Source>(
     requires within { from + count ≤ 3 * index.now.rows }
     requires fits { index.now.at + 24 * index.now.rows < 2 ^ 64 }
     requires room { 8 * count ≤ length out.old }
-    ensures read { OnOk result (OnIndex (S.objects store.old) name.now index.now.at index.now.rows (HoldsNumbers from count out.new)) }
-    ensures whole { IfErr result (λ fault. OnIndex (S.objects store.old) name.now index.now.at index.now.rows (λ _. fault ≡ LookupFault.NotRead)) }
-    ensures kept { OnlyReads (S.objects store.old) (S.objects store.new) (S.draft store.old) (S.draft store.new) }
+    ensures read { OnOk result (OnIndex (S.objects store.old) name.now index.now.at index.now.rows
+        (HoldsNumbers from count out.new)) }
+    ensures whole { IfErr result (λ fault. OnIndex (S.objects store.old) name.now index.now.at index.now.rows
+        (λ _. fault ≡ LookupFault.NotRead)) }
+    ensures kept { OnlyReads (S.objects store.old) (S.objects store.new) (S.draft store.old)
+        (S.draft store.new) }
     ensures asked { S.asked store.new ≤ S.asked store.old + 8 * count }
     ensures later { S.faults store.old ≤ S.faults store.new }
     ensures fault { result ≡ Err LookupFault.NotRead → Rose (S.faults store.old) (S.faults store.new) }
@@ -54,10 +57,13 @@ fn read_column<S: Source>(
     requires within { from + count ≤ 3 * index.now.rows }
     requires fits { index.now.at + 24 * index.now.rows < 2 ^ 64 }
     requires room { place + 8 * count ≤ length columns.old }
-    ensures read { OnOk result (OnIndex (S.objects store.old) name.now index.now.at index.now.rows (HoldsNumbers from count (drop place columns.new))) }
+    ensures read { OnOk result (OnIndex (S.objects store.old) name.now index.now.at index.now.rows
+        (HoldsNumbers from count (drop place columns.new))) }
     ensures front { take place columns.new ≡ take place columns.old }
-    ensures whole { IfErr result (λ fault. OnIndex (S.objects store.old) name.now index.now.at index.now.rows (λ _. fault ≡ LookupFault.NotRead)) }
-    ensures kept { OnlyReads (S.objects store.old) (S.objects store.new) (S.draft store.old) (S.draft store.new) }
+    ensures whole { IfErr result (λ fault. OnIndex (S.objects store.old) name.now index.now.at index.now.rows
+        (λ _. fault ≡ LookupFault.NotRead)) }
+    ensures kept { OnlyReads (S.objects store.old) (S.objects store.new) (S.draft store.old)
+        (S.draft store.new) }
     ensures asked { S.asked store.new ≤ S.asked store.old + 8 * count }
     ensures later { S.faults store.old ≤ S.faults store.new }
     ensures fault { result ≡ Err LookupFault.NotRead → Rose (S.faults store.old) (S.faults store.new) }
@@ -83,9 +89,13 @@ fn read_columns<S: Source>(
     requires fits { index.now.at + 24 * index.now.rows < 2 ^ 64 }
     requires width { 8 * count ≤ width }
     requires room { 3 * width ≤ length columns.old }
-    ensures read { OnOk result (OnIndex (S.objects store.old) name.now index.now.at index.now.rows (λ bytes. Holds (columns_of bytes) first count columns.new (drop width columns.new) (drop (2 * width) columns.new))) }
-    ensures whole { IfErr result (λ fault. OnIndex (S.objects store.old) name.now index.now.at index.now.rows (λ _. fault ≡ LookupFault.NotRead)) }
-    ensures kept { OnlyReads (S.objects store.old) (S.objects store.new) (S.draft store.old) (S.draft store.new) }
+    ensures read { OnOk result (OnIndex (S.objects store.old) name.now index.now.at index.now.rows (λ bytes.
+        Holds (columns_of bytes) first count columns.new (drop width columns.new)
+        (drop (2 * width) columns.new))) }
+    ensures whole { IfErr result (λ fault. OnIndex (S.objects store.old) name.now index.now.at index.now.rows
+        (λ _. fault ≡ LookupFault.NotRead)) }
+    ensures kept { OnlyReads (S.objects store.old) (S.objects store.new) (S.draft store.old)
+        (S.draft store.new) }
     ensures asked { S.asked store.new ≤ S.asked store.old + 24 * count }
     ensures later { S.faults store.old ≤ S.faults store.new }
     ensures fault { result ≡ Err LookupFault.NotRead → Rose (S.faults store.old) (S.faults store.new) }
@@ -121,9 +131,12 @@ fn read_rows<S: Source>(
     requires within { first + count ≤ index.now.rows }
     requires fits { index.now.at + 24 * index.now.rows < 2 ^ 64 }
     requires room { length columns.old ≡ 24576 }
-    ensures read { OnOk result (OnIndex (S.objects store.old) name.now index.now.at index.now.rows (λ bytes. Holds (columns_of bytes) first count columns.new (starts_of columns.new) (sizes_of columns.new))) }
-    ensures whole { IfErr result (λ fault. OnIndex (S.objects store.old) name.now index.now.at index.now.rows (λ _. fault ≡ LookupFault.NotRead)) }
-    ensures kept { OnlyReads (S.objects store.old) (S.objects store.new) (S.draft store.old) (S.draft store.new) }
+    ensures read { OnOk result (OnIndex (S.objects store.old) name.now index.now.at index.now.rows (λ bytes.
+        Holds (columns_of bytes) first count columns.new (starts_of columns.new) (sizes_of columns.new))) }
+    ensures whole { IfErr result (λ fault. OnIndex (S.objects store.old) name.now index.now.at index.now.rows
+        (λ _. fault ≡ LookupFault.NotRead)) }
+    ensures kept { OnlyReads (S.objects store.old) (S.objects store.new) (S.draft store.old)
+        (S.draft store.new) }
     ensures asked { S.asked store.new ≤ S.asked store.old + 24 * count }
     ensures later { S.faults store.old ≤ S.faults store.new }
     ensures fault { result ≡ Err LookupFault.NotRead → Rose (S.faults store.old) (S.faults store.new) }
@@ -210,10 +223,15 @@ impl Window {
         ensures before { OnOk result (self.new.before ≡ walk.now) }
         ensures some { OnOk result (0 < self.new.count) }
         ensures within { OnOk result (walk.now.rows + self.new.count ≤ index.now.rows) }
-        ensures none { OnErr result ((self.new.before ≡ record { rows = 0; id = 0; end = 0 }) × (self.new.count ≡ 0)) }
-        ensures read { OnOk result (OnIndex (S.objects store.old) name.now index.now.at index.now.rows (λ bytes. Holds (columns_of bytes) walk.now.rows self.new.count self.new.columns.bytes (starts_of self.new.columns.bytes) (sizes_of self.new.columns.bytes))) }
-        ensures whole { IfErr result (λ fault. OnIndex (S.objects store.old) name.now index.now.at index.now.rows (λ _. fault ≡ LookupFault.NotRead)) }
-        ensures kept { OnlyReads (S.objects store.old) (S.objects store.new) (S.draft store.old) (S.draft store.new) }
+        ensures none { OnErr result ((self.new.before ≡ record { rows = 0; id = 0; end = 0 }) ×
+            (self.new.count ≡ 0)) }
+        ensures read { OnOk result (OnIndex (S.objects store.old) name.now index.now.at index.now.rows
+            (λ bytes. Holds (columns_of bytes) walk.now.rows self.new.count self.new.columns.bytes
+            (starts_of self.new.columns.bytes) (sizes_of self.new.columns.bytes))) }
+        ensures whole { IfErr result (λ fault. OnIndex
+            (S.objects store.old) name.now index.now.at index.now.rows (λ _. fault ≡ LookupFault.NotRead)) }
+        ensures kept { OnlyReads (S.objects store.old) (S.objects store.new) (S.draft store.old)
+            (S.draft store.new) }
         ensures asked { OnOk result (S.asked store.new ≤ S.asked store.old + 24 * self.new.count) }
         ensures asked_err { S.asked store.new ≤ S.asked store.old + 24 * (index.now.rows - walk.now.rows) }
         ensures later { S.faults store.old ≤ S.faults store.new }
@@ -235,8 +253,14 @@ impl Window {
     fn look(&self, walk: &mut Walk, id: u64) -> Result<Seen, LookupFault>
         requires { walk.old ≡ self.now.before }
         ensures rows { result ≡ Ok Seen.Nothing → walk.new.rows ≡ walk.old.rows + self.now.count }
-        ensures seen { (c : Columns) → IsAt c walk.old id → Holds c walk.old.rows self.now.count self.now.columns.bytes (starts_of self.now.columns.bytes) (sizes_of self.now.columns.bytes) → walk.old.rows + self.now.count ≤ length c.ids → Tells c id result walk.new }
-        ensures ends { (c : Columns) → IsAt c walk.old id → Holds c walk.old.rows self.now.count self.now.columns.bytes (starts_of self.now.columns.bytes) (sizes_of self.now.columns.bytes) → walk.old.rows + self.now.count ≤ length c.ids → EndsSeen c id result walk.old.rows self.now.count }
+        ensures seen { (c : Columns) → IsAt c walk.old id →
+            Holds c walk.old.rows self.now.count self.now.columns.bytes (starts_of self.now.columns.bytes)
+            (sizes_of self.now.columns.bytes) → walk.old.rows + self.now.count ≤ length c.ids →
+            Tells c id result walk.new }
+        ensures ends { (c : Columns) → IsAt c walk.old id →
+            Holds c walk.old.rows self.now.count self.now.columns.bytes (starts_of self.now.columns.bytes)
+            (sizes_of self.now.columns.bytes) → walk.old.rows + self.now.count ≤ length c.ids →
+            EndsSeen c id result walk.old.rows self.now.count }
         ensures read { result ≢ Err LookupFault.NotRead }
     {
         let columns = all_of(&self.columns);
@@ -271,17 +295,28 @@ impl Window {
         requires few { index.now.rows ≤ 2 ^ 22 }
         requires fits { index.now.at + 24 * index.now.rows < 2 ^ 64 }
         requires within { self.old.before.rows + self.old.count ≤ index.now.rows }
-        requires window { OnIndex (S.objects store.old) name.now index.now.at index.now.rows (IsWindow self.old.before self.old.count self.old.columns.bytes) }
+        requires window { OnIndex (S.objects store.old) name.now index.now.at index.now.rows
+            (IsWindow self.old.before self.old.count self.old.columns.bytes) }
         requires behind { resumes self.old.before id ≡ true }
-        ensures found { OnIndex (S.objects store.old) name.now index.now.at index.now.rows (λ bytes. Answers (of_index (find_in (columns_of bytes) id)) result) }
+        ensures found { OnIndex (S.objects store.old) name.now index.now.at index.now.rows (λ bytes.
+            Answers (of_index (find_in (columns_of bytes) id)) result) }
         ensures within { self.new.before.rows + self.new.count ≤ index.now.rows }
-        ensures window { OnIndex (S.objects store.old) name.now index.now.at index.now.rows (IsWindow self.new.before self.new.count self.new.columns.bytes) }
-        ensures kept { OnlyReads (S.objects store.old) (S.objects store.new) (S.draft store.old) (S.draft store.new) }
-        ensures asked { S.asked store.new ≤ S.asked store.old + 24 * (index.now.rows - (self.old.before.rows + self.old.count)) }
+        ensures window { OnIndex (S.objects store.old) name.now index.now.at index.now.rows
+            (IsWindow self.new.before self.new.count self.new.columns.bytes) }
+        ensures kept { OnlyReads (S.objects store.old) (S.objects store.new) (S.draft store.old)
+            (S.draft store.new) }
+        ensures asked { S.asked store.new ≤ S.asked store.old
+            + 24 * (index.now.rows - (self.old.before.rows + self.old.count)) }
         // The rows up to the end of the window are read once each, but for those that were there.
-        ensures once { OnOk result (S.asked store.new + 24 * (self.old.before.rows + self.old.count) ≤ S.asked store.old + 24 * (self.new.before.rows + self.new.count)) }
-        ensures ends { IfOk result (λ row. IfSome row (λ _. OnIndex (S.objects store.old) name.now index.now.at index.now.rows (λ bytes. EndsIn (columns_of bytes) id self.new.before.rows self.new.count))) }
-        ensures again { OnIndex (S.objects store.old) name.now index.now.at index.now.rows (λ bytes. (r : ℕ) → EndsAt (columns_of bytes) id r → r < self.old.before.rows + self.old.count → S.asked store.new ≡ S.asked store.old) }
+        ensures once { OnOk result (S.asked store.new
+            + 24 * (self.old.before.rows + self.old.count) ≤ S.asked store.old
+            + 24 * (self.new.before.rows + self.new.count)) }
+        ensures ends { IfOk result (λ row. IfSome row (λ _.
+            OnIndex (S.objects store.old) name.now index.now.at index.now.rows (λ bytes.
+            EndsIn (columns_of bytes) id self.new.before.rows self.new.count))) }
+        ensures again { OnIndex (S.objects store.old) name.now index.now.at index.now.rows (λ bytes. (r : ℕ) →
+            EndsAt (columns_of bytes) id r → r < self.old.before.rows + self.old.count →
+            S.asked store.new ≡ S.asked store.old) }
         ensures later { S.faults store.old ≤ S.faults store.new }
         ensures fault { result ≡ Err LookupFault.NotRead → Rose (S.faults store.old) (S.faults store.new) }
     {
@@ -338,14 +373,25 @@ impl Window {
     ) -> Result<Option<Row>, LookupFault>
         requires few { index.now.rows ≤ 2 ^ 22 }
         requires fits { index.now.at + 24 * index.now.rows < 2 ^ 64 }
-        requires window { OnIndex (S.objects store.old) name.now index.now.at index.now.rows (IsWindow self.old.before self.old.count self.old.columns.bytes) }
-        ensures found { OnIndex (S.objects store.old) name.now index.now.at index.now.rows (λ bytes. Answers (of_index (find_in (columns_of bytes) id)) result) }
-        ensures window { OnIndex (S.objects store.old) name.now index.now.at index.now.rows (IsWindow self.new.before self.new.count self.new.columns.bytes) }
-        ensures kept { OnlyReads (S.objects store.old) (S.objects store.new) (S.draft store.old) (S.draft store.new) }
-        ensures asked { S.asked store.new ≤ S.asked store.old + 24 * (index.now.rows - resumed self.old.before self.old.count index.now.rows id) }
-        ensures once { OnOk result (S.asked store.new + 24 * resumed self.old.before self.old.count index.now.rows id ≤ S.asked store.old + 24 * (self.new.before.rows + self.new.count)) }
-        ensures ends { IfOk result (λ row. IfSome row (λ _. OnIndex (S.objects store.old) name.now index.now.at index.now.rows (λ bytes. EndsIn (columns_of bytes) id self.new.before.rows self.new.count))) }
-        ensures again { OnIndex (S.objects store.old) name.now index.now.at index.now.rows (λ bytes. (r : ℕ) → EndsAt (columns_of bytes) id r → self.old.before.rows ≤ r → r < self.old.before.rows + self.old.count → S.asked store.new ≡ S.asked store.old) }
+        requires window { OnIndex (S.objects store.old) name.now index.now.at index.now.rows
+            (IsWindow self.old.before self.old.count self.old.columns.bytes) }
+        ensures found { OnIndex (S.objects store.old) name.now index.now.at index.now.rows (λ bytes.
+            Answers (of_index (find_in (columns_of bytes) id)) result) }
+        ensures window { OnIndex (S.objects store.old) name.now index.now.at index.now.rows
+            (IsWindow self.new.before self.new.count self.new.columns.bytes) }
+        ensures kept { OnlyReads (S.objects store.old) (S.objects store.new) (S.draft store.old)
+            (S.draft store.new) }
+        ensures asked { S.asked store.new ≤ S.asked store.old
+            + 24 * (index.now.rows - resumed self.old.before self.old.count index.now.rows id) }
+        ensures once { OnOk result (S.asked store.new
+            + 24 * resumed self.old.before self.old.count index.now.rows id ≤ S.asked store.old
+            + 24 * (self.new.before.rows + self.new.count)) }
+        ensures ends { IfOk result (λ row. IfSome row (λ _.
+            OnIndex (S.objects store.old) name.now index.now.at index.now.rows (λ bytes.
+            EndsIn (columns_of bytes) id self.new.before.rows self.new.count))) }
+        ensures again { OnIndex (S.objects store.old) name.now index.now.at index.now.rows (λ bytes. (r : ℕ) →
+            EndsAt (columns_of bytes) id r → self.old.before.rows ≤ r →
+            r < self.old.before.rows + self.old.count → S.asked store.new ≡ S.asked store.old) }
         ensures later { S.faults store.old ≤ S.faults store.new }
         ensures fault { result ≡ Err LookupFault.NotRead → Rose (S.faults store.old) (S.faults store.new) }
     {

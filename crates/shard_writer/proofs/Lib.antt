@@ -9,6 +9,7 @@ pub mod ObjectSteps
 pub mod PlaceSteps
 pub mod PlannedSteps
 pub mod PutSteps
+pub mod SpareSteps
 pub mod StateSteps
 pub mod WindowSteps
 pub mod WorkSteps

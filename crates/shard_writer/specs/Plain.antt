@@ -1,4 +1,4 @@
--- What a writer of an unsharded scale puts, job by job.
+-- What a writer of an unsharded scale puts, job by job (this project's).
 use Rattle.std.specs.Prelude.{ℕ, List, [], map, Option, unwrap_or}
 use Rattle.std.specs.List.{range_with_len, sum_by}
 use Rattle.vol_spec.specs.CellNames.{cell_name}

@@ -1,5 +1,5 @@
--- Frames for the chunks of a scale, and chunks that were encoded ahead.
-use Rattle.std.specs.Prelude.{◌≡◌, ◌+◌, ◌-◌, ◌<◌, ◌≤◌, ◌^◌, ℕ, List, Vec, length, slice_index_or, Option, Some, None, IsSome}
+-- Frames for the chunks of a scale, and workers with the chunks that they encoded ahead (this project's).
+use Rattle.std.specs.Prelude.{◌≡◌, ◌<◌, ◌≤◌, ◌^◌, ℕ, List, Vec, length, slice_index_or, Option, Some, None, IsSome}
 use Rattle.std.specs.Global.{Global}
 use Rattle.vol_spec.specs.Limits.{first_bytes, limit_of}
 use Rattle.vol_spec.specs.Types.{Bytes}
@@ -8,8 +8,10 @@ use Rattle.vol_spec.specs.declared.scale.Scale.{Scale}
 use Rattle.vol_spec.specs.Writable.{IsWritable}
 use Rattle.segment_cells.specs.Serving.{ServesScale}
 use Rattle.write_plan.specs.Jobs.{Work}
+use Rattle.shard_writer.specs.declared.frames.Encoded.{Encoded}
 use Rattle.shard_writer.specs.declared.frames.Frames.{Frames}
 use Rattle.shard_writer.specs.declared.frames.Segments.{Segments}
+use Rattle.shard_writer.specs.declared.frames.Worker.{Worker}
 
 -- room for the values of each cell, and a scratch for its chunk
 pub record AreSegments (s : Scale) (segments : Segments) : Type 0 where
@@ -32,14 +34,19 @@ pub record IsChunkOf (chunk : Bytes) (v : Vec ℕ Global) : Type 0 where
   pub bytes : v.items ≡ chunk
   pub small : length v.items ≤ 2 ^ 27
 
--- the chunks of jobs that follow each other, from a number on
-abbrev pub AreChunks : (ℕ → Bytes) → ℕ → List (Vec ℕ Global) → Type 0
-AreChunks chunk first list = (i : ℕ) (d : Vec ℕ Global) → i < length list → IsChunkOf (chunk (first + i)) (slice_index_or list i d)
+-- each is its job's chunk
+abbrev pub AreEncoded : (ℕ → Bytes) → List Encoded → Type 0
+AreEncoded chunk list = (i : ℕ) (d : Encoded) → i < length list →
+    IsChunkOf (chunk (slice_index_or list i d).job) (slice_index_or list i d).bytes
 
--- the chunks of the jobs from one number up to, not with, another
-pub record HaveChunks (chunk : ℕ → Bytes) (from to : ℕ) (v : Vec (Vec ℕ Global) Global) : Type 0 where
-  pub each : AreChunks chunk from v.items
-  pub count : length v.items ≡ to - from
+-- a worker has room for each chunk of the scale, and what it encoded are its jobs' chunks
+pub record IsWorker (s : Scale) (chunk : ℕ → Bytes) (worker : Worker) : Type 0 where
+  pub frames : ServesFrames s worker.frames
+  pub done : AreEncoded chunk worker.done.items
+
+-- it is so with each worker of a team
+abbrev pub AreWorkers : Scale → (ℕ → Bytes) → List Worker → Type 0
+AreWorkers s chunk team = (i : ℕ) (d : Worker) → i < length team → IsWorker s chunk (slice_index_or team i d)
 
 -- the jobs from one number up to, not with, another are prepared, of a scale that can be written
 pub record ArePrepared (s : Scale) (work : Work) (ready : ℕ → Option Bytes) (from to : ℕ) : Type 0 where

@@ -68,7 +68,8 @@ fn fill_values<C: Chunks>(chunks: &C, scale: &Scale, job: u64, values: &mut [u8]
     requires scale { (C.work chunks.now).scale ≡ scale.now }
     requires job { job < length (C.work chunks.now).cells }
     requires ready { IsSome (C.ready chunks.now job) }
-    requires room { length values.old ≡ first_bytes scale.now.width scale.now.channels scale.now.size scale.now.chunk }
+    requires room { length values.old ≡ first_bytes scale.now.width scale.now.channels scale.now.size
+        scale.now.chunk }
     ensures bytes { take result values.new ≡ bytes_in (C.ready chunks.now job) }
     ensures len { result ≡ raw_size scale.now (cell_of (C.work chunks.now).cells job) }
     ensures within { result ≤ length values.new }
@@ -92,7 +93,8 @@ fn encode_values<C: Chunks>(
     requires job { job < length (C.work chunks.now).cells }
     requires ready { IsSome (C.ready chunks.now job) }
     requires segments { AreSegments scale.now segments.old }
-    requires room { length chunk.old ≡ limit_of scale.now.encoding scale.now.width scale.now.channels scale.now.size scale.now.chunk }
+    requires room { length chunk.old ≡ limit_of scale.now.encoding scale.now.width scale.now.channels
+        scale.now.size scale.now.chunk }
     ensures bytes { take result chunk.new ≡ chunk_ready (C.work chunks.now) (C.ready chunks.now) job }
     ensures within { result ≤ length chunk.new }
     ensures small { result ≤ 2 ^ 27 }
@@ -121,7 +123,8 @@ pub(crate) fn encode_job<C: Chunks>(
     requires job { job < length (C.work chunks.now).cells }
     requires ready { IsSome (C.ready chunks.now job) }
     requires frames { ServesFrames scale.now frames.old }
-    ensures bytes { take result frames.new.chunk.items ≡ chunk_ready (C.work chunks.now) (C.ready chunks.now) job }
+    ensures bytes { take result frames.new.chunk.items
+        ≡ chunk_ready (C.work chunks.now) (C.ready chunks.now) job }
     ensures within { result ≤ length frames.new.chunk.items }
     ensures small { result ≤ 2 ^ 27 }
     ensures frames { ServesFrames scale.now frames.new }

@@ -1,4 +1,4 @@
-//! Memory for a chunk, taken before the first call of a store; and chunks that were encoded ahead.
+//! Memory for a chunk, taken before the first call of a store; and workers, with the chunks that they encoded ahead.
 
 use segment_blocks::Scratch;
 
@@ -9,17 +9,24 @@ pub(crate) struct Frames {
     pub segments: Option<Segments>,
 }
 
-/// Chunks of jobs that follow each other, as they are stored: those of the jobs from a number on.
-#[derive(Drop)]
-pub(crate) struct Encoded {
-    pub first: u64,
-    pub list: Vec<Vec<u8>>,
-}
-
 /// What encoding a chunk in blocks takes: room for its values, and a scratch.
 #[derive(Drop)]
 pub(crate) struct Segments {
     pub block: [u64; 3],
     pub values: Vec<u8>,
     pub scratch: Scratch,
+}
+
+/// A job's chunk, as it is stored.
+#[derive(Drop)]
+pub(crate) struct Encoded {
+    pub job: u64,
+    pub bytes: Vec<u8>,
+}
+
+/// Frames of one worker, and the chunks that it encoded, in the order in which it came to them.
+#[derive(Drop)]
+pub(crate) struct Worker {
+    pub frames: Frames,
+    pub done: Vec<Encoded>,
 }

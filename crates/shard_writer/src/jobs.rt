@@ -10,12 +10,12 @@ ghost use Rattle.vol_spec.specs.Limits.{first_bytes};
 ghost use Rattle.vol_spec.specs.StoredCells.{cell_of, put_in};
 ghost use Rattle.vol_spec.specs.Writable.{IsWritable};
 ghost use Rattle.shard_writer.specs.Plain.{bytes_in, chunk_ready, objects_from};
-ghost use Rattle.shard_writer.specs.Serving.{AreChunks, ServesFrames};
+ghost use Rattle.shard_writer.specs.Serving.{AreWorkers, ServesFrames};
 ghost use Rattle.shard_writer.specs.Writing.{Drops, PutsFront, joint_len};
 
 use crate::ahead::find_chunk;
 use crate::encoder::encode_job;
-use crate::frames::{Encoded, Frames};
+use crate::frames::{Frames, Worker};
 use crate::steps::find_job;
 use chunk_grid::{byte_len, cell_box, object_name};
 use vol_base::{Name, Store, StoreRefusal};
@@ -24,7 +24,8 @@ use write_plan::Chunks;
 
 // Puts an object.
 fn put_object<S: Store>(store: &mut S, name: &Name, bytes: &[u8]) -> Result<(), StoreRefusal>
-    ensures put { OnOk result (S.objects store.new ≡ option_map (λ m. fin.insert m name.now bytes.now) (S.objects store.old)) }
+    ensures put { OnOk result (S.objects store.new ≡ option_map (λ m.
+        fin.insert m name.now bytes.now) (S.objects store.old)) }
     ensures kept { OnErr result (S.objects store.new ≡ S.objects store.old) }
     ensures draft { S.draft store.new ≡ None }
     ensures cause { HasStoreCause (S.faults store.old) (S.faults store.new) result }
@@ -56,7 +57,8 @@ pub(crate) fn find_len(scale: &Scale, cell: [u64; 3]) -> usize
 /// Puts the raw bytes of a job that is prepared.
 pub(crate) fn fill_job<C: Chunks>(chunks: &C, job: u64, raw: &mut [u8])
     requires ready { IsSome (C.ready chunks.now job) }
-    requires len { length raw.old ≡ raw_size (C.work chunks.now).scale (cell_of (C.work chunks.now).cells job) }
+    requires len { length raw.old ≡ raw_size (C.work chunks.now).scale
+        (cell_of (C.work chunks.now).cells job) }
     ensures { raw.new ≡ bytes_in (C.ready chunks.now job) }
 {
     chunks.fill(job, raw);
@@ -64,7 +66,8 @@ pub(crate) fn fill_job<C: Chunks>(chunks: &C, job: u64, raw: &mut [u8])
 
 // Puts the object of a chunk; answers how many bytes it has.
 fn put_chunk<S: Store>(store: &mut S, name: &Name, chunk: &[u8]) -> Result<u64, StoreRefusal>
-    ensures put { OnOk result (S.objects store.new ≡ option_map (λ m. fin.insert m name.now chunk.now) (S.objects store.old)) }
+    ensures put { OnOk result (S.objects store.new ≡ option_map (λ m.
+        fin.insert m name.now chunk.now) (S.objects store.old)) }
     ensures bytes { IfOk result (λ len. len ≡ length chunk.now) }
     ensures kept { OnErr result (S.objects store.new ≡ S.objects store.old) }
     ensures draft { S.draft store.new ≡ None }
@@ -82,7 +85,7 @@ fn write_job<S: Store, C: Chunks>(
     scale: &Scale,
     chunks: &C,
     job: u64,
-    encoded: &Encoded,
+    team: &[Worker],
     frames: &mut Frames,
 ) -> Result<u64, StoreRefusal>
     requires dataset { length dataset.now ≤ 200 }
@@ -90,10 +93,13 @@ fn write_job<S: Store, C: Chunks>(
     requires job { job < length (C.work chunks.now).cells }
     requires ready { IsSome (C.ready chunks.now job) }
     requires writable { IsWritable scale.now }
-    requires encoded { AreChunks (chunk_ready (C.work chunks.now) (C.ready chunks.now)) encoded.now.first encoded.now.list.items }
+    requires team { AreWorkers scale.now (chunk_ready (C.work chunks.now) (C.ready chunks.now)) team.now }
     requires frames { ServesFrames scale.now frames.old }
-    ensures put { OnOk result (S.objects store.new ≡ option_map (λ m. fin.insert m (cell_name dataset.now scale.now (cell_of (C.work chunks.now).cells job)) (chunk_ready (C.work chunks.now) (C.ready chunks.now) job)) (S.objects store.old)) }
-    ensures bytes { IfOk result (λ len. len ≡ length (chunk_ready (C.work chunks.now) (C.ready chunks.now) job)) }
+    ensures put { OnOk result (S.objects store.new ≡ option_map (λ m.
+        fin.insert m (cell_name dataset.now scale.now (cell_of (C.work chunks.now).cells job))
+        (chunk_ready (C.work chunks.now) (C.ready chunks.now) job)) (S.objects store.old)) }
+    ensures bytes { IfOk result (λ len. len ≡ length
+        (chunk_ready (C.work chunks.now) (C.ready chunks.now) job)) }
     ensures small { IfOk result (λ len. len ≤ 2 ^ 27) }
     ensures frames { ServesFrames scale.now frames.new }
     ensures kept { OnErr result (S.objects store.new ≡ S.objects store.old) }
@@ -101,7 +107,7 @@ fn write_job<S: Store, C: Chunks>(
     ensures cause { HasStoreCause (S.faults store.old) (S.faults store.new) result }
 {
     let name = object_name(dataset, scale, find_cell(chunks, job));
-    match find_chunk(encoded, job) {
+    match find_chunk(team, job) {
         Some(chunk) => put_chunk(store, &name, chunk),
         None => {
             let len = encode_job(chunks, scale, job, frames);
@@ -119,7 +125,7 @@ pub(crate) fn write_jobs<S: Store, C: Chunks>(
     chunks: &C,
     from: u64,
     to: u64,
-    encoded: &Encoded,
+    team: &[Worker],
     frames: &mut Frames,
 ) -> Result<u64, StoreRefusal>
     requires dataset { length dataset.now ≤ 200 }
@@ -129,19 +135,25 @@ pub(crate) fn write_jobs<S: Store, C: Chunks>(
     requires few { to ≤ 2 ^ 22 }
     requires ready { (job : ℕ) → from ≤ job → job < to → IsSome (C.ready chunks.now job) }
     requires writable { IsWritable scale.now }
-    requires encoded { AreChunks (chunk_ready (C.work chunks.now) (C.ready chunks.now)) encoded.now.first encoded.now.list.items }
+    requires team { AreWorkers scale.now (chunk_ready (C.work chunks.now) (C.ready chunks.now)) team.now }
     requires frames { ServesFrames scale.now frames.old }
-    ensures put { OnOk result (S.objects store.new ≡ option_map (λ m. put_in m (objects_from dataset.now scale.now (C.work chunks.now).cells (chunk_ready (C.work chunks.now) (C.ready chunks.now)) from (to - from))) (S.objects store.old)) }
-    ensures bytes { IfOk result (λ len. len ≡ joint_len (objects_from dataset.now scale.now (C.work chunks.now).cells (chunk_ready (C.work chunks.now) (C.ready chunks.now)) from (to - from))) }
+    ensures put { OnOk result (S.objects store.new ≡ option_map (λ m.
+        put_in m (objects_from dataset.now scale.now (C.work chunks.now).cells
+        (chunk_ready (C.work chunks.now) (C.ready chunks.now)) from (to - from))) (S.objects store.old)) }
+    ensures bytes { IfOk result (λ len. len ≡ joint_len
+        (objects_from dataset.now scale.now (C.work chunks.now).cells
+        (chunk_ready (C.work chunks.now) (C.ready chunks.now)) from (to - from))) }
     ensures frames { ServesFrames scale.now frames.new }
     ensures small { IfOk result (λ len. len ≤ (to - from) * 2 ^ 27) }
-    ensures front { OnErr result (IfSome (S.objects store.old) (λ m. PutsFront (objects_from dataset.now scale.now (C.work chunks.now).cells (chunk_ready (C.work chunks.now) (C.ready chunks.now)) from (to - from)) m (S.objects store.new))) }
+    ensures front { OnErr result (IfSome (S.objects store.old) (λ m.
+        PutsFront (objects_from dataset.now scale.now (C.work chunks.now).cells
+        (chunk_ready (C.work chunks.now) (C.ready chunks.now)) from (to - from)) m (S.objects store.new))) }
     ensures draft { Drops (S.draft store.old) (S.draft store.new) }
     ensures cause { HasStoreCause (S.faults store.old) (S.faults store.new) result }
 {
     let mut bytes = 0;
     for job in from..to {
-        bytes += write_job(store, dataset, scale, chunks, job, encoded, frames)?;
+        bytes += write_job(store, dataset, scale, chunks, job, team, frames)?;
     }
     Ok(bytes)
 }

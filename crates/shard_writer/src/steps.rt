@@ -12,14 +12,14 @@ ghost use Rattle.shard_parts.specs.Parts.{draft_of};
 ghost use Rattle.vol_spec.specs.declared.encoding.Encoding.TheVariants.{Raw};
 ghost use Rattle.vol_spec.specs.Writable.{IsWritable};
 ghost use Rattle.shard_writer.specs.Plain.{chunk_ready};
-ghost use Rattle.shard_writer.specs.Serving.{AreChunks, ServesFrames};
+ghost use Rattle.shard_writer.specs.Serving.{AreWorkers, ServesFrames};
 ghost use Rattle.shard_writer.specs.ShardRuns.{ends_minishard as ends_minishard_at, ends_shard as ends_shard_at, jobs_in};
 ghost use Rattle.shard_writer.specs.Writing.{job_len};
-ghost use Rattle.write_plan.specs.Jobs.{HasPrepareCause, Prepares, window_of};
+ghost use Rattle.write_plan.specs.Jobs.{HasPrepareCause, Prepares};
 
-use crate::ahead::{Crew, encode_ahead, find_chunk};
+use crate::ahead::{Crew, clear_team, count_at_once, encode_ahead, find_chunk};
 use crate::encoder::encode_job;
-use crate::frames::{Encoded, Frames};
+use crate::frames::{Frames, Worker};
 use minishard::Row;
 use shard_index::shard_name;
 use shard_parts::begin_if;
@@ -93,7 +93,9 @@ pub(crate) fn open_shard<S: Store>(
     requires sharded { scale.now.sharding ≡ Some sharding.now }
     requires shard { shard < 2 ^ sharding.now.shard_bits }
     requires room { 8 ≤ length piece.old }
-    ensures begun { OnOk result (S.draft store.new ≡ (if fresh then Some (draft_of (S.objects store.old) (shard_name_of dataset.now scale.now shard) (shard_bytes sharding.now.minishard_bits [])) else S.draft store.old)) }
+    ensures begun { OnOk result (S.draft store.new ≡ (if fresh
+        then Some (draft_of (S.objects store.old) (shard_name_of dataset.now scale.now shard)
+        (shard_bytes sharding.now.minishard_bits [])) else S.draft store.old)) }
     ensures refused { OnErr result (S.draft store.new ≡ None) }
     ensures objects { S.objects store.new ≡ S.objects store.old }
     ensures cause { HasStoreCause (S.faults store.old) (S.faults store.new) result }
@@ -105,7 +107,8 @@ pub(crate) fn open_shard<S: Store>(
 // Appends a chunk; answers how many bytes it has.
 fn append_chunk<S: Store>(store: &mut S, chunk: &[u8]) -> Result<u64, StoreRefusal>
     requires { IsSome (S.draft store.old) }
-    ensures appended { OnOk result (S.draft store.new ≡ option_map (λ d. appended d chunk.now) (S.draft store.old)) }
+    ensures appended { OnOk result (S.draft store.new
+        ≡ option_map (λ d. appended d chunk.now) (S.draft store.old)) }
     ensures len { IfOk result (λ len. len ≡ length chunk.now) }
     ensures refused { OnErr result (S.draft store.new ≡ None) }
     ensures objects { S.objects store.new ≡ S.objects store.old }
@@ -122,7 +125,7 @@ pub(crate) fn append_job<S: Store, C: Chunks>(
     scale: &Scale,
     chunks: &C,
     job: u64,
-    encoded: &Encoded,
+    team: &[Worker],
     frames: &mut Frames,
 ) -> Result<u64, StoreRefusal>
     requires some { IsSome (S.draft store.old) }
@@ -130,9 +133,11 @@ pub(crate) fn append_job<S: Store, C: Chunks>(
     requires job { job < length (C.work chunks.now).cells }
     requires ready { IsSome (C.ready chunks.now job) }
     requires writable { IsWritable scale.now }
-    requires encoded { AreChunks (chunk_ready (C.work chunks.now) (C.ready chunks.now)) encoded.now.first encoded.now.list.items }
+    requires team { AreWorkers scale.now (chunk_ready (C.work chunks.now) (C.ready chunks.now)) team.now }
     requires frames { ServesFrames scale.now frames.old }
-    ensures appended { OnOk result (S.draft store.new ≡ option_map (λ d. appended d (chunk_ready (C.work chunks.now) (C.ready chunks.now) job)) (S.draft store.old)) }
+    ensures appended { OnOk result (S.draft store.new
+        ≡ option_map (λ d. appended d (chunk_ready (C.work chunks.now) (C.ready chunks.now) job))
+        (S.draft store.old)) }
     ensures len { IfOk result (λ len. len ≡ length (chunk_ready (C.work chunks.now) (C.ready chunks.now) job)) }
     ensures plain { IfOk result (λ len. scale.now.encoding ≡ Raw → len ≡ job_len (C.work chunks.now) job) }
     ensures small { IfOk result (λ len. len ≤ 2 ^ 27) }
@@ -141,7 +146,7 @@ pub(crate) fn append_job<S: Store, C: Chunks>(
     ensures objects { S.objects store.new ≡ S.objects store.old }
     ensures cause { HasStoreCause (S.faults store.old) (S.faults store.new) result }
 {
-    match find_chunk(encoded, job) {
+    match find_chunk(team, job) {
         Some(chunk) => append_chunk(store, chunk),
         None => {
             let len = encode_job(chunks, scale, job, frames);
@@ -159,13 +164,14 @@ pub(crate) fn push_row(
 ) -> Result<(), AllocError>
     ensures full { OnErr result (vec_capacity rows.old ≤ length rows.old.items) }
     ensures capacity { OnOk result (vec_capacity rows.old ≤ vec_capacity rows.new) }
-    ensures pushed { OnOk result (rows.new.items ≡ rows.old.items ++ record { id = id; start = start; size = size } ∷ []) }
+    ensures pushed { OnOk result (rows.new.items ≡ rows.old.items
+        ++ record { id = id; start = start; size = size } ∷ []) }
 {
     rows.push(Row { id, start, size })?;
     Ok(())
 }
 
-/// Prepares the jobs of the next window where none is prepared, and lets a crew encode them; answers up to
+/// Prepares the jobs of the next window where none is prepared, and lets a team encode them; answers up to
 /// which job they are.
 pub(crate) fn prepare_next<R: Threads + Sync, S: Store, C: Chunks + Sync>(
     crew: &Crew<R>,
@@ -175,11 +181,9 @@ pub(crate) fn prepare_next<R: Threads + Sync, S: Store, C: Chunks + Sync>(
     job: u64,
     ready: u64,
     count: u64,
-    window: u64,
-    encoded: &mut Encoded,
+    team: &mut [Worker],
 ) -> Result<u64, PrepareFault>
     requires count { count ≡ length (C.work chunks.old).cells }
-    requires window { window ≡ window_of (C.work chunks.old).scale }
     requires job { job < count }
     requires order { job ≤ ready }
     requires within { ready ≤ count }
@@ -187,13 +191,23 @@ pub(crate) fn prepare_next<R: Threads + Sync, S: Store, C: Chunks + Sync>(
     requires some { (j : ℕ) → job ≤ j → j < ready → IsSome (C.ready chunks.old j) }
     requires scale { (C.work chunks.old).scale ≡ scale.now }
     requires writable { IsWritable scale.now }
-    requires encoded { AreChunks (chunk_ready (C.work chunks.old) (C.ready chunks.old)) encoded.old.first encoded.old.list.items }
+    requires team { AreWorkers scale.now (chunk_ready (C.work chunks.old) (C.ready chunks.old)) team.old }
     ensures next { IfOk result (λ to. (job < to) × (to ≤ count)) }
     ensures some { IfOk result (λ to. (j : ℕ) → job ≤ j → j < to → IsSome (C.ready chunks.new j)) }
-    ensures encoded { OnOk result (AreChunks (chunk_ready (C.work chunks.new) (C.ready chunks.new)) encoded.new.first encoded.new.list.items) }
-    ensures raw { IfOk result (λ to. IfSome (S.objects store.old) (λ now. (raw : ℕ → List ℕ) → ((j : ℕ) → job ≤ j → j < count → (C.work chunks.old).raw now j ≡ raw j) → ((j : ℕ) → job ≤ j → j < ready → C.ready chunks.old j ≡ Some (raw j)) → (j : ℕ) → job ≤ j → j < to → C.ready chunks.new j ≡ Some (raw j))) }
-    ensures sound { IfOk result (λ to. IfSome (S.objects store.old) (λ now. (fault : ℕ → Option (List ℕ × Fault)) → ((j : ℕ) → job ≤ j → j < count → (C.work chunks.old).fault now j ≡ fault j) → first_some (map fault (range_with_len 0 ready)) ≡ None → first_some (map fault (range_with_len 0 to)) ≡ None)) }
-    ensures faulty { IfErr result (λ e. IfSome (S.objects store.old) (λ now. (fault : ℕ → Option (List ℕ × Fault)) → ((j : ℕ) → job ≤ j → j < count → (C.work chunks.old).fault now j ≡ fault j) → first_some (map fault (range_with_len 0 ready)) ≡ None → Prepares (Err e) (first_some (map fault (range_with_len 0 count))))) }
+    ensures team { OnOk result (AreWorkers scale.now
+        (chunk_ready (C.work chunks.new) (C.ready chunks.new)) team.new) }
+    ensures raw { IfOk result (λ to. IfSome (S.objects store.old) (λ now. (raw : ℕ → List ℕ) →
+        ((j : ℕ) → job ≤ j → j < count → (C.work chunks.old).raw now j ≡ raw j) →
+        ((j : ℕ) → job ≤ j → j < ready → C.ready chunks.old j ≡ Some (raw j)) → (j : ℕ) → job ≤ j → j < to →
+        C.ready chunks.new j ≡ Some (raw j))) }
+    ensures sound { IfOk result (λ to. IfSome (S.objects store.old) (λ now.
+        (fault : ℕ → Option (List ℕ × Fault)) → ((j : ℕ) → job ≤ j → j < count →
+        (C.work chunks.old).fault now j ≡ fault j) → first_some (map fault (range_with_len 0 ready)) ≡ None →
+        first_some (map fault (range_with_len 0 to)) ≡ None)) }
+    ensures faulty { IfErr result (λ e. IfSome (S.objects store.old) (λ now.
+        (fault : ℕ → Option (List ℕ × Fault)) → ((j : ℕ) → job ≤ j → j < count →
+        (C.work chunks.old).fault now j ≡ fault j) → first_some (map fault (range_with_len 0 ready)) ≡ None →
+        Prepares (Err e) (first_some (map fault (range_with_len 0 count))))) }
     ensures sure { C.sure chunks.old → IsOk result × C.sure chunks.new }
     ensures work { C.work chunks.new ≡ C.work chunks.old }
     ensures objects { S.objects store.new ≡ S.objects store.old }
@@ -203,11 +217,11 @@ pub(crate) fn prepare_next<R: Threads + Sync, S: Store, C: Chunks + Sync>(
     if job < ready {
         return Ok(ready);
     }
-    encoded.list.clear();
-    let to = count.min(job + window);
+    clear_team(team);
+    let to = count.min(job + count_at_once(crew, scale));
     match chunks.prepare(store, job, to) {
         Ok(()) => {
-            *encoded = encode_ahead(crew, scale, chunks, job, to);
+            encode_ahead(crew, scale, chunks, job, to, team);
             Ok(to)
         }
         Err(fault) => Err(fault),

@@ -1,4 +1,4 @@
--- Names of data sets and scales.
+-- Names of data sets and scales (this project's limit).
 use Rattle.std.specs.Prelude.{ℕ, ◌&&◌, Bool, List, length, nat_le}
 use Rattle.vol_base.specs.Names.{is_name}
 

@@ -4,7 +4,7 @@ ghost use Rattle.std.specs.Prelude.{◌≡◌, ◌≤◌, ◌*◌, ◌^◌, ◌�
 ghost use Rattle.vol_base.specs.Grids.{AreSizes};
 ghost use Rattle.vol_spec.specs.Limits.{IsWidth, AreOffsets, first_bytes, first_size};
 
-// Whether a value can have so many bytes.
+/// Whether a value can have so many bytes.
 pub(crate) fn is_width(width: u32) -> bool
     ensures width { IsTrue result ↔ IsWidth width }
     ensures few { IsTrue result → (1 ≤ width) × (width ≤ 8) }
@@ -12,7 +12,7 @@ pub(crate) fn is_width(width: u32) -> bool
     matches!(width, 1 | 2 | 4 | 8)
 }
 
-// Whether a scale or a chunk can have these sizes.
+/// Whether a scale or a chunk can have these sizes, in voxels, x first.
 pub(crate) fn are_sizes(sizes: [u64; 3]) -> bool
     ensures { IsTrue result ↔ AreSizes sizes }
 {
@@ -20,7 +20,7 @@ pub(crate) fn are_sizes(sizes: [u64; 3]) -> bool
     1 <= x.min(y).min(z) && x.max(y).max(z) <= 1 << 40
 }
 
-// Whether a scale can begin there.
+/// Whether a scale can begin there, in voxels, x first.
 pub(crate) fn are_offsets(offset: [i64; 3]) -> bool
     ensures { IsTrue result ↔ AreOffsets offset }
 {
@@ -41,7 +41,7 @@ fn count_voxels(size: [u64; 3], chunk: [u64; 3]) -> u128
     x * y * z
 }
 
-// Whether the first cell has at most 2^27 bytes.
+/// Whether the first cell has at most 2^27 bytes, for values of `width` bytes.
 #[tactic(auto, using(crate::proofs::VoxelSteps::first_below))]
 pub(crate) fn is_small(width: u32, channels: u32, size: [u64; 3], chunk: [u64; 3]) -> bool
     requires width { (1 ≤ width) × (width ≤ 8) }

@@ -1,4 +1,4 @@
--- Where a generator is in its stream.
+-- Where a generator is in its stream (this project's).
 use Rattle.std.specs.Prelude.{◌≡◌, ◌-◌, ◌*◌, ◌++◌, drop}
 use Rattle.vol_spec.specs.Types.{Bytes}
 use Rattle.vectors_vol.specs.Generated.{counting_bytes, writes_from}

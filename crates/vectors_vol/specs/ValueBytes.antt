@@ -1,4 +1,4 @@
--- Values that count up, byte by byte.
+-- Values that count up, byte by byte (this project's generator).
 use Rattle.std.specs.Prelude.{ℕ, ◌+◌, ◌/◌, ◌%◌, ◌==◌, if◌then◌else◌}
 
 -- byte k of values of w bytes that count up from a number, modulo 256: each value is its first byte, and zeros

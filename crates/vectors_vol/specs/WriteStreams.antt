@@ -32,7 +32,8 @@ stream_of writes = magic ++ little_bytes 4 (length writes) ++ written writes
 abbrev pub size_fault : ℕ → ℕ → Writes → Option PlanFault
 size_fault i before [] = None
 size_fault i before (write ∷ rest) =
-    if nat_lt (2 ^ 30) (before + length write.1) then Some (WritesTooLarge i) else size_fault (i + 1) (before + length write.1) rest
+    if nat_lt (2 ^ 30) (before + length write.1) then Some (WritesTooLarge i)
+    else size_fault (i + 1) (before + length write.1) rest
 
 -- a list, unless its values have more than 2^30 bytes
 abbrev pub unless_large : Writes → Result Writes PlanFault

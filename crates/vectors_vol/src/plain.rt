@@ -106,7 +106,8 @@ fn push_values(bytes: &mut Vec<u8>, width: u32, first: u64, count: u64) -> Resul
 fn push_write(bytes: &mut Vec<u8>, scale: &Scale, number: u32, write: u32) -> Result<(), AllocError>
     requires number { number < 2 ^ 31 }
     requires write { write < 4096 }
-    ensures { OnOk result (bytes.new.items ≡ bytes.old.items ++ write_bytes (nth_write scale.now number write)) }
+    ensures { OnOk result (bytes.new.items ≡ bytes.old.items
+        ++ write_bytes (nth_write scale.now number write)) }
 {
     let part = plain_box(scale, number, write);
     let count = count_values(&part, scale.channels);

@@ -1,4 +1,4 @@
--- Counting cells.
+-- Counting cells (this project's).
 use Rattle.std.specs.Prelude.{◌+◌, Bool, true, false}
 use Rattle.verify_cmd.specs.declared.report.Report.{Report}
 

@@ -1,4 +1,4 @@
--- A judge of cells.
+-- A judge of cells (this project's).
 use Rattle.std.specs.Prelude.{◌≡◌, ◌≤◌, length, Option, None, Some}
 use Rattle.vol_base.specs.Outside.{Objects}
 use Rattle.vol_spec.specs.Types.{Name}

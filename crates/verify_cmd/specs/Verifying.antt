@@ -1,4 +1,4 @@
--- What judging a part says.
+-- What judging a part says (this project's profile).
 use Rattle.std.specs.Prelude.{◌≡◌, ℕ, ◌^◌, ◌<◌, ◌≤◌, Bool, true, false, length, map, filter, Option, Some, None, Result, Ok, Err}
 use Rattle.std.specs.FinMap as fin
 use Rattle.std.specs.Option.{option_map}
@@ -51,7 +51,8 @@ index_of_cell m dataset s cell = index_wrong s.sharding (id_of s cell) (fin.get 
 
 -- what judging a cell answers: nothing is wrong, and whether its chunk is stored; or the first that is wrong
 abbrev pub JudgesCell : Result Bool JudgeFault → Objects → Name → Scale → Cell → Type 0
-JudgesCell (Ok stored) m dataset s cell = (judge m dataset s cell ≡ None) × Finds (Ok stored) (chunk_in m dataset s cell)
+JudgesCell (Ok stored) m dataset s cell = (judge m dataset s cell ≡ None) ×
+    Finds (Ok stored) (chunk_in m dataset s cell)
 JudgesCell (Err fault) m dataset s cell = Says {A = Bool} (judge m dataset s cell) (Err fault)
 
 -- a cell with which something is wrong, with what it is
@@ -86,7 +87,8 @@ found_at cell (judging.Misplaced shard m id) = Misplaced shard m id
 abbrev pub Verifies : Result Report VerifyFault → Objects → Name → Scale → Box3 → Type 0
 Verifies (Ok report) m dataset s b = IsReport m dataset s b report
 Verifies (Err (Damaged cell fault)) m dataset s b = first_wrong m dataset s b ≡ Some (cell, DamagedBy fault)
-Verifies (Err (Misplaced shard minishard id)) m dataset s b = (cell : Cell) × (first_wrong m dataset s b ≡ Some (cell, MisplacedAt shard minishard id))
+Verifies (Err (Misplaced shard minishard id)) m dataset s b = (cell : Cell) ×
+    (first_wrong m dataset s b ≡ Some (cell, MisplacedAt shard minishard id))
 Verifies (Err StoreFault) m dataset s b = Unit {0}
 Verifies (Err OutOfMemory) m dataset s b = Unit {0}
 Verifies (Err OutsideScale) m dataset s b = Unit {0}

@@ -92,9 +92,11 @@ impl CellJudge {
         requires dataset { length dataset.now ≤ 200 }
         requires cell { IsCell scale.now cell }
         requires serves { Serves (S.objects store.old) dataset.now scale.now self.old }
-        ensures judged { IfSome (S.objects store.old) (λ m. Says (index_of_cell m dataset.now scale.now cell) result) }
+        ensures judged { IfSome (S.objects store.old) (λ m.
+            Says (index_of_cell m dataset.now scale.now cell) result) }
         ensures serves { Serves (S.objects store.old) dataset.now scale.now self.new }
-        ensures kept { OnlyReads (S.objects store.old) (S.objects store.new) (S.draft store.old) (S.draft store.new) }
+        ensures kept { OnlyReads (S.objects store.old) (S.objects store.new) (S.draft store.old)
+            (S.draft store.new) }
         ensures later { S.faults store.old ≤ S.faults store.new }
         ensures fault { result ≡ Err JudgeFault.NotRead → Rose (S.faults store.old) (S.faults store.new) }
     {
@@ -121,7 +123,8 @@ impl CellJudge {
         requires serves { Serves (S.objects store.old) dataset.now scale.now self.old }
         ensures judged { IfSome (S.objects store.old) (λ m. JudgesCell result m dataset.now scale.now cell) }
         ensures serves { Serves (S.objects store.old) dataset.now scale.now self.new }
-        ensures kept { OnlyReads (S.objects store.old) (S.objects store.new) (S.draft store.old) (S.draft store.new) }
+        ensures kept { OnlyReads (S.objects store.old) (S.objects store.new) (S.draft store.old)
+            (S.draft store.new) }
         ensures later { S.faults store.old ≤ S.faults store.new }
         ensures fault { result ≡ Err JudgeFault.NotRead → Rose (S.faults store.old) (S.faults store.new) }
     {

@@ -30,9 +30,11 @@ fn read_object<S: Source>(
     buffer: &mut [u8],
 ) -> Result<Option<u64>, LookupFault>
     requires { length buffer.old < 2 ^ 64 }
-    ensures read { IfSome (S.objects store.old) (λ m. Gets result buffer.new (front_of (length buffer.old) (map.get m name.now))) }
+    ensures read { IfSome (S.objects store.old) (λ m.
+        Gets result buffer.new (front_of (length buffer.old) (map.get m name.now))) }
     ensures within { IfOk result (λ found. IfSome found (λ n. n ≤ length buffer.new)) }
-    ensures kept { OnlyReads (S.objects store.old) (S.objects store.new) (S.draft store.old) (S.draft store.new) }
+    ensures kept { OnlyReads (S.objects store.old) (S.objects store.new) (S.draft store.old)
+        (S.draft store.new) }
     ensures later { S.faults store.old ≤ S.faults store.new }
     ensures fault { result ≡ Err LookupFault.NotRead → Rose (S.faults store.old) (S.faults store.new) }
 {
@@ -59,10 +61,12 @@ fn read_stored<S: Source>(
     requires limit { limit ≡ cell_limit scale.now cell }
     requires room { length buffer.old ≡ limit + 1 }
     requires keeps { KeepsShards (S.objects store.old) dataset.now scale.now shards.old }
-    ensures read { IfSome (S.objects store.old) (λ m. Gets result buffer.new (stored_bytes m dataset.now scale.now cell)) }
+    ensures read { IfSome (S.objects store.old) (λ m.
+        Gets result buffer.new (stored_bytes m dataset.now scale.now cell)) }
     ensures within { IfOk result (λ found. IfSome found (λ n. n ≤ length buffer.new)) }
     ensures keeps { KeepsShards (S.objects store.old) dataset.now scale.now shards.new }
-    ensures kept { OnlyReads (S.objects store.old) (S.objects store.new) (S.draft store.old) (S.draft store.new) }
+    ensures kept { OnlyReads (S.objects store.old) (S.objects store.new) (S.draft store.old)
+        (S.draft store.new) }
     ensures later { S.faults store.old ≤ S.faults store.new }
     ensures fault { result ≡ Err LookupFault.NotRead → Rose (S.faults store.old) (S.faults store.new) }
 {
@@ -143,7 +147,8 @@ pub(crate) fn judge_chunk<S: Source>(
     requires keeps { KeepsShards (S.objects store.old) dataset.now scale.now shards.old }
     ensures finds { IfSome (S.objects store.old) (λ m. Finds result (chunk_in m dataset.now scale.now cell)) }
     ensures keeps { KeepsShards (S.objects store.old) dataset.now scale.now shards.new }
-    ensures kept { OnlyReads (S.objects store.old) (S.objects store.new) (S.draft store.old) (S.draft store.new) }
+    ensures kept { OnlyReads (S.objects store.old) (S.objects store.new) (S.draft store.old)
+        (S.draft store.new) }
     ensures later { S.faults store.old ≤ S.faults store.new }
     ensures fault { result ≡ Err LookupFault.NotRead → Rose (S.faults store.old) (S.faults store.new) }
 {

@@ -60,7 +60,8 @@ fn judge_cells<S: Source>(
     ensures inside { result ≢ Err VerifyFault.OutsideScale }
     ensures within { (n : ℕ) → result ≢ Err (VerifyFault.TooManyCells n) }
     ensures memory { result ≢ Err VerifyFault.OutOfMemory }
-    ensures kept { OnlyReads (S.objects store.old) (S.objects store.new) (S.draft store.old) (S.draft store.new) }
+    ensures kept { OnlyReads (S.objects store.old) (S.objects store.new) (S.draft store.old)
+        (S.draft store.new) }
     ensures later { S.faults store.old ≤ S.faults store.new }
     ensures fault { result ≡ Err VerifyFault.StoreFault → Rose (S.faults store.old) (S.faults store.new) }
 {
@@ -95,15 +96,18 @@ pub fn verify<S: Source>(
     requires dataset { length dataset.now ≤ 200 }
     ensures outside { result ≡ Err VerifyFault.OutsideScale ↔ (Inside scale.now part.now → ⊥) }
     ensures too_many { (n : ℕ) → result ≡ Err (VerifyFault.TooManyCells n) ↔ IsTooMany scale.now part.now n }
-    ensures judged { result ≢ Err VerifyFault.OutsideScale → ((n : ℕ) → result ≢ Err (VerifyFault.TooManyCells n)) → CanJudge scale.now part.now }
+    ensures judged { result ≢ Err VerifyFault.OutsideScale →
+        ((n : ℕ) → result ≢ Err (VerifyFault.TooManyCells n)) → CanJudge scale.now part.now }
     ensures verified { IfSome (S.objects store.old) (λ m. Verifies result m dataset.now scale.now part.now) }
     ensures cells { IfOk result (λ report. report.cells ≡ length (cells_in scale.now part.now)) }
     ensures both { IfOk result (λ report. report.stored + report.absent ≡ report.cells) }
-    ensures kept { OnlyReads (S.objects store.old) (S.objects store.new) (S.draft store.old) (S.draft store.new) }
+    ensures kept { OnlyReads (S.objects store.old) (S.objects store.new) (S.draft store.old)
+        (S.draft store.new) }
     ensures later { S.faults store.old ≤ S.faults store.new }
     ensures fault { result ≡ Err VerifyFault.StoreFault → Rose (S.faults store.old) (S.faults store.new) }
     // Where there is no memory, nothing was read.
-    ensures unread { result ≡ Err VerifyFault.OutOfMemory → (S.asked store.new ≡ S.asked store.old) × (S.faults store.new ≡ S.faults store.old) }
+    ensures unread { result ≡ Err VerifyFault.OutOfMemory → (S.asked store.new ≡ S.asked store.old) ×
+        (S.faults store.new ≡ S.faults store.old) }
 {
     if !inside(scale, part) {
         return Err(VerifyFault::OutsideScale);
@@ -121,6 +125,8 @@ pub fn verify<S: Source>(
 /// Does nothing: its clauses say that a part is sound exactly where there is no first cell with which something
 /// is wrong, and that no cutout in it is damaged then.
 pub fn tell_sound(dataset: &Name, scale: &Scale, part: &Box3)
-    ensures sound { (m : Objects) → Sound m dataset.now scale.now part.now ↔ (first_wrong m dataset.now scale.now part.now ≡ None) }
-    ensures whole { (m : Objects) → Sound m dataset.now scale.now part.now → first_fault m dataset.now scale.now part.now ≡ None }
+    ensures sound { (m : Objects) → Sound m dataset.now scale.now part.now ↔
+        (first_wrong m dataset.now scale.now part.now ≡ None) }
+    ensures whole { (m : Objects) → Sound m dataset.now scale.now part.now →
+        first_fault m dataset.now scale.now part.now ≡ None }
 {}

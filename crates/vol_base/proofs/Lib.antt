@@ -1,6 +1,7 @@
 pub mod Axes
 pub mod Clamps
 pub mod Found
+pub mod Gained
 pub mod GridBits
 pub mod Held
 pub mod Joined

@@ -1,4 +1,4 @@
--- The text of a box, as `[0:5,-3:4,0:1]`.
+-- The text of a box, as `[0:5,-3:4,0:1]` (this project's profile).
 use Rattle.std.specs.Prelude.{ℕ, ◌+◌, ◌^◌, ◌&&◌, ◌==◌, nat_le, not, Bool, ℤ, pos, neg_ℤ, ◌-ℤ◌, int_lt, nat_abs, List, [], ◌∷◌, length, take, drop, slice_index, Option, Some, None, Result, Ok, Err, if◌then◌else◌, position}
 use Rattle.std.specs.List.{list_all}
 use Rattle.std.specs.Option.{option_map}
@@ -16,7 +16,8 @@ None >>= f = None
 
 -- digits, the first of which is not 0
 abbrev pub is_natural : List ℕ → Bool
-is_natural digits = nat_le 1 (length digits) && not (slice_index digits 0 == 48) && list_all is_ascii_digit digits
+is_natural digits = nat_le 1 (length digits) && not
+    (slice_index digits 0 == 48) && list_all is_ascii_digit digits
 
 -- their number
 abbrev pub natural : List ℕ → Option ℕ
@@ -25,7 +26,8 @@ natural digits = if is_natural digits then Some (digits_value 10 digits) else No
 -- `0`, or an optional `-` and such digits
 unfoldable pub number : List ℕ → Option ℤ
 number text = if length text == 1 && (slice_index text 0 == 48) then Some (pos 0)
-    else (if slice_index text 0 == 45 then option_map (λ n. neg_ℤ (pos n)) (natural (drop 1 text)) else option_map pos (natural text))
+    else (if slice_index text 0 == 45 then option_map (λ n. neg_ℤ (pos n)) (natural (drop 1 text))
+    else option_map pos (natural text))
 
 -- a number up to the first stop, and what comes after it
 unfoldable pub field : ℕ → List ℕ → Option (ℤ × List ℕ)
@@ -48,7 +50,12 @@ box_numbers text = do
   y1 ← field 44 y0.1
   z0 ← field 58 y1.1
   z1 ← field 93 z0.1
-  if length z1.1 == 0 then Some (record { x = record { 0 = x0.0; 1 = x1.0 }; y = record { 0 = y0.0; 1 = y1.0 }; z = record { 0 = z0.0; 1 = z1.0 } }) else None
+  if length z1.1 == 0 then Some (record {
+    x = record { 0 = x0.0; 1 = x1.0 };
+    y =
+        record { 0 = y0.0; 1 = y1.0 };
+    z = record { 0 = z0.0; 1 = z1.0 };
+  }) else None
 
 abbrev pub in_range : ℤ → Bool
 in_range n = nat_le (nat_abs n) (2 ^ 41)
@@ -64,7 +71,8 @@ sized begin None y z = Err Empty
 
 -- the first fault, or the box
 abbrev pub judged : Ends → Result Box3 BoxFault
-judged e = if (in_range e.x.0 && in_range e.x.1) && (in_range e.y.0 && in_range e.y.1) && (in_range e.z.0 && in_range e.z.1)
+judged e = if (in_range e.x.0 && in_range e.x.1) && (in_range e.y.0 && in_range e.y.1) &&
+    (in_range e.z.0 && in_range e.z.1)
     then sized (e.x.0 ∷ e.y.0 ∷ e.z.0 ∷ []) (extent e.x.0 e.x.1) (extent e.y.0 e.y.1) (extent e.z.0 e.z.1)
     else Err Range
 

@@ -1,4 +1,6 @@
--- Boxes of voxels. A position is a list of three coordinates, x first, and so is every list over the axes 0, 1 and 2.
+-- Boxes of voxels (this project's). A position is a list of three coordinates, x first, and so is every list
+-- over the axes 0, 1 and 2. The order of values is that of a raw chunk (precomputed volume format, raw chunk
+-- encoding).
 use Rattle.std.specs.Prelude.{ℕ, ◌+◌, ◌*◌, ◌<◌, ℤ, pos, ◌+ℤ◌, ◌-ℤ◌, ◌≤ℤ◌, ◌<ℤ◌, nat_abs, List, [], ◌∷◌, slice_index, slice_index_or, take, drop}
 use Rattle.vol_base.specs.declared.boxes.Box3.{Box3}
 

@@ -1,4 +1,4 @@
--- Lists of bytes.
+-- Lists of bytes (this project's).
 use Rattle.std.specs.Prelude.{ℕ, ◌<◌, List, slice_index}
 
 -- each number is below 256

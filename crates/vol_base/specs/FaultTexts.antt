@@ -1,4 +1,4 @@
--- The texts of faults.
+-- The texts of faults (this project's).
 use Rattle.std.specs.Prelude.{ℕ, List, [], ◌∷◌, ◌++◌, codes}
 use Rattle.std.specs.Fmt.{decimal}
 use Rattle.vol_base.specs.declared.faults.Fault.{Fault}
@@ -17,12 +17,15 @@ texts (t ∷ []) = t
 texts (t ∷ rest) = t ++ texts rest
 
 abbrev pub chunk_text : ChunkFault → List ℕ
-chunk_text (ChunkLength found wanted) = texts (codes "chunk length " ∷ decimal found ∷ codes " wanted " ∷ decimal wanted ∷ [])
+chunk_text (ChunkLength found wanted) = texts (codes "chunk length " ∷ decimal found ∷ codes " wanted "
+    ∷ decimal wanted ∷ [])
 chunk_text (SegLength found) = texts (codes "seg length " ∷ decimal found ∷ [])
 chunk_text (SegChannel c) = texts (codes "seg channel " ∷ decimal c ∷ [])
-chunk_text (SegBits c b bits) = texts (codes "seg bits " ∷ decimal c ∷ codes " " ∷ decimal b ∷ codes " " ∷ decimal bits ∷ [])
+chunk_text (SegBits c b bits) = texts (codes "seg bits " ∷ decimal c ∷ codes " " ∷ decimal b ∷ codes " "
+    ∷ decimal bits ∷ [])
 chunk_text (SegValues c b) = texts (codes "seg values " ∷ decimal c ∷ codes " " ∷ decimal b ∷ [])
-chunk_text (SegTable c b n) = texts (codes "seg table " ∷ decimal c ∷ codes " " ∷ decimal b ∷ codes " " ∷ decimal n ∷ [])
+chunk_text (SegTable c b n) = texts (codes "seg table " ∷ decimal c ∷ codes " " ∷ decimal b ∷ codes " "
+    ∷ decimal n ∷ [])
 
 abbrev pub index_text : IndexFault → List ℕ
 index_text (BadId row) = texts (codes "index id " ∷ decimal row ∷ [])
@@ -34,7 +37,8 @@ shard_text BadRange = codes "shard bad range"
 shard_text (BadLength bytes) = texts (codes "shard bad length " ∷ decimal bytes ∷ [])
 shard_text (TooManyRows rows) = texts (codes "shard too many rows " ∷ decimal rows ∷ [])
 shard_text ShortMinishard = codes "shard short minishard"
-shard_text (ChunkTooLong found limit) = texts (codes "chunk too long " ∷ decimal found ∷ codes " limit " ∷ decimal limit ∷ [])
+shard_text (ChunkTooLong found limit) = texts (codes "chunk too long " ∷ decimal found ∷ codes " limit "
+    ∷ decimal limit ∷ [])
 shard_text ShortChunk = codes "shard short chunk"
 
 abbrev pub fault_text : Fault → List ℕ

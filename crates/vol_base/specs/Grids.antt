@@ -1,4 +1,5 @@
--- Sizes over the axes, and the bits of compressed Morton codes over a grid.
+-- Sizes over the axes, and the bits of compressed Morton codes over a grid (precomputed volume format,
+-- sharded format, chunk ids).
 use Rattle.std.specs.Prelude.{ℕ, ◌^◌, ◌<◌, ◌≤◌, nat_lt, Bool, List, [], ◌∷◌, filter, flat_map, slice_index}
 use Rattle.std.specs.List.{range_with_len}
 

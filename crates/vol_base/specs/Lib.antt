@@ -5,6 +5,7 @@ pub mod Boxes
 pub mod Bytes
 pub mod Causes
 pub mod FaultTexts
+pub mod Gains
 pub mod Grids
 pub mod Memory
 pub mod Names

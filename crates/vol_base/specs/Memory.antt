@@ -1,4 +1,4 @@
--- What the stand-ins in memory are, seen from outside.
+-- What the stand-ins in memory are, seen from outside (this project's).
 use Rattle.std.specs.Prelude.{ℕ, IsTrue, ◌+◌, ◌-◌, ◌^◌, min, Bool, ◌||◌, nat_le, List, Option, Some, None, IfSome, length, nat_eq}
 use Rattle.std.specs.Option.{option_map}
 use Rattle.std.specs.List.{list_any}
@@ -53,9 +53,18 @@ bytes_code = coded_list coded_ℕ
 abbrev pub memory_code : Coded Memory
 memory_code =
     code_by (Objects × (Option (List ℕ × List ℕ) × (ℕ × (ℕ × (ℕ × List ℕ)))))
-    (coded× (map.code bytes_code bytes_code) (coded× (coded_option (coded× bytes_code bytes_code)) (coded× coded_ℕ (coded× coded_ℕ (coded× coded_ℕ bytes_code)))))
+    (coded× (map.code bytes_code bytes_code) (coded× (coded_option (coded× bytes_code bytes_code))
+    (coded× coded_ℕ (coded× coded_ℕ (coded× coded_ℕ bytes_code)))))
     (λ m. (m.objects, (m.writing, (m.asked, (m.faults, (m.calls, m.failing))))))
-    (λ p. record { objects = p.0; writing = p.1.0; asked = p.1.1.0; faults = p.1.1.1.0; calls = p.1.1.1.1.0; failing = p.1.1.1.1.1 })
+    (λ p. record {
+      objects = p.0;
+      writing = p.1.0;
+      asked = p.1.1.0;
+      faults = p.1.1.1.0;
+      calls =
+          p.1.1.1.1.0;
+      failing = p.1.1.1.1.1;
+    })
     (λ _. refl)
 
 -- what an outlet in memory is, seen from outside
@@ -72,7 +81,15 @@ written_code =
     code_by (List ℕ × (ℕ × (ℕ × (ℕ × (ℕ × List ℕ)))))
     (coded× bytes_code (coded× coded_ℕ (coded× coded_ℕ (coded× coded_ℕ (coded× coded_ℕ bytes_code)))))
     (λ w. (w.bytes, (w.room, (w.piece, (w.faults, (w.calls, w.failing))))))
-    (λ p. record { bytes = p.0; room = p.1.0; piece = p.1.1.0; faults = p.1.1.1.0; calls = p.1.1.1.1.0; failing = p.1.1.1.1.1 })
+    (λ p. record {
+      bytes = p.0;
+      room = p.1.0;
+      piece = p.1.1.0;
+      faults = p.1.1.1.0;
+      calls =
+          p.1.1.1.1.0;
+      failing = p.1.1.1.1.1;
+    })
     (λ _. refl)
 
 -- the next write fails by its number, or there is no room left
@@ -80,7 +97,8 @@ abbrev pub refuses_bytes : Written → Bool
 refuses_bytes w = list_any (λ n. nat_eq n w.calls) w.failing || nat_le w.room (length w.bytes)
 
 -- a store in memory tells the object being written
-told_by : (objects : Objects) (writing : Option (List ℕ × List ℕ)) → IfSome (option_map (λ d. record { len = length d.1; told = Some d }) writing) (IsTold (Some objects))
+told_by : (objects : Objects) (writing : Option (List ℕ × List ℕ)) →
+    IfSome (option_map (λ d. record { len = length d.1; told = Some d }) writing) (IsTold (Some objects))
 told_by objects None = tt
 told_by objects (Some d) = record { told = λ _. refl; len = refl }
 

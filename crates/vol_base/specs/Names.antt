@@ -1,4 +1,4 @@
--- Names of objects.
+-- Names of objects (this project's profile).
 use Rattle.std.specs.Prelude.{ℕ, ◌&&◌, ◌||◌, ◌==◌, not, Bool, List, length, nat_le}
 use Rattle.std.specs.List.{list_all, slice_split}
 use Rattle.std.specs.Char.{is_ascii_alphanumeric}

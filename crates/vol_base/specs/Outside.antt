@@ -1,4 +1,4 @@
--- What a source and a store mean, and a feed.
+-- What a source and a store mean, and a feed (this project's).
 use Rattle.std.specs.Prelude.{◌≡◌, ◌<◌, ◌≤◌, IsSome, IfSome, ℕ, ◌+◌, ◌-◌, ◌^◌, min, Bool, List, [], ◌∷◌, ◌++◌, length, take, drop, Option, Some, None, nat_eq, ◌&&◌, ◌==◌, slice_index}
 use Rattle.std.specs.Option.{is_some, option_map}
 use Rattle.std.specs.List.{list_any, starts_with}
@@ -56,9 +56,11 @@ abbrev pub Ended : Type 0
 Ended = List ℕ × List ℕ × ℕ
 
 -- a door that gave more ends than it has noted notes an end that is told
-abbrev pub Notes : Option (List Ended) → ℕ → Option (List ℕ) → Option (List ℕ) → ℕ → Option (List Ended) → Type 0
+abbrev pub Notes : Option (List Ended) → ℕ → Option (List ℕ) → Option (List ℕ) → ℕ → Option (List Ended) →
+    Type 0
 Notes served accepted stream sent faults noted =
-    IfSome served (λ list. length list < accepted → IfSome stream (λ s. IfSome sent (λ o. noted ≡ Some (list ++ (s, o, faults) ∷ []))))
+    IfSome served (λ list. length list < accepted →
+    IfSome stream (λ s. IfSome sent (λ o. noted ≡ Some (list ++ (s, o, faults) ∷ []))))
 
 -- a read from a place of an object, into these bytes
 pub record Reads (object : Option (List ℕ)) (at : ℕ) (old new : List ℕ) (answer : Got) : Type 0 where
@@ -96,7 +98,11 @@ abbrev pub begun : Option Objects → List ℕ → Draft
 begun objects name = record { len = 0; told = option_map (λ _. (name, [])) objects }
 
 abbrev pub appended : Draft → List ℕ → Draft
-appended draft piece = record { len = draft.len + length piece; told = option_map (λ d. (d.0, d.1 ++ piece)) draft.told }
+appended draft piece = record {
+  len = draft.len + length piece;
+  told =
+      option_map (λ d. (d.0, d.1 ++ piece)) draft.told;
+}
 
 abbrev pub overwritten : List ℕ → ℕ → List ℕ → List ℕ
 overwritten bytes at piece = take at bytes ++ piece ++ drop (at + length piece) bytes

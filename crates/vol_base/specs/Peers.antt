@@ -1,4 +1,4 @@
--- What a link and a door in memory are, seen from outside.
+-- What a link and a door in memory are, seen from outside (this project's).
 use Rattle.std.specs.Prelude.{◌≡◌, ℕ, ◌+◌, ◌≤◌, Bool, ◌||◌, nat_le, List, [], drop, map, length, Option, Some, nat_eq, refl}
 use Rattle.std.specs.List.{list_any}
 use Rattle.std.specs.Coded.{Coded, code_by, coded×, coded_ℕ, coded_list, coded_option}
@@ -21,9 +21,20 @@ pub record Linked : Type 0 where
 abbrev pub linked_code : Coded Linked
 linked_code =
     code_by (List ℕ × (ℕ × (List ℕ × (ℕ × (ℕ × (ℕ × (ℕ × List ℕ)))))))
-    (coded× bytes_code (coded× coded_ℕ (coded× bytes_code (coded× coded_ℕ (coded× coded_ℕ (coded× coded_ℕ (coded× coded_ℕ bytes_code)))))))
+    (coded× bytes_code (coded× coded_ℕ (coded× bytes_code
+    (coded× coded_ℕ (coded× coded_ℕ (coded× coded_ℕ (coded× coded_ℕ bytes_code)))))))
     (λ l. (l.stream, (l.taken, (l.sent, (l.room, (l.piece, (l.faults, (l.calls, l.failing))))))))
-    (λ p. record { stream = p.0; taken = p.1.0; sent = p.1.1.0; room = p.1.1.1.0; piece = p.1.1.1.1.0; faults = p.1.1.1.1.1.0; calls = p.1.1.1.1.1.1.0; failing = p.1.1.1.1.1.1.1 })
+    (λ p. record {
+      stream = p.0;
+      taken = p.1.0;
+      sent = p.1.1.0;
+      room = p.1.1.1.0;
+      piece =
+          p.1.1.1.1.0;
+      faults = p.1.1.1.1.1.0;
+      calls = p.1.1.1.1.1.1.0;
+      failing = p.1.1.1.1.1.1.1;
+    })
     (λ _. refl)
 
 -- what is left to receive
@@ -65,9 +76,19 @@ pub record Opened : Type 0 where
 abbrev pub opened_code : Coded Opened
 opened_code =
     code_by (List Linked × (List Linked × (ℕ × (Option ℕ × (ℕ × (ℕ × List ℕ))))))
-    (coded× (coded_list linked_code) (coded× (coded_list linked_code) (coded× coded_ℕ (coded× (coded_option coded_ℕ) (coded× coded_ℕ (coded× coded_ℕ bytes_code))))))
+    (coded× (coded_list linked_code) (coded× (coded_list linked_code)
+    (coded× coded_ℕ (coded× (coded_option coded_ℕ) (coded× coded_ℕ (coded× coded_ℕ bytes_code))))))
     (λ d. (d.waiting, (d.closed, (d.out, (d.bound, (d.faults, (d.calls, d.failing)))))))
-    (λ p. record { waiting = p.0; closed = p.1.0; out = p.1.1.0; bound = p.1.1.1.0; faults = p.1.1.1.1.0; calls = p.1.1.1.1.1.0; failing = p.1.1.1.1.1.1 })
+    (λ p. record {
+      waiting = p.0;
+      closed = p.1.0;
+      out = p.1.1.0;
+      bound = p.1.1.1.0;
+      faults =
+          p.1.1.1.1.0;
+      calls = p.1.1.1.1.1.0;
+      failing = p.1.1.1.1.1.1;
+    })
     (λ _. refl)
 
 -- the ends that were closed

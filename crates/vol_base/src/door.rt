@@ -38,7 +38,8 @@ impl Model for MemoryDoor {
       failing = s.failing.items;
     } };
 
-    ghost invariant = { λ s. All IsFresh s.waiting.items × (length s.closed.items + s.out + length s.waiting.items ≤ vec_capacity s.closed) };
+    ghost invariant = { λ s. All IsFresh s.waiting.items ×
+        (length s.closed.items + s.out + length s.waiting.items ≤ vec_capacity s.closed) };
 }
 
 impl MemoryDoor {
@@ -53,7 +54,16 @@ impl MemoryDoor {
         failing: Vec<u64>,
     ) -> Result<MemoryDoor, OutOfMemory>
         requires { All IsFresh ends.items }
-        ensures { IfOk result (λ door. door ≡ record { waiting = ends.items; closed = []; out = 0; bound = None; faults = 0; calls = 0; failing = failing.items }) }
+        ensures { IfOk result (λ door. door ≡ record {
+          waiting = ends.items;
+          closed = [];
+          out = 0;
+          bound =
+              None;
+          faults = 0;
+          calls = 0;
+          failing = failing.items;
+        }) }
     {
         match Vec::with_capacity(alloc, ends.len()) {
             Ok(closed) => Ok(MemoryDoor {
@@ -107,8 +117,16 @@ impl Door for MemoryDoor {
         ensures cause { HasCause (counted self.old.faults) (counted self.new.faults) result }
         ensures fails { IsErr result ↔ IsTrue (fails_call self.old) }
         ensures same { IfOk result (λ bound. bound ≡ port) }
-        ensures ok { OnOk result (self.new ≡ record self.old { bound = Some port; calls = one_more self.old.calls }) }
-        ensures err { OnErr result (self.new ≡ record self.old { calls = one_more self.old.calls; faults = one_more self.old.faults }) }
+        ensures ok { OnOk result (self.new ≡ record self.old {
+          bound = Some port;
+          calls =
+              one_more self.old.calls;
+        }) }
+        ensures err { OnErr result (self.new ≡ record self.old {
+          calls = one_more self.old.calls;
+          faults =
+              one_more self.old.faults;
+        }) }
     {
         tick(&mut self.calls, &mut self.faults, &self.failing)?;
         self.bound = Some(port);
@@ -117,7 +135,8 @@ impl Door for MemoryDoor {
 
     fn accept(&mut self) -> Result<MemoryLink, Failed>
         requires { IsSome self.old.bound }
-        ensures fresh { IfOk result (λ end. (Some (left_in end) ≡ Some end.stream) × (Some end.sent ≡ Some []) × (counted end.faults ≡ 0)) }
+        ensures fresh { IfOk result (λ end. (Some (left_in end) ≡ Some end.stream) ×
+            (Some end.sent ≡ Some []) × (counted end.faults ≡ 0)) }
         ensures told { IfOk result (λ end. IsSome (Some (served_by self.old)) → IsSome (Some end.stream)) }
         ensures accepted { OnOk result (accepted_by self.new ≡ accepted_by self.old + 1) }
         ensures refused { OnErr result (accepted_by self.new ≡ accepted_by self.old) }
@@ -126,8 +145,17 @@ impl Door for MemoryDoor {
         ensures cause { HasCause (counted self.old.faults) (counted self.new.faults) result }
         ensures fails { IsErr result ↔ IsTrue (refuses_end self.old) }
         ensures next { IfOk result (λ end. self.old.waiting ≡ end ∷ self.new.waiting) }
-        ensures ok { OnOk result (self.new ≡ record self.old { waiting = drop 1 self.old.waiting; out = self.old.out + 1; calls = one_more self.old.calls }) }
-        ensures err { OnErr result (self.new ≡ record self.old { calls = one_more self.old.calls; faults = one_more self.old.faults }) }
+        ensures ok { OnOk result (self.new ≡ record self.old {
+          waiting = drop 1 self.old.waiting;
+          out =
+              self.old.out + 1;
+          calls = one_more self.old.calls;
+        }) }
+        ensures err { OnErr result (self.new ≡ record self.old {
+          calls = one_more self.old.calls;
+          faults =
+              one_more self.old.faults;
+        }) }
     {
         tick(&mut self.calls, &mut self.faults, &self.failing)?;
         if self.waiting.is_empty() {
@@ -139,11 +167,17 @@ impl Door for MemoryDoor {
     }
 
     fn close(&mut self, end: MemoryLink)
-        ensures served { Notes (Some (served_by self.old)) (accepted_by self.old) (Some end.stream) (Some end.sent) (counted end.faults) (Some (served_by self.new)) }
+        ensures served { Notes (Some (served_by self.old)) (accepted_by self.old) (Some end.stream)
+            (Some end.sent) (counted end.faults) (Some (served_by self.new)) }
         ensures accepted { accepted_by self.new ≡ accepted_by self.old }
         ensures bound { self.new.bound ≡ self.old.bound }
         ensures faults { counted self.new.faults ≡ counted self.old.faults }
-        ensures closed { 0 < self.old.out → self.new ≡ record self.old { closed = self.old.closed ++ end ∷ []; out = self.old.out - 1; calls = one_more self.old.calls } }
+        ensures closed { 0 < self.old.out → self.new ≡ record self.old {
+          closed =
+              self.old.closed ++ end ∷ [];
+          out = self.old.out - 1;
+          calls = one_more self.old.calls;
+        } }
         ensures dropped { self.old.out ≡ 0 → self.new ≡ record self.old { calls = one_more self.old.calls } }
     {
         self.calls = self.calls.saturating_add(1);

@@ -41,7 +41,8 @@ impl Model for MemoryFeed {
     ghost invariant = { λ s. (s.taken ≤ length s.bytes.items) × (0 < s.piece) };
 }
 
-// Puts the front of some bytes in front of a buffer, as far as there is room.
+/// Puts the front of some bytes, at most so many, in front of a buffer, as far as there is room, and answers how
+/// many.
 pub(crate) fn give_front(left: &[u8], most: usize, out: &mut [u8]) -> usize
     ensures count { result ≡ min most (min (length left.now) (length out.old)) }
     ensures bytes { take result out.new ≡ take result left.now }
@@ -57,7 +58,14 @@ impl MemoryFeed {
     /// These bytes, of which one call takes at most `piece`.
     pub fn new(bytes: Vec<u8>, piece: usize, failing: Vec<u64>) -> MemoryFeed
         requires { 0 < piece }
-        ensures { result ≡ record { left = bytes.items; piece = piece; faults = 0; calls = 0; failing = failing.items } }
+        ensures { result ≡ record {
+          left = bytes.items;
+          piece = piece;
+          faults = 0;
+          calls = 0;
+          failing =
+              failing.items;
+        } }
     {
         MemoryFeed {
             bytes,
@@ -88,9 +96,18 @@ impl Feed for MemoryFeed {
         ensures refused { OnErr result (Some self.new.left ≡ Some self.old.left) }
         ensures cause { HasCause (counted self.old.faults) (counted self.new.faults) result }
         ensures fails { IsErr result ↔ IsTrue (list_any (λ n. nat_eq n self.old.calls) self.old.failing) }
-        ensures count { IfOk result (λ n. n ≡ min self.old.piece (min (length self.old.left) (length out.old))) }
-        ensures ok { IfOk result (λ n. self.new ≡ record self.old { left = drop n self.old.left; calls = one_more self.old.calls }) }
-        ensures err { OnErr result (self.new ≡ record self.old { calls = one_more self.old.calls; faults = one_more self.old.faults }) }
+        ensures count { IfOk result (λ n. n ≡ min self.old.piece
+            (min (length self.old.left) (length out.old))) }
+        ensures ok { IfOk result (λ n. self.new ≡ record self.old {
+          left = drop n self.old.left;
+          calls =
+              one_more self.old.calls;
+        }) }
+        ensures err { OnErr result (self.new ≡ record self.old {
+          calls = one_more self.old.calls;
+          faults =
+              one_more self.old.faults;
+        }) }
     {
         tick(&mut self.calls, &mut self.faults, &self.failing)?;
         let n = give_front(&self.bytes[self.taken..], self.piece, out);

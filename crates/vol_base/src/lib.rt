@@ -14,6 +14,7 @@ mod outlet;
 mod outside;
 #[cfg(test)]
 mod tests;
+mod whole;
 
 pub use boxes::{Box3, BoxFault};
 pub use door::MemoryDoor;
@@ -28,3 +29,4 @@ pub use outside::{
     Door, Failed, Feed, FreeGate, Gate, Got, Link, Moment, OutOfMemory, Outlet, Source, Store,
     StoreRefusal,
 };
+pub use whole::write_all;

@@ -44,7 +44,8 @@ impl Model for MemoryLink {
       failing = s.failing.items;
     } };
 
-    ghost invariant = { λ s. (s.taken ≤ length s.bytes.items) × (length s.sent.items ≤ s.room) × (s.room ≤ vec_capacity s.sent) × (0 < s.piece) };
+    ghost invariant = { λ s. (s.taken ≤ length s.bytes.items) × (length s.sent.items ≤ s.room) ×
+        (s.room ≤ vec_capacity s.sent) × (0 < s.piece) };
 }
 
 impl MemoryLink {
@@ -59,7 +60,17 @@ impl MemoryLink {
         failing: Vec<u64>,
     ) -> Result<MemoryLink, OutOfMemory>
         requires { 0 < piece }
-        ensures { IfOk result (λ link. link ≡ record { stream = bytes.items; taken = 0; sent = []; room = room; piece = piece; faults = 0; calls = 0; failing = failing.items }) }
+        ensures { IfOk result (λ link. link ≡ record {
+          stream = bytes.items;
+          taken = 0;
+          sent = [];
+          room =
+              room;
+          piece = piece;
+          faults = 0;
+          calls = 0;
+          failing = failing.items;
+        }) }
     {
         match Vec::with_capacity(alloc, room) {
             Ok(sent) => Ok(MemoryLink {
@@ -105,15 +116,25 @@ impl Link for MemoryLink {
         requires { 0 < length out.old }
         ensures within { IfOk result (λ n. n ≤ length out.old) }
         ensures read { IfOk result (λ n. IfSome (Some (left_in self.old)) (Gives n out.new)) }
-        ensures left { IfOk result (λ n. Some (left_in self.new) ≡ option_map (drop n) (Some (left_in self.old))) }
+        ensures left { IfOk result (λ n. Some (left_in self.new)
+            ≡ option_map (drop n) (Some (left_in self.old))) }
         ensures refused { OnErr result (Some (left_in self.new) ≡ Some (left_in self.old)) }
         ensures sent { Some self.new.sent ≡ Some self.old.sent }
         ensures stream { Some self.new.stream ≡ Some self.old.stream }
         ensures cause { HasCause (counted self.old.faults) (counted self.new.faults) result }
         ensures fails { IsErr result ↔ IsTrue (fails_next self.old) }
-        ensures count { IfOk result (λ n. n ≡ min self.old.piece (min (length (left_in self.old)) (length out.old))) }
-        ensures ok { IfOk result (λ n. self.new ≡ record self.old { taken = self.old.taken + n; calls = one_more self.old.calls }) }
-        ensures err { OnErr result (self.new ≡ record self.old { calls = one_more self.old.calls; faults = one_more self.old.faults }) }
+        ensures count { IfOk result (λ n. n ≡ min self.old.piece
+            (min (length (left_in self.old)) (length out.old))) }
+        ensures ok { IfOk result (λ n. self.new ≡ record self.old {
+          taken = self.old.taken + n;
+          calls =
+              one_more self.old.calls;
+        }) }
+        ensures err { OnErr result (self.new ≡ record self.old {
+          calls = one_more self.old.calls;
+          faults =
+              one_more self.old.faults;
+        }) }
     {
         tick(&mut self.calls, &mut self.faults, &self.failing)?;
         let n = give_front(&self.bytes[self.taken..], self.piece, out);
@@ -124,15 +145,25 @@ impl Link for MemoryLink {
     fn send(&mut self, piece: &[u8]) -> Result<usize, Failed>
         requires { 0 < length piece.now }
         ensures some { IfOk result (λ n. (0 < n) × (n ≤ length piece.now)) }
-        ensures sent { IfOk result (λ n. Some self.new.sent ≡ option_map (λ w. w ++ take n piece.now) (Some self.old.sent)) }
+        ensures sent { IfOk result (λ n. Some self.new.sent
+            ≡ option_map (λ w. w ++ take n piece.now) (Some self.old.sent)) }
         ensures refused { OnErr result (Some self.new.sent ≡ Some self.old.sent) }
         ensures left { Some (left_in self.new) ≡ Some (left_in self.old) }
         ensures stream { Some self.new.stream ≡ Some self.old.stream }
         ensures cause { HasCause (counted self.old.faults) (counted self.new.faults) result }
         ensures fails { IsErr result ↔ IsTrue (refuses_sending self.old) }
-        ensures count { IfOk result (λ n. n ≡ min (min (self.old.room - length self.old.sent) self.old.piece) (length piece.now)) }
-        ensures ok { IfOk result (λ n. self.new ≡ record self.old { sent = self.old.sent ++ take n piece.now; calls = one_more self.old.calls }) }
-        ensures err { OnErr result (self.new ≡ record self.old { calls = one_more self.old.calls; faults = one_more self.old.faults }) }
+        ensures count { IfOk result (λ n. n ≡ min (min (self.old.room - length self.old.sent) self.old.piece)
+            (length piece.now)) }
+        ensures ok { IfOk result (λ n. self.new ≡ record self.old {
+          sent =
+              self.old.sent ++ take n piece.now;
+          calls = one_more self.old.calls;
+        }) }
+        ensures err { OnErr result (self.new ≡ record self.old {
+          calls = one_more self.old.calls;
+          faults =
+              one_more self.old.faults;
+        }) }
     {
         tick(&mut self.calls, &mut self.faults, &self.failing)?;
         let room = self.room - self.sent.len();

@@ -14,6 +14,7 @@ use crate::{Failed, Got, Name, OutOfMemory, Source, Store, StoreRefusal};
 use std::alloc::{AllocError, Global};
 use std::marker::Model;
 
+/// An object of a store in memory.
 #[derive(Drop)]
 pub struct Object {
     name: Name,
@@ -43,7 +44,8 @@ fn tell_bytes(bytes: &[u8])
 
 // Puts an object in front.
 fn put_newest(objects: &mut Vec<Object>, name: Name, bytes: Vec<u8>) -> Result<(), AllocError>
-    ensures ok { OnOk result (objects_of objects.new.items ≡ map.insert (objects_of objects.old.items) name bytes.items) }
+    ensures ok { OnOk result (objects_of objects.new.items
+        ≡ map.insert (objects_of objects.old.items) name bytes.items) }
     ensures err { OnErr result (objects.new.items ≡ objects.old.items) }
     ensures bytes { HaveBytes (objects_of objects.old.items) → HaveBytes (objects_of objects.new.items) }
 {
@@ -64,7 +66,8 @@ fn read_object(object: Option<&[u8]>, at: u64, out: &mut [u8]) -> Got
 
 fn read_part(bytes: &[u8], at: u64, out: &mut [u8]) -> u64
     ensures count { result ≡ length (part bytes.now at (length out.old)) }
-    ensures bytes { out.new ≡ part bytes.now at (length out.old) ++ drop (length (part bytes.now at (length out.old))) out.old }
+    ensures bytes { out.new ≡ part bytes.now at (length out.old)
+        ++ drop (length (part bytes.now at (length out.old))) out.old }
 {
     if at >= bytes.len() as u64 {
         return 0;
@@ -116,7 +119,15 @@ impl MemoryStore {
 
     /// No objects, and the numbers of the calls that fail.
     pub fn new(alloc: Global, failing: Vec<u64>) -> MemoryStore
-        ensures { result ≡ record { objects = map.empty; writing = None; asked = 0; faults = 0; calls = 0; failing = failing.items } }
+        ensures { result ≡ record {
+          objects = map.empty;
+          writing = None;
+          asked = 0;
+          faults = 0;
+          calls =
+              0;
+          failing = failing.items;
+        } }
     {
         MemoryStore {
             alloc,
@@ -131,7 +142,10 @@ impl MemoryStore {
 
     /// Puts or replaces an object. It is no call that can fail but for want of memory.
     pub fn put(&mut self, name: &Name, bytes: Vec<u8>) -> Result<(), OutOfMemory>
-        ensures ok { OnOk result (self.new ≡ record self.old { objects = map.insert self.old.objects name.now bytes.items }) }
+        ensures ok { OnOk result (self.new ≡ record self.old {
+          objects =
+              map.insert self.old.objects name.now bytes.items;
+        }) }
         ensures err { OnErr result (self.new ≡ self.old) }
     {
         match put_newest(&mut self.objects, name.duplicate(), bytes) {
@@ -170,9 +184,11 @@ impl Source for MemoryStore {
     ghost counts = { λ m. (is_count m.asked, is_count m.faults) };
 
     fn size(&mut self, name: &Name) -> Result<Option<u64>, Failed>
-        ensures found { IfOk result (λ size. IfSome (Some self.old.objects) (λ m. size ≡ option_map length (map.get m name.now))) }
+        ensures found { IfOk result (λ size. IfSome (Some self.old.objects) (λ m.
+            size ≡ option_map length (map.get m name.now))) }
         ensures bytes { HaveBytes self.old.objects }
-        ensures kept { OnlyReads (Some self.old.objects) (Some self.new.objects) (draft_of self.old) (draft_of self.new) }
+        ensures kept { OnlyReads (Some self.old.objects) (Some self.new.objects) (draft_of self.old)
+            (draft_of self.new) }
         ensures asked { counted self.new.asked ≡ counted self.old.asked }
         ensures cause { HasCause (counted self.old.faults) (counted self.new.faults) result }
         ensures fails { IsErr result ↔ IsTrue (fails self.old) }
@@ -188,15 +204,22 @@ impl Source for MemoryStore {
 
     fn read_at(&mut self, name: &Name, at: u64, out: &mut [u8]) -> Result<Got, Failed>
         requires { at + length out.old < 2 ^ 64 }
-        ensures read { IfOk result (λ got. IfSome (Some self.old.objects) (λ m. Reads (map.get m name.now) at out.old out.new got)) }
+        ensures read { IfOk result (λ got. IfSome (Some self.old.objects) (λ m.
+            Reads (map.get m name.now) at out.old out.new got)) }
         ensures rest { IfOk result (KeepsRest out.old out.new) }
         ensures bytes { HaveBytes self.old.objects }
-        ensures kept { OnlyReads (Some self.old.objects) (Some self.new.objects) (draft_of self.old) (draft_of self.new) }
-        ensures asked { OnOk result (counted self.new.asked ≡ asked_after (counted self.old.asked) (length out.old)) }
-        ensures asked_err { OnErr result ((counted self.old.asked ≤ counted self.new.asked) × (counted self.new.asked ≤ counted self.old.asked + length out.old)) }
+        ensures kept { OnlyReads (Some self.old.objects) (Some self.new.objects) (draft_of self.old)
+            (draft_of self.new) }
+        ensures asked { OnOk result (counted self.new.asked
+            ≡ asked_after (counted self.old.asked) (length out.old)) }
+        ensures asked_err { OnErr result ((counted self.old.asked ≤ counted self.new.asked) ×
+            (counted self.new.asked ≤ counted self.old.asked + length out.old)) }
         ensures cause { HasCause (counted self.old.faults) (counted self.new.faults) result }
         ensures fails { IsErr result ↔ IsTrue (fails self.old) }
-        ensures ok { OnOk result (self.new ≡ record (called self.old) { asked = asked_after self.old.asked (length out.old) }) }
+        ensures ok { OnOk result (self.new ≡ record (called self.old) {
+          asked =
+              asked_after self.old.asked (length out.old);
+        }) }
         ensures err { OnErr result (self.new ≡ failed self.old) }
     {
         tick(&mut self.calls, &mut self.faults, &self.failing)?;
@@ -236,9 +259,11 @@ impl Store for MemoryStore {
     ghost tells = { memory_tells };
 
     fn any_under(&mut self, folder: &Name) -> Result<bool, Failed>
-        ensures found { IfOk result (λ found. IfSome (Some self.old.objects) (λ m. found ≡ any_under m folder.now)) }
+        ensures found { IfOk result (λ found. IfSome (Some self.old.objects) (λ m.
+            found ≡ any_under m folder.now)) }
         ensures bytes { HaveBytes self.old.objects }
-        ensures kept { OnlyReads (Some self.old.objects) (Some self.new.objects) (draft_of self.old) (draft_of self.new) }
+        ensures kept { OnlyReads (Some self.old.objects) (Some self.new.objects) (draft_of self.old)
+            (draft_of self.new) }
         ensures asked { counted self.new.asked ≡ counted self.old.asked }
         ensures cause { HasCause (counted self.old.faults) (counted self.new.faults) result }
         ensures fails { IsErr result ↔ IsTrue (fails self.old) }
@@ -272,15 +297,20 @@ impl Store for MemoryStore {
 
     fn append(&mut self, piece: &[u8]) -> Result<(), StoreRefusal>
         requires { IsSome (draft_of self.old) }
-        ensures appended { OnOk result (draft_of self.new ≡ option_map (λ d. appended d piece.now) (draft_of self.old)) }
+        ensures appended { OnOk result (draft_of self.new
+            ≡ option_map (λ d. appended d piece.now) (draft_of self.old)) }
         ensures refused { OnErr result (draft_of self.new ≡ None) }
         ensures objects { Some self.new.objects ≡ Some self.old.objects }
         ensures asked { counted self.new.asked ≡ counted self.old.asked }
         ensures cause { HasStoreCause (counted self.old.faults) (counted self.new.faults) result }
         ensures fails { IsTrue (fails self.old) → IsErr result }
         ensures refusal { IfErr result (λ refusal. FailsAs refusal (fails self.old)) }
-        ensures ok { OnOk result (self.new ≡ record (called self.old) { writing = option_map (λ d. (d.0, d.1 ++ piece.now)) self.old.writing }) }
-        ensures err { IfErr result (λ refusal. self.new ≡ record (refused refusal self.old) { writing = None }) }
+        ensures ok { OnOk result (self.new ≡ record (called self.old) {
+          writing =
+              option_map (λ d. (d.0, d.1 ++ piece.now)) self.old.writing;
+        }) }
+        ensures err { IfErr result (λ refusal. self.new
+            ≡ record (refused refusal self.old) { writing = None }) }
     {
         let Some(object) = self.writing.take() else {
             return Ok(());
@@ -300,13 +330,17 @@ impl Store for MemoryStore {
     fn patch_front(&mut self, at: u64, piece: &[u8]) -> Result<(), StoreRefusal>
         requires written { IsSome (draft_of self.old) }
         requires within { IfSome (draft_of self.old) (λ d. at + length piece.now ≤ d.len) }
-        ensures patched { OnOk result (draft_of self.new ≡ option_map (λ d. patched d at piece.now) (draft_of self.old)) }
+        ensures patched { OnOk result (draft_of self.new
+            ≡ option_map (λ d. patched d at piece.now) (draft_of self.old)) }
         ensures refused { OnErr result (draft_of self.new ≡ None) }
         ensures objects { Some self.new.objects ≡ Some self.old.objects }
         ensures asked { counted self.new.asked ≡ counted self.old.asked }
         ensures cause { HasStoreCause (counted self.old.faults) (counted self.new.faults) result }
         ensures fails { IsErr result ↔ IsTrue (fails self.old) }
-        ensures ok { OnOk result (self.new ≡ record (called self.old) { writing = option_map (λ d. (d.0, overwritten d.1 at piece.now)) self.old.writing }) }
+        ensures ok { OnOk result (self.new ≡ record (called self.old) {
+          writing =
+              option_map (λ d. (d.0, overwritten d.1 at piece.now)) self.old.writing;
+        }) }
         ensures err { OnErr result (self.new ≡ record (failed self.old) { writing = None }) }
     {
         let Some(object) = self.writing.take() else {
@@ -324,15 +358,21 @@ impl Store for MemoryStore {
 
     fn finish(&mut self) -> Result<(), StoreRefusal>
         requires { IsSome (draft_of self.old) }
-        ensures finished { OnOk result (IfSome (draft_of self.old) (λ d. Some self.new.objects ≡ option_map (finished d.told) (Some self.old.objects))) }
+        ensures finished { OnOk result (IfSome (draft_of self.old) (λ d.
+            Some self.new.objects ≡ option_map (finished d.told) (Some self.old.objects))) }
         ensures draft { draft_of self.new ≡ None }
         ensures refused { OnErr result (Some self.new.objects ≡ Some self.old.objects) }
         ensures asked { counted self.new.asked ≡ counted self.old.asked }
         ensures cause { HasStoreCause (counted self.old.faults) (counted self.new.faults) result }
         ensures fails { IsTrue (fails self.old) → IsErr result }
         ensures refusal { IfErr result (λ refusal. FailsAs refusal (fails self.old)) }
-        ensures ok { OnOk result (self.new ≡ record (called self.old) { objects = finished self.old.writing self.old.objects; writing = None }) }
-        ensures err { IfErr result (λ refusal. self.new ≡ record (refused refusal self.old) { writing = None }) }
+        ensures ok { OnOk result (self.new ≡ record (called self.old) {
+          objects =
+              finished self.old.writing self.old.objects;
+          writing = None;
+        }) }
+        ensures err { IfErr result (λ refusal. self.new
+            ≡ record (refused refusal self.old) { writing = None }) }
     {
         let Some(object) = self.writing.take() else {
             return Ok(());

@@ -37,10 +37,11 @@ impl Model for MemoryOutlet {
       failing = s.failing.items;
     } };
 
-    ghost invariant = { λ s. (length s.bytes.items ≤ s.room) × (s.room ≤ vec_capacity s.bytes) × (0 < s.piece) };
+    ghost invariant = { λ s. (length s.bytes.items ≤ s.room) × (s.room ≤ vec_capacity s.bytes) ×
+        (0 < s.piece) };
 }
 
-// Takes the front of a piece, as far as there is room, into room that was reserved.
+/// Takes the front of a piece, at most so many bytes, into room that was reserved, and answers how many.
 pub(crate) fn take_front(bytes: &mut Vec<u8>, piece: &[u8], most: usize) -> usize
     requires { length bytes.old.items + min most (length piece.now) ≤ vec_capacity bytes.old }
     ensures count { result ≡ min most (length piece.now) }
@@ -64,7 +65,15 @@ impl MemoryOutlet {
         failing: Vec<u64>,
     ) -> Result<MemoryOutlet, OutOfMemory>
         requires { 0 < piece }
-        ensures { IfOk result (λ outlet. outlet ≡ record { bytes = []; room = room; piece = piece; faults = 0; calls = 0; failing = failing.items }) }
+        ensures { IfOk result (λ outlet. outlet ≡ record {
+          bytes = [];
+          room = room;
+          piece = piece;
+          faults =
+              0;
+          calls = 0;
+          failing = failing.items;
+        }) }
     {
         match Vec::with_capacity(alloc, room) {
             Ok(bytes) => Ok(MemoryOutlet {
@@ -100,13 +109,23 @@ impl Outlet for MemoryOutlet {
     fn write(&mut self, piece: &[u8]) -> Result<usize, Failed>
         requires { 0 < length piece.now }
         ensures some { IfOk result (λ n. (0 < n) × (n ≤ length piece.now)) }
-        ensures written { IfOk result (λ n. Some self.new.bytes ≡ option_map (λ w. w ++ take n piece.now) (Some self.old.bytes)) }
+        ensures written { IfOk result (λ n. Some self.new.bytes
+            ≡ option_map (λ w. w ++ take n piece.now) (Some self.old.bytes)) }
         ensures refused { OnErr result (Some self.new.bytes ≡ Some self.old.bytes) }
         ensures cause { HasCause (counted self.old.faults) (counted self.new.faults) result }
         ensures fails { IsErr result ↔ IsTrue (refuses_bytes self.old) }
-        ensures count { IfOk result (λ n. n ≡ min (min (self.old.room - length self.old.bytes) self.old.piece) (length piece.now)) }
-        ensures ok { IfOk result (λ n. self.new ≡ record self.old { bytes = self.old.bytes ++ take n piece.now; calls = one_more self.old.calls }) }
-        ensures err { OnErr result (self.new ≡ record self.old { calls = one_more self.old.calls; faults = one_more self.old.faults }) }
+        ensures count { IfOk result (λ n. n ≡ min (min (self.old.room - length self.old.bytes) self.old.piece)
+            (length piece.now)) }
+        ensures ok { IfOk result (λ n. self.new ≡ record self.old {
+          bytes =
+              self.old.bytes ++ take n piece.now;
+          calls = one_more self.old.calls;
+        }) }
+        ensures err { OnErr result (self.new ≡ record self.old {
+          calls = one_more self.old.calls;
+          faults =
+              one_more self.old.faults;
+        }) }
     {
         tick(&mut self.calls, &mut self.faults, &self.failing)?;
         let room = self.room - self.bytes.len();

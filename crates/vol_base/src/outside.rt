@@ -49,7 +49,8 @@ pub trait Source {
 
     /// The length of an object in bytes, or None exactly where there is no such object.
     fn size(&mut self, name: &Name) -> Result<Option<u64>, Failed>
-        ensures found { IfOk result (λ size. IfSome (objects self.old) (λ m. size ≡ option_map length (map.get m name.now))) }
+        ensures found { IfOk result (λ size. IfSome (objects self.old) (λ m.
+            size ≡ option_map length (map.get m name.now))) }
         ensures bytes { IfSome (objects self.old) HaveBytes }
         ensures kept { OnlyReads (objects self.old) (objects self.new) (draft self.old) (draft self.new) }
         ensures asked { asked self.new ≡ asked self.old }
@@ -59,12 +60,14 @@ pub trait Source {
     /// object ends.
     fn read_at(&mut self, name: &Name, at: u64, out: &mut [u8]) -> Result<Got, Failed>
         requires { at + length out.old < 2 ^ 64 }
-        ensures read { IfOk result (λ got. IfSome (objects self.old) (λ m. Reads (map.get m name.now) at out.old out.new got)) }
+        ensures read { IfOk result (λ got. IfSome (objects self.old) (λ m.
+            Reads (map.get m name.now) at out.old out.new got)) }
         ensures rest { IfOk result (KeepsRest out.old out.new) }
         ensures bytes { IfSome (objects self.old) HaveBytes }
         ensures kept { OnlyReads (objects self.old) (objects self.new) (draft self.old) (draft self.new) }
         ensures asked { OnOk result (asked self.new ≡ asked_after (asked self.old) (length out.old)) }
-        ensures asked_err { OnErr result ((asked self.old ≤ asked self.new) × (asked self.new ≤ asked self.old + length out.old)) }
+        ensures asked_err { OnErr result ((asked self.old ≤ asked self.new) ×
+            (asked self.new ≤ asked self.old + length out.old)) }
         ensures cause { HasCause (faults self.old) (faults self.new) result };
 
     /// Both counts are at most 2^64 - 1.
@@ -75,9 +78,11 @@ pub trait Source {
 pub trait Store: Source {
     /// Whether some object's name begins with the folder and `/`.
     fn any_under(&mut self, folder: &Name) -> Result<bool, Failed>
-        ensures found { IfOk result (λ found. IfSome (Self.objects self.old) (λ m. found ≡ any_under m folder.now)) }
+        ensures found { IfOk result (λ found. IfSome (Self.objects self.old) (λ m.
+            found ≡ any_under m folder.now)) }
         ensures bytes { IfSome (Self.objects self.old) HaveBytes }
-        ensures kept { OnlyReads (Self.objects self.old) (Self.objects self.new) (Self.draft self.old) (Self.draft self.new) }
+        ensures kept { OnlyReads (Self.objects self.old) (Self.objects self.new) (Self.draft self.old)
+            (Self.draft self.new) }
         ensures asked { Self.asked self.new ≡ Self.asked self.old }
         ensures cause { HasCause (Self.faults self.old) (Self.faults self.new) result };
 
@@ -92,7 +97,8 @@ pub trait Store: Source {
     /// Puts bytes behind those of the object being written. After a refusal none is being written.
     fn append(&mut self, piece: &[u8]) -> Result<(), StoreRefusal>
         requires { IsSome (Self.draft self.old) }
-        ensures appended { OnOk result (Self.draft self.new ≡ option_map (λ d. appended d piece.now) (Self.draft self.old)) }
+        ensures appended { OnOk result (Self.draft self.new
+            ≡ option_map (λ d. appended d piece.now) (Self.draft self.old)) }
         ensures refused { OnErr result (Self.draft self.new ≡ None) }
         ensures objects { Self.objects self.new ≡ Self.objects self.old }
         ensures asked { Self.asked self.new ≡ Self.asked self.old }
@@ -103,7 +109,8 @@ pub trait Store: Source {
     fn patch_front(&mut self, at: u64, piece: &[u8]) -> Result<(), StoreRefusal>
         requires written { IsSome (Self.draft self.old) }
         requires within { IfSome (Self.draft self.old) (λ d. at + length piece.now ≤ d.len) }
-        ensures patched { OnOk result (Self.draft self.new ≡ option_map (λ d. patched d at piece.now) (Self.draft self.old)) }
+        ensures patched { OnOk result (Self.draft self.new
+            ≡ option_map (λ d. patched d at piece.now) (Self.draft self.old)) }
         ensures refused { OnErr result (Self.draft self.new ≡ None) }
         ensures objects { Self.objects self.new ≡ Self.objects self.old }
         ensures asked { Self.asked self.new ≡ Self.asked self.old }
@@ -113,7 +120,8 @@ pub trait Store: Source {
     /// none is being written.
     fn finish(&mut self) -> Result<(), StoreRefusal>
         requires { IsSome (Self.draft self.old) }
-        ensures finished { OnOk result (IfSome (Self.draft self.old) (λ d. Self.objects self.new ≡ option_map (finished d.told) (Self.objects self.old))) }
+        ensures finished { OnOk result (IfSome (Self.draft self.old) (λ d.
+            Self.objects self.new ≡ option_map (finished d.told) (Self.objects self.old))) }
         ensures draft { Self.draft self.new ≡ None }
         ensures refused { OnErr result (Self.objects self.new ≡ Self.objects self.old) }
         ensures asked { Self.asked self.new ≡ Self.asked self.old }
@@ -157,7 +165,8 @@ pub trait Outlet {
     fn write(&mut self, piece: &[u8]) -> Result<usize, Failed>
         requires { 0 < length piece.now }
         ensures some { IfOk result (λ n. (0 < n) × (n ≤ length piece.now)) }
-        ensures written { IfOk result (λ n. written self.new ≡ option_map (λ w. w ++ take n piece.now) (written self.old)) }
+        ensures written { IfOk result (λ n. written self.new
+            ≡ option_map (λ w. w ++ take n piece.now) (written self.old)) }
         ensures refused { OnErr result (written self.new ≡ written self.old) }
         ensures cause { HasCause (faults self.old) (faults self.new) result };
 
@@ -192,7 +201,8 @@ pub trait Link {
     fn send(&mut self, piece: &[u8]) -> Result<usize, Failed>
         requires { 0 < length piece.now }
         ensures some { IfOk result (λ n. (0 < n) × (n ≤ length piece.now)) }
-        ensures sent { IfOk result (λ n. sent self.new ≡ option_map (λ w. w ++ take n piece.now) (sent self.old)) }
+        ensures sent { IfOk result (λ n. sent self.new
+            ≡ option_map (λ w. w ++ take n piece.now) (sent self.old)) }
         ensures refused { OnErr result (sent self.new ≡ sent self.old) }
         ensures left { left self.new ≡ left self.old }
         ensures stream { stream self.new ≡ stream self.old }
@@ -207,6 +217,7 @@ pub trait Link {
 
 /// A place where peers connect.
 pub trait Door {
+    /// The end of a connection: what is received of a peer, and sent to it.
     type End: Link;
 
     /// The port that was bound, where a listen succeeded.
@@ -236,7 +247,8 @@ pub trait Door {
     /// were closed gives ends that tell what they are.
     fn accept(&mut self) -> Result<Self::End, Failed>
         requires { IsSome (bound self.old) }
-        ensures fresh { IfOk result (λ end. (Self.End.left end ≡ Self.End.stream end) × (Self.End.sent end ≡ option_map (λ _. []) (Self.End.stream end)) × (Self.End.faults end ≡ 0)) }
+        ensures fresh { IfOk result (λ end. (Self.End.left end ≡ Self.End.stream end) ×
+            (Self.End.sent end ≡ option_map (λ _. []) (Self.End.stream end)) × (Self.End.faults end ≡ 0)) }
         ensures told { IfOk result (λ end. IsSome (served self.old) → IsSome (Self.End.stream end)) }
         ensures accepted { OnOk result (accepted self.new ≡ accepted self.old + 1) }
         ensures refused { OnErr result (accepted self.new ≡ accepted self.old) }
@@ -247,7 +259,8 @@ pub trait Door {
     /// Drops a connection, and notes it where this door gave more ends than it has noted: so of the ends that it
     /// gave, each once. To note an end of some other door would take memory that isn't there.
     fn close(&mut self, end: Self::End)
-        ensures served { Notes (served self.old) (accepted self.old) (Self.End.stream end) (Self.End.sent end) (Self.End.faults end) (served self.new) }
+        ensures served { Notes (served self.old) (accepted self.old) (Self.End.stream end) (Self.End.sent end)
+            (Self.End.faults end) (served self.new) }
         ensures accepted { accepted self.new ≡ accepted self.old }
         ensures bound { bound self.new ≡ bound self.old }
         ensures faults { faults self.new ≡ faults self.old };
@@ -268,6 +281,7 @@ pub enum Moment {
 
 /// Is told of each moment of each worker. A test's gate may wait there.
 pub trait Gate {
+    /// The worker on a seat just did this with a job; seats and jobs are counted from 0.
     fn at(&self, seat: u32, job: u64, moment: Moment);
 }
 

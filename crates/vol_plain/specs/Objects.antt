@@ -1,4 +1,4 @@
--- Boxes of few bytes.
+-- Boxes of few bytes (this project's).
 use Rattle.std.specs.Prelude.{ℕ, ◌^◌, ◌≤◌}
 use Rattle.vol_base.specs.declared.boxes.Box3.{Box3}
 use Rattle.vol_spec.specs.Raw.{raw_len}

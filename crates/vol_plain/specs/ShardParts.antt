@@ -1,4 +1,4 @@
--- The chunks of a shard, and which of them a sum is over.
+-- The chunks of a shard, and which of them a sum is over (this project's).
 use Rattle.std.specs.Prelude.{◌==◌, ◌&&◌, nat_lt, Bool, List, map}
 use Rattle.vol_plain.specs.declared.sums.Choice.{Choice}
 use Rattle.vol_plain.specs.declared.sums.Choice.TheVariants.{Below, In, InBelow}

@@ -1,4 +1,4 @@
--- Objects as names and bytes.
+-- Objects as names and bytes (this project's).
 use Rattle.std.specs.Prelude.{List, map}
 use Rattle.vol_plain.specs.declared.objects.StoredObject.{StoredObject}
 use Rattle.vol_spec.specs.Types.{Bytes, Listed, Name}

@@ -29,7 +29,8 @@ fn push_row(
     chunks: &[ShardChunk],
 ) -> Result<(), AllocError>
     requires { room (chunks_of chunks.now) < 2 ^ 62 }
-    ensures { OnOk result (rows.new.items ≡ rows.old.items ++ map (row_of (chunks_of chunks.now)) (of (chunk_of chunk.now ∷ []) minishard)) }
+    ensures { OnOk result (rows.new.items ≡ rows.old.items
+        ++ map (row_of (chunks_of chunks.now)) (of (chunk_of chunk.now ∷ []) minishard)) }
 {
     if chunk.minishard == minishard {
         rows.push(row_of(chunk, chunks))?;
@@ -64,7 +65,8 @@ fn push_number(out: &mut Vec<u8>, number: u64) -> Result<(), AllocError>
 
 // Of each id what it has over the one before.
 fn push_ids(out: &mut Vec<u8>, rows: &[Row], before: u64) -> Result<(), AllocError>
-    ensures { OnOk result (out.new.items ≡ out.old.items ++ numbers (over (ids rows.now) (before ∷ ids rows.now))) }
+    ensures { OnOk result (out.new.items ≡ out.old.items
+        ++ numbers (over (ids rows.now) (before ∷ ids rows.now))) }
 {
     match rows {
         [] => Ok(()),
@@ -77,7 +79,8 @@ fn push_ids(out: &mut Vec<u8>, rows: &[Row], before: u64) -> Result<(), AllocErr
 
 // Of each start what it has over the end before.
 fn push_starts(out: &mut Vec<u8>, rows: &[Row], before: u128) -> Result<(), AllocError>
-    ensures { OnOk result (out.new.items ≡ out.old.items ++ numbers (over (starts rows.now) (before ∷ ends rows.now))) }
+    ensures { OnOk result (out.new.items ≡ out.old.items
+        ++ numbers (over (starts rows.now) (before ∷ ends rows.now))) }
 {
     match rows {
         [] => Ok(()),

@@ -39,7 +39,8 @@ fn push_shard(
     requires sharded { scale.now.sharding ≡ Some sharding.now }
     requires shard { shard < 2 ^ shard_bits_of scale.now }
     requires room { room_of (key_entries placed.now) < 2 ^ 62 }
-    ensures { OnOk result (stored_entries objects.new.items ≡ stored_entries objects.old.items ++ objects_in dataset.now scale.now sharding.now (key_entries placed.now) (shard ∷ [])) }
+    ensures { OnOk result (stored_entries objects.new.items ≡ stored_entries objects.old.items
+        ++ objects_in dataset.now scale.now sharding.now (key_entries placed.now) (shard ∷ [])) }
 {
     let chunks = in_shard(alloc, placed, shard)?;
     if chunks.is_empty() {
@@ -62,7 +63,9 @@ fn make_objects(
     requires sharded { scale.now.sharding ≡ Some sharding.now }
     requires few { sharding.now.shard_bits < 64 }
     requires room { room_of (key_entries placed.now) < 2 ^ 62 }
-    ensures { IfOk result (λ objects. stored_entries objects.items ≡ objects_in dataset.now scale.now sharding.now (key_entries placed.now) (range_with_len 0 (2 ^ sharding.now.shard_bits))) }
+    ensures { IfOk result (λ objects. stored_entries objects.items
+        ≡ objects_in dataset.now scale.now sharding.now (key_entries placed.now)
+        (range_with_len 0 (2 ^ sharding.now.shard_bits))) }
 {
     let mut objects = Vec::new(alloc);
     for shard in 0..1 << sharding.shard_bits {
@@ -81,7 +84,8 @@ fn push_own(
 ) -> Result<(), AllocError>
     requires dataset { length dataset.now ≤ 200 }
     requires cell { IsCell scale.now chunk.now.cell }
-    ensures { OnOk result (stored_entries objects.new.items ≡ stored_entries objects.old.items ++ object_list dataset.now scale.now (stored_cells scale.now (chunk.now ∷ []))) }
+    ensures { OnOk result (stored_entries objects.new.items ≡ stored_entries objects.old.items
+        ++ object_list dataset.now scale.now (stored_cells scale.now (chunk.now ∷ []))) }
 {
     let name = object_name(dataset, scale, chunk.cell);
     let bytes = encode(alloc, scale, chunk.cell, &chunk.bytes)?;
@@ -97,7 +101,8 @@ fn own_objects(
 ) -> Result<Vec<StoredObject>, AllocError>
     requires dataset { length dataset.now ≤ 200 }
     requires cells { All (is_cell scale.now) chunks.now }
-    ensures { IfOk result (λ objects. stored_entries objects.items ≡ object_list dataset.now scale.now (stored_cells scale.now chunks.now)) }
+    ensures { IfOk result (λ objects. stored_entries objects.items
+        ≡ object_list dataset.now scale.now (stored_cells scale.now chunks.now)) }
 {
     let mut objects = Vec::new(alloc);
     for chunk in chunks {
@@ -122,7 +127,8 @@ pub fn plain_objects(
     requires few { shard_bits_of scale.now < 64 }
     requires cells { All (is_cell scale.now) chunks.now }
     requires room { room_of (stored_cells scale.now chunks.now) < 2 ^ 62 }
-    ensures { IfOk result (λ objects. stored_entries objects.items ≡ stored_list dataset.now scale.now (cell_entries chunks.now)) }
+    ensures { IfOk result (λ objects. stored_entries objects.items
+        ≡ stored_list dataset.now scale.now (cell_entries chunks.now)) }
 {
     let Some(sharding) = scale.sharding else {
         return own_objects(alloc, dataset, scale, chunks);

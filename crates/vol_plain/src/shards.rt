@@ -40,7 +40,8 @@ fn push_entries(out: &mut Vec<u8>, minishards: u64, chunks: &[ShardChunk]) -> Re
 
 // Appends the bytes of a chunk, where it is one of the minishard.
 fn push_chunk(out: &mut Vec<u8>, minishard: u64, chunk: &ShardChunk) -> Result<(), AllocError>
-    ensures { OnOk result (out.new.items ≡ out.old.items ++ flat_map (λ (c : Chunk). c.bytes) (of (chunk_of chunk.now ∷ []) minishard)) }
+    ensures { OnOk result (out.new.items ≡ out.old.items
+        ++ flat_map (λ (c : Chunk). c.bytes) (of (chunk_of chunk.now ∷ []) minishard)) }
 {
     if chunk.minishard == minishard {
         out.extend_from_slice(&chunk.bytes)?;
@@ -50,7 +51,8 @@ fn push_chunk(out: &mut Vec<u8>, minishard: u64, chunk: &ShardChunk) -> Result<(
 
 // Appends the bytes of the chunks of a minishard.
 fn push_chunks(out: &mut Vec<u8>, minishard: u64, chunks: &[ShardChunk]) -> Result<(), AllocError>
-    ensures { OnOk result (out.new.items ≡ out.old.items ++ flat_map (λ (c : Chunk). c.bytes) (of (chunks_of chunks.now) minishard)) }
+    ensures { OnOk result (out.new.items ≡ out.old.items
+        ++ flat_map (λ (c : Chunk). c.bytes) (of (chunks_of chunks.now) minishard)) }
 {
     for chunk in chunks {
         push_chunk(out, minishard, chunk)?;

@@ -12,8 +12,8 @@ pub struct ShardChunk {
     pub bytes: Vec<u8>,
 }
 
-// The chunks that a sum is over: those of the minishards below one, those of one, or those of one
-// with an id below one.
+/// The chunks that a sum is over: those of the minishards below one, those of one, or those of one with an id
+/// below one.
 #[derive(Clone, Copy)]
 pub(crate) enum Choice {
     Below { minishard: u64 },
@@ -32,7 +32,8 @@ fn is_meant(choice: Choice, chunk: &ShardChunk) -> bool
 }
 
 fn len_if(choice: Choice, chunk: &ShardChunk) -> u64
-    ensures { result ≡ (if is_meant choice (chunk_of chunk.now) then length (chunk_of chunk.now).bytes else 0) }
+    ensures { result ≡ (if is_meant choice (chunk_of chunk.now) then length (chunk_of chunk.now).bytes
+        else 0) }
 {
     if is_meant(choice, chunk) {
         chunk.bytes.len() as u64

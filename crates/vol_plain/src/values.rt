@@ -52,7 +52,8 @@ fn own_value(
     requires cell { IsCell scale.now cell }
     requires position { Covers (cell_box scale.now cell) p }
     requires channel { c < scale.now.channels }
-    ensures { result ≡ value_of scale.now cell (judged scale.now cell (held_by None scale.now cell object.now)) p c }
+    ensures { result ≡ value_of scale.now cell (judged scale.now cell
+        (held_by None scale.now cell object.now)) p c }
 {
     let bytes = front(object, chunk_limit(scale, cell) as usize + 1);
     bytes_value(bytes, scale, cell, p, c)
@@ -71,7 +72,8 @@ fn shard_value(
     requires cell { IsCell scale.now cell }
     requires position { Covers (cell_box scale.now cell) p }
     requires channel { c < scale.now.channels }
-    ensures { result ≡ value_of scale.now cell (judged scale.now cell (held_by (Some sharding.now) scale.now cell object.now)) p c }
+    ensures { result ≡ value_of scale.now cell (judged scale.now cell
+        (held_by (Some sharding.now) scale.now cell object.now)) p c }
 {
     let id = code(&grid(scale), cell);
     match plain_found(object, sharding, chunk_limit(scale, cell), id) {
@@ -95,7 +97,8 @@ fn object_value(
     requires cell { IsCell scale.now cell }
     requires position { Covers (cell_box scale.now cell) p }
     requires channel { c < scale.now.channels }
-    ensures { result ≡ value_of scale.now cell (judged scale.now cell (held_by scale.now.sharding scale.now cell object.now)) p c }
+    ensures { result ≡ value_of scale.now cell (judged scale.now cell
+        (held_by scale.now.sharding scale.now cell object.now)) p c }
 {
     match scale.sharding {
         None => own_value(object, scale, cell, p, c),

@@ -1,3 +1,2 @@
 pub mod DrainSteps
-pub mod Gained
 pub mod KnownSteps

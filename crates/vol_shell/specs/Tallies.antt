@@ -1,4 +1,4 @@
--- What a store over a directory and a door keep of their calls.
+-- What a store over a directory and a door keep of their calls (this project's).
 use Rattle.std.specs.Prelude.{ℕ, Option, None, Some, IfSome}
 use Rattle.std.specs.Option.{option_map}
 use Rattle.vol_base.specs.Outside.{Draft, IsTold}

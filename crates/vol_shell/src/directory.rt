@@ -63,7 +63,12 @@ impl<R> Model for DirStore<R> {
 
     ghost Value = { Tally };
 
-    ghost view = { λ s. record { asked = s.asked; faults = s.faults; writing = option_map (λ w. w.len) s.writing } };
+    ghost view = { λ s. record {
+      asked = s.asked;
+      faults = s.faults;
+      writing =
+          option_map (λ w. w.len) s.writing;
+    } };
 }
 
 impl<R> DirStore<R> {

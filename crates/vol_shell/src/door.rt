@@ -49,7 +49,12 @@ impl<R: Net> Model for TcpDoor<R> {
 
     ghost Value = { Doorway };
 
-    ghost view = { λ d. record { port = option_map (λ l. l.port) d.listening; accepted = d.accepted; faults = d.faults } };
+    ghost view = { λ d. record {
+      port = option_map (λ l. l.port) d.listening;
+      accepted = d.accepted;
+      faults =
+          d.faults;
+    } };
 }
 
 impl<R: Net> TcpDoor<R> {

@@ -21,5 +21,5 @@ pub use lines::{
     write_written_line,
 };
 pub use link::TcpLink;
-pub use output::{say, write_all};
+pub use output::say;
 pub use streams::{NoDoor, NoLink, StdFeed, StdOutlet};

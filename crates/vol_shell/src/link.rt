@@ -50,7 +50,8 @@ impl<S: Read + Write> Link for TcpLink<S> {
 
     fn recv(&mut self, out: &mut [u8]) -> Result<usize, Failed>
         ensures within { IfOk result (λ n. n ≤ length out.old) }
-        ensures bytes { ReadConsumes (S.remaining self.old.stream) (S.remaining self.new.stream) result out.new }
+        ensures bytes { ReadConsumes (S.remaining self.old.stream)
+            (S.remaining self.new.stream) result out.new }
         ensures cause { HasCause (counted self.old.faults) (counted self.new.faults) result }
     {
         let given = read_some(&mut self.stream, out);
@@ -63,7 +64,8 @@ impl<S: Read + Write> Link for TcpLink<S> {
     fn send(&mut self, piece: &[u8]) -> Result<usize, Failed>
         requires { 0 < length piece.now }
         ensures some { IfOk result (λ n. (0 < n) × (n ≤ length piece.now)) }
-        ensures bytes { WriteAppends (S.contents self.old.stream) (S.contents self.new.stream) result piece.now }
+        ensures bytes { WriteAppends (S.contents self.old.stream)
+            (S.contents self.new.stream) result piece.now }
         ensures cause { HasCause (counted self.old.faults) (counted self.new.faults) result }
     {
         let taken = write_some(&mut self.stream, piece);

@@ -27,8 +27,8 @@ impl<W> StdOutlet<W> {
     }
 }
 
-// Writes some bytes of a piece, at least one. What a signal broke off is tried again, and a writer
-// that takes no byte fails.
+/// Writes some bytes of a piece, at least one, and answers how many. What a signal broke off is tried again, and a
+/// writer that takes no byte fails.
 #[tactic(auto, using(crate::proofs::KnownSteps::kept, crate::proofs::KnownSteps::kept_twice, crate::proofs::KnownSteps::kept_and_grown, crate::proofs::KnownSteps::grown_by_none))]
 pub(crate) fn write_some<W: Write>(inner: &mut W, piece: &[u8]) -> Result<usize, Failed>
     requires { 0 < length piece.now }
@@ -58,7 +58,8 @@ impl<W: Write> Outlet for StdOutlet<W> {
     fn write(&mut self, piece: &[u8]) -> Result<usize, Failed>
         requires { 0 < length piece.now }
         ensures some { IfOk result (λ n. (0 < n) × (n ≤ length piece.now)) }
-        ensures bytes { WriteAppends (W.contents self.old.inner) (W.contents self.new.inner) result piece.now }
+        ensures bytes { WriteAppends (W.contents self.old.inner)
+            (W.contents self.new.inner) result piece.now }
         ensures cause { HasCause (counted self.old.faults) (counted self.new.faults) result }
     {
         let taken = write_some(&mut self.inner, piece);
@@ -88,7 +89,7 @@ impl<R> StdFeed<R> {
     }
 }
 
-// Reads some bytes, and none only at the end. What a signal broke off is tried again.
+/// Reads some bytes and answers how many, and none only at the end. What a signal broke off is tried again.
 #[tactic(auto, using(crate::proofs::KnownSteps::kept, crate::proofs::KnownSteps::kept_twice))]
 pub(crate) fn read_some<R: Read>(inner: &mut R, out: &mut [u8]) -> Result<usize, Failed>
     ensures within { IfOk result (λ n. n ≤ length out.old) }
@@ -115,7 +116,8 @@ impl<R: Read> Feed for StdFeed<R> {
 
     fn read(&mut self, out: &mut [u8]) -> Result<usize, Failed>
         ensures within { IfOk result (λ n. n ≤ length out.old) }
-        ensures bytes { ReadConsumes (R.remaining self.old.inner) (R.remaining self.new.inner) result out.new }
+        ensures bytes { ReadConsumes (R.remaining self.old.inner)
+            (R.remaining self.new.inner) result out.new }
         ensures cause { HasCause (counted self.old.faults) (counted self.new.faults) result }
     {
         let given = read_some(&mut self.inner, out);

@@ -31,7 +31,8 @@ before_fault (Err fault ∷ rest) = []
 
 -- the values of a box, in order
 abbrev pub values_of : Box3 → ℕ → (Position → ℕ → Result ℕ Fault) → List (Result ℕ Fault)
-values_of b channels f = map (λ n. f (position_of b n) (channel_of b n)) (range_with_len 0 (voxels b * channels))
+values_of b channels f = map (λ n. f (position_of b n) (channel_of b n))
+    (range_with_len 0 (voxels b * channels))
 
 -- the first that there is
 abbrev pub first_some : {A : Type 0} → List (Option A) → Option A

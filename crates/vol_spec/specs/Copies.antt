@@ -24,11 +24,13 @@ is_there (Err fault) = true
 
 -- the cells that aren't absent, in the order of the grid
 abbrev pub cells_there : Objects → Name → Scale → List Cell
-cells_there objects dataset s = filter (λ cell. is_there (chunk_in objects dataset s cell)) (numbers_on (cells_on s))
+cells_there objects dataset s = filter (λ cell. is_there (chunk_in objects dataset s cell))
+    (numbers_on (cells_on s))
 
 -- whether the box of a cell of the target meets that of such a cell of the source
 abbrev pub is_copied : Objects → Name → Scale → Scale → Cell → Bool
-is_copied objects dataset from to cell = list_any (λ source. meets to (cell_box from source) cell) (cells_there objects dataset from)
+is_copied objects dataset from to cell = list_any (λ source.
+    meets to (cell_box from source) cell) (cells_there objects dataset from)
 
 -- the cells of the target that are stored, in the order of its grid
 unfoldable pub copied_cells : Objects → Name → Scale → Scale → List Cell
@@ -41,8 +43,10 @@ or_zero (Err fault) = 0
 
 -- the source's values in the box of a cell of the target, as the bytes of a raw chunk
 unfoldable pub copied_raw : Objects → Name → Scale → Scale → Cell → Bytes
-copied_raw objects dataset from to cell = raw_bytes (cell_box to cell) to.channels to.width (λ p c. or_zero (value_in objects dataset from p c))
+copied_raw objects dataset from to cell = raw_bytes (cell_box to cell) to.channels to.width (λ p c.
+    or_zero (value_in objects dataset from p c))
 
 -- the copy: each cell of the target that is stored, with the source's values
 unfoldable pub copy : Objects → Name → Scale → Scale → Chunks
-copy objects dataset from to = map (λ cell. (cell, copied_raw objects dataset from to cell)) (copied_cells objects dataset from to)
+copy objects dataset from to = map (λ cell. (cell, copied_raw objects dataset from to cell))
+    (copied_cells objects dataset from to)

@@ -31,7 +31,8 @@ span_cost (Err fault) = 0
 abbrev pub shard_cost : Sharding → Scale → Cell → Option Bytes → ℕ
 shard_cost sharding s cell None = 16
 shard_cost sharding s cell (Some object) =
-    16 + rows_cost (rows_in object sharding (minishard_of sharding (id_of s cell))) + span_cost (found object sharding (cell_limit s cell) (id_of s cell))
+    16 + rows_cost (rows_in object sharding (minishard_of sharding (id_of s cell)))
+    + span_cost (found object sharding (cell_limit s cell) (id_of s cell))
 
 -- an object of its own: one byte more than the longest chunk of the scale
 abbrev pub cost_by : Option Sharding → Scale → Cell → Option Bytes → ℕ
@@ -40,4 +41,5 @@ cost_by (Some sharding) s cell object = shard_cost sharding s cell object
 
 -- the cells that meet a box
 unfoldable pub cost : Objects → Name → Scale → Box3 → ℕ
-cost objects dataset s b = sum (map (λ cell. cost_by s.sharding s cell (fin.get objects (object_of dataset s cell))) (cells_in s b))
+cost objects dataset s b = sum (map (λ cell. cost_by s.sharding s cell
+    (fin.get objects (object_of dataset s cell))) (cells_in s b))

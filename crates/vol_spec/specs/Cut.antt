@@ -12,7 +12,8 @@ use Rattle.vol_spec.specs.declared.scale.Scale.{Scale}
 
 -- the values of a box as bytes, up to the first voxel whose value is a fault
 unfoldable pub cut : Objects → Name → Scale → Box3 → Bytes
-cut objects dataset s b = flat_map (bytes_of s.width) (before_fault (values_of b s.channels (value_in objects dataset s)))
+cut objects dataset s b = flat_map (bytes_of s.width)
+    (before_fault (values_of b s.channels (value_in objects dataset s)))
 
 -- a cell that has a fault, with the fault
 abbrev pub faulty : Objects → Name → Scale → Cell → Option (Cell × Fault)

@@ -25,7 +25,13 @@ blocks_of (Seg block) = block
 
 -- the sizes of a cell's segmentation chunk, clipped as the cell is; values of eight bytes are wide
 abbrev pub sizes_in : Scale → Cell → SegSizes
-sizes_in s cell = record { size = (cell_box s cell).size; block = blocks_of s.encoding; channels = s.channels; wide = s.width == 8 }
+sizes_in s cell = record {
+  size = (cell_box s cell).size;
+  block = blocks_of s.encoding;
+  channels =
+      s.channels;
+  wide = s.width == 8;
+}
 
 -- how many bytes the values of a cell have
 abbrev pub raw_size : Scale → Cell → ℕ
@@ -37,13 +43,15 @@ cell_limit s cell = by_encoding s.encoding (raw_size s cell) (encoded_limit (siz
 
 -- what is wrong with bytes that are given for its chunk, or none
 abbrev pub chunk_fault : Scale → Cell → Bytes → Option ChunkFault
-chunk_fault s cell bytes = by_encoding s.encoding (raw_fault (cell_box s cell) s.channels s.width bytes) (seg_fault bytes (sizes_in s cell))
+chunk_fault s cell bytes = by_encoding s.encoding (raw_fault (cell_box s cell) s.channels s.width bytes)
+    (seg_fault bytes (sizes_in s cell))
 
 -- the value that the bytes of its chunk give a voxel and channel
 abbrev pub value_at : Scale → Cell → Bytes → Position → ℕ → ℕ
 value_at s cell bytes p c =
     let b = cell_box s cell in
-    by_encoding s.encoding (raw_at b s.width bytes p c) (seg_at bytes (sizes_in s cell) (from_begin b p 0) (from_begin b p 1) (from_begin b p 2) c)
+    by_encoding s.encoding (raw_at b s.width bytes p c)
+    (seg_at bytes (sizes_in s cell) (from_begin b p 0) (from_begin b p 1) (from_begin b p 2) c)
 
 -- the bytes that the values of a cell are stored as
 abbrev pub encoded : Scale → Cell → Bytes → Bytes

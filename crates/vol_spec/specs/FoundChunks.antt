@@ -37,7 +37,8 @@ entry_in object m = entry_of (part object (16 * m) 16)
 -- how many rows its index has; 0 where it is empty
 abbrev pub rows_in : Bytes → Sharding → ℕ → Result ℕ ShardFault
 rows_in object sharding m =
-    if nat_lt (length object) (16 * m + 16) then Err ShortIndex else judged_entry (entry_in object m) (base_of sharding) (length object)
+    if nat_lt (length object) (16 * m + 16) then Err ShortIndex
+    else judged_entry (entry_in object m) (base_of sharding) (length object)
 
 -- the bytes of so many rows
 abbrev pub index_in : Bytes → Sharding → ℕ → ℕ → Bytes
@@ -52,7 +53,8 @@ abbrev pub span_of : ℕ → ℕ → ℕ → Option Row → Result (Option Chunk
 span_of base len limit None = Ok None
 span_of base len limit (Some row) =
     if nat_lt limit row.size then Err (ChunkTooLong row.size limit)
-    else (if nat_lt len (base + row.start + row.size) then Err ShortChunk else Ok (Some (record { start = base + row.start; len = row.size })))
+    else (if nat_lt len (base + row.start + row.size) then Err ShortChunk
+    else Ok (Some (record { start = base + row.start; len = row.size })))
 
 -- where the chunk of an id stands in its shard's object, none where it is absent, or the first fault; `limit` is the chunk's longest length
 unfoldable pub found : Bytes → Sharding → ℕ → ℕ → Result (Option ChunkSpan) Fault

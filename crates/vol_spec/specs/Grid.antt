@@ -60,7 +60,8 @@ meets s b cell = list_all (meets_on (cell_box s cell) b) (0 ∷ 1 ∷ 2 ∷ [])
 -- so many numbers on each axis, in order: x fastest, then y, then z
 abbrev pub numbers_on : (ℕ → ℕ) → List Cell
 numbers_on count =
-    flat_map (λ z. flat_map (λ y. map (λ x. x ∷ y ∷ z ∷ []) (range_with_len 0 (count 0))) (range_with_len 0 (count 1))) (range_with_len 0 (count 2))
+    flat_map (λ z. flat_map (λ y. map (λ x. x ∷ y ∷ z ∷ []) (range_with_len 0 (count 0)))
+    (range_with_len 0 (count 1))) (range_with_len 0 (count 2))
 
 -- the cells that meet a box, in order
 abbrev pub cells_in : Scale → Box3 → List Cell

@@ -30,7 +30,13 @@ pub record Lanes : Type 0 where
 
 -- the four lanes before they are mixed: the keyed words and nothing, each xored with the key's length 8
 unfoldable pub loaded : ℕ → Lanes
-loaded n = record { one = bit_xor (low_keyed (n % 2 ^ 32)) 8; two = bit_xor (high_keyed (n / 2 ^ 32)) 8; three = 8; four = 8 }
+loaded n = record {
+  one = bit_xor (low_keyed (n % 2 ^ 32)) 8;
+  two =
+      bit_xor (high_keyed (n / 2 ^ 32)) 8;
+  three = 8;
+  four = 8;
+}
 
 -- the sum of all lanes
 abbrev pub joint : Lanes → ℕ
@@ -38,7 +44,13 @@ joint h = plus (plus (plus h.one h.two) h.three) h.four
 
 -- the first lane becomes the sum of all, and each other gains it
 unfoldable pub stirred : Lanes → Lanes
-stirred h = record { one = joint h; two = plus h.two (joint h); three = plus h.three (joint h); four = plus h.four (joint h) }
+stirred h = record {
+  one = joint h;
+  two = plus h.two (joint h);
+  three = plus h.three (joint h);
+  four =
+      plus h.four (joint h);
+}
 
 -- a word xored with itself shifted right
 abbrev pub folded : ℕ → ℕ → ℕ

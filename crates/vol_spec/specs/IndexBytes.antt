@@ -23,7 +23,12 @@ over xs before = map (λ (p : ℕ × ℕ). p.0 - p.1) (zip xs before)
 
 -- Of each row is stored what its id has over the id before it, what its start has over the end before it, and its size.
 abbrev pub stored : List Row → Columns
-stored rows = record { ids = over (ids rows) (0 ∷ ids rows); starts = over (starts rows) (0 ∷ ends rows); sizes = sizes rows }
+stored rows = record {
+  ids = over (ids rows) (0 ∷ ids rows);
+  starts =
+      over (starts rows) (0 ∷ ends rows);
+  sizes = sizes rows;
+}
 
 unfoldable pub eight : ℕ → Bytes
 eight n = little_bytes 8 n

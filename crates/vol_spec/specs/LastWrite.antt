@@ -1,4 +1,4 @@
--- The value that the last covering write gives a voxel, over what was there.
+-- The value that the last covering write gives a voxel, over what was there (this project's profile).
 use Rattle.std.specs.Prelude.{◌≡◌, ◌<◌, ◌^◌, ℕ, Bool, ◌&&◌, [], ◌∷◌, reverse, int_lt, int_le, if◌then◌else◌}
 use Rattle.std.specs.List.{list_all}
 use Rattle.vol_base.specs.declared.boxes.Box3.{Box3}
@@ -24,7 +24,8 @@ zeros p c = 0
 -- of writes with the newest first: the value in the newest one that covers the voxel, else what was there
 abbrev pub newest : ℕ → Before → Writes → Position → ℕ → ℕ
 newest w before [] p c = before p c
-newest w before (write ∷ older) p c = if covers write.0 p then digit write.1 w (num write.0 p c) else newest w before older p c
+newest w before (write ∷ older) p c = if covers write.0 p then digit write.1 w (num write.0 p c)
+    else newest w before older p c
 
 -- of writes in order: the value in the last one that covers the voxel, else what was there
 abbrev pub last : ℕ → Before → Writes → Position → ℕ → ℕ

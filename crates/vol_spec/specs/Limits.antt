@@ -10,7 +10,8 @@ IsWidth w = (w ≡ 1) ⊎ ((w ≡ 2) ⊎ ((w ≡ 4) ⊎ (w ≡ 8)))
 
 -- on each axis from -2^40 to 2^40
 abbrev pub AreOffsets : List ℤ → Type 0
-AreOffsets offsets = (axis : ℕ) → axis < 3 → (neg_ℤ (pos (2 ^ 40)) ≤ℤ slice_index_or offsets axis (pos 0)) × (slice_index_or offsets axis (pos 0) ≤ℤ pos (2 ^ 40))
+AreOffsets offsets = (axis : ℕ) → axis < 3 → (neg_ℤ (pos (2 ^ 40)) ≤ℤ slice_index_or offsets axis (pos 0)) ×
+    (slice_index_or offsets axis (pos 0) ≤ℤ pos (2 ^ 40))
 
 -- the size of the first cell on an axis: the chunk size, clipped to the scale
 abbrev pub first_size : List ℕ → List ℕ → ℕ → ℕ
@@ -18,7 +19,8 @@ first_size size chunk axis = min (slice_index chunk axis) (slice_index size axis
 
 -- the bytes of the first cell's values
 abbrev pub first_bytes : ℕ → ℕ → List ℕ → List ℕ → ℕ
-first_bytes width channels size chunk = first_size size chunk 0 * first_size size chunk 1 * first_size size chunk 2 * channels * width
+first_bytes width channels size chunk =
+    first_size size chunk 0 * first_size size chunk 1 * first_size size chunk 2 * channels * width
 
 -- a size rounded up to whole blocks
 abbrev pub rounded : ℕ → ℕ → ℕ
@@ -27,11 +29,13 @@ rounded size block = (size + block - 1) / block * block
 -- the voxels of the first cell with each size rounded up to whole blocks, times the channels
 abbrev pub padded_voxels : List ℕ → ℕ → List ℕ → List ℕ → ℕ
 padded_voxels block channels size chunk =
-    rounded (first_size size chunk 0) (slice_index block 0) * rounded (first_size size chunk 1) (slice_index block 1) * rounded (first_size size chunk 2) (slice_index block 2) * channels
+    rounded (first_size size chunk 0) (slice_index block 0) * rounded (first_size size chunk 1)
+    (slice_index block 1) * rounded (first_size size chunk 2) (slice_index block 2) * channels
 
 -- how many cells the grid has on each axis: ceil(size / chunk) (precomputed volume format, chunk storage)
 abbrev pub cell_counts : List ℕ → List ℕ → List ℕ
-cell_counts size chunk = on_axes (λ axis. (slice_index size axis + slice_index chunk axis - 1) / slice_index chunk axis)
+cell_counts size chunk = on_axes (λ axis. (slice_index size axis
+    + slice_index chunk axis - 1) / slice_index chunk axis)
 
 -- an encoding in blocks of these sizes
 abbrev pub IsSeg : Encoding → List ℕ → Type 0

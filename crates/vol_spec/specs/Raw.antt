@@ -21,7 +21,8 @@ raw_len b channels w = voxels b * channels * w
 
 -- a chunk of any other length has a fault, with the length that was found and the one that was wanted
 abbrev pub raw_fault : Box3 → ℕ → ℕ → Bytes → Option ChunkFault
-raw_fault b channels w bytes = if length bytes == raw_len b channels w then None else Some (ChunkLength (length bytes) (raw_len b channels w))
+raw_fault b channels w bytes = if length bytes == raw_len b channels w then None
+    else Some (ChunkLength (length bytes) (raw_len b channels w))
 
 -- the value of a voxel and channel
 abbrev pub raw_at : Box3 → ℕ → Bytes → Position → ℕ → ℕ

@@ -28,7 +28,8 @@ start_at c r = sum (take (r + 1) c.starts) + sum (take r c.sizes)
 abbrev pub judged_by : ℕ → ℕ → ℕ → ℕ → ℕ → Result Row IndexFault
 judged_by r stored_id id start size =
     if (nat_lt 0 r && (stored_id == 0)) || nat_le (2 ^ 64) id then Err (BadId r)
-    else (if nat_le (2 ^ 64) (start + size) then Err (BadStart r) else Ok (record { id = id; start = start; size = size }))
+    else (if nat_le (2 ^ 64) (start + size) then Err (BadStart r)
+    else Ok (record { id = id; start = start; size = size }))
 
 -- row r, or its fault
 abbrev pub judged_row : Columns → ℕ → Result Row IndexFault
@@ -49,7 +50,8 @@ wanted_row wanted (Err fault) = Err fault
 
 -- the answer at the first such row, or none
 abbrev pub find_in : Columns → ℕ → Result (Option Row) IndexFault
-find_in c wanted = option_map_or (λ r. wanted_row wanted (judged_row c r)) (find (stops c wanted) (range_with_len 0 (length c.ids))) (Ok None)
+find_in c wanted = option_map_or (λ r. wanted_row wanted (judged_row c r))
+    (find (stops c wanted) (range_with_len 0 (length c.ids))) (Ok None)
 
 -- the k-th number of some bytes
 unfoldable pub number_at : Bytes → ℕ → ℕ

@@ -48,7 +48,8 @@ z_of s k n = k / blocks_on s 0 / blocks_on s 1 * block s 2 + n / block s 0 / blo
 
 -- whether it lies in the chunk, and so isn't padding
 unfoldable pub in_chunk : SegSizes → ℕ → ℕ → Bool
-in_chunk s k n = nat_lt (x_of s k n) (size s 0) && nat_lt (y_of s k n) (size s 1) && nat_lt (z_of s k n) (size s 2)
+in_chunk s k n = nat_lt (x_of s k n) (size s 0) && nat_lt (y_of s k n) (size s 1) && nat_lt (z_of s k n)
+    (size s 2)
 
 -- the numbers of the voxels of block k that lie in the chunk, ascending
 abbrev pub voxels_in : SegSizes → ℕ → List ℕ

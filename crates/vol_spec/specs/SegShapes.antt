@@ -1,4 +1,4 @@
--- The sizes of a shape.
+-- The sizes of a shape (this project's words for proofs).
 use Rattle.vol_spec.specs.SegSizes.{SegSizes}
 use Rattle.vol_spec.specs.declared.seg_shape.SegShape.{SegShape}
 

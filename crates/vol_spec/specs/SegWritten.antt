@@ -50,7 +50,8 @@ block_bits s raw c k = bits_for (length (table s raw c k))
 
 -- the index of the voxel n; of padding 0
 abbrev pub index_of : SegSizes → Bytes → ℕ → ℕ → ℕ → ℕ
-index_of s raw c k n = if in_chunk s k n then unwrap_or (position (λ v. v == raw_value s raw c k n) (table s raw c k)) 0 else 0
+index_of s raw c k n = if in_chunk s k n then unwrap_or
+    (position (λ v. v == raw_value s raw c k n) (table s raw c k)) 0 else 0
 
 -- the number of indices of so many bits side by side, the first lowest
 abbrev pub packed : ℕ → List ℕ → ℕ
@@ -61,7 +62,8 @@ abbrev pub packed_len : SegSizes → Bytes → ℕ → ℕ → ℕ
 packed_len s raw c k = packed_words (block_bits s raw c k) (block_voxels s)
 
 abbrev pub packed_bytes : SegSizes → Bytes → ℕ → ℕ → Bytes
-packed_bytes s raw c k = bytes_of (4 * packed_len s raw c k) (packed (block_bits s raw c k) (map (index_of s raw c k) (range_with_len 0 (block_voxels s))))
+packed_bytes s raw c k = bytes_of (4 * packed_len s raw c k)
+    (packed (block_bits s raw c k) (map (index_of s raw c k) (range_with_len 0 (block_voxels s))))
 
 -- the words of a table that is written
 abbrev pub table_len : SegSizes → Bytes → ℕ → ℕ → ℕ
@@ -72,20 +74,24 @@ table_bytes s raw c k = if places s raw c k then flat_map (bytes_of (width s)) (
 
 -- where the indices of block k stand, and its table, in words from the channel's start
 unfoldable pub values_place : SegSizes → Bytes → ℕ → ℕ → ℕ
-values_place s raw c k = 2 * block_count s + sum_by (λ j. packed_len s raw c j + table_len s raw c j) (range_with_len 0 k)
+values_place s raw c k = 2 * block_count s + sum_by (λ j.
+    packed_len s raw c j + table_len s raw c j) (range_with_len 0 k)
 
 abbrev pub table_place : SegSizes → Bytes → ℕ → ℕ → ℕ
 table_place s raw c k = let j = owner s raw c k in values_place s raw c j + packed_len s raw c j
 
 abbrev pub header : SegSizes → Bytes → ℕ → ℕ → Bytes
-header s raw c k = bytes_of 4 (table_place s raw c k + 2 ^ 24 * block_bits s raw c k) ++ bytes_of 4 (values_place s raw c k)
+header s raw c k = bytes_of 4 (table_place s raw c k + 2 ^ 24 * block_bits s raw c k)
+    ++ bytes_of 4 (values_place s raw c k)
 
 abbrev pub channel_bytes : SegSizes → Bytes → ℕ → Bytes
-channel_bytes s raw c = flat_map (header s raw c) (range_with_len 0 (block_count s)) ++ flat_map (λ k. packed_bytes s raw c k ++ table_bytes s raw c k) (range_with_len 0 (block_count s))
+channel_bytes s raw c = flat_map (header s raw c) (range_with_len 0 (block_count s))
+    ++ flat_map (λ k. packed_bytes s raw c k ++ table_bytes s raw c k) (range_with_len 0 (block_count s))
 
 -- where channel c starts: after the channels' words and the channels before it
 unfoldable pub channel_start : SegSizes → Bytes → ℕ → ℕ
 channel_start s raw c = s.channels + sum_by (λ d. values_place s raw d (block_count s)) (range_with_len 0 c)
 
 unfoldable pub seg_bytes : SegSizes → Bytes → Bytes
-seg_bytes s raw = flat_map (λ c. bytes_of 4 (channel_start s raw c)) (range_with_len 0 s.channels) ++ flat_map (channel_bytes s raw) (range_with_len 0 s.channels)
+seg_bytes s raw = flat_map (λ c. bytes_of 4 (channel_start s raw c)) (range_with_len 0 s.channels)
+    ++ flat_map (channel_bytes s raw) (range_with_len 0 s.channels)

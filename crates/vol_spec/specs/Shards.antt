@@ -24,11 +24,13 @@ joint chunks = sum_by (λ (c : Chunk). length c.bytes) chunks
 
 -- what the minishards below take: the lengths of their chunks, and a row of 24 bytes for each
 abbrev pub before : List Chunk → ℕ → ℕ
-before chunks m = sum_by (λ (c : Chunk). length c.bytes + 24) (filter (λ (c : Chunk). nat_lt c.minishard m) chunks)
+before chunks m = sum_by (λ (c : Chunk). length c.bytes + 24)
+    (filter (λ (c : Chunk). nat_lt c.minishard m) chunks)
 
 -- A chunk starts behind them and behind the chunks of its minishard with lower ids, counted from the end of the entries.
 abbrev pub start_of : List Chunk → Chunk → ℕ
-start_of chunks c = before chunks c.minishard + joint (filter (λ (d : Chunk). nat_lt d.id c.id) (of chunks c.minishard))
+start_of chunks c = before chunks c.minishard + joint
+    (filter (λ (d : Chunk). nat_lt d.id c.id) (of chunks c.minishard))
 
 abbrev pub row_of : List Chunk → Chunk → Row
 row_of chunks c = record { id = c.id; start = start_of chunks c; size = length c.bytes }

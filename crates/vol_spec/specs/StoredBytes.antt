@@ -1,4 +1,5 @@
--- Where objects have the chunk of a cell, apart from what its bytes say.
+-- Where objects have the chunk of a cell, apart from what its bytes say (precomputed volume format, chunk
+-- storage and sharded format).
 use Rattle.std.specs.Prelude.{◌+◌, take, Option, Some, None, Result, Ok, Err}
 use Rattle.std.specs.FinMap as fin
 use Rattle.vol_base.specs.Outside.{Objects, part}
@@ -30,7 +31,8 @@ spanned object (Err fault) = Err fault
 -- what an object of its own has of a cell is its front, one byte more than a chunk has at most; a shard has the chunk where it is found
 abbrev pub held_by : Option Sharding → Scale → Cell → Bytes → Result (Option Bytes) Fault
 held_by None s cell object = Ok (Some (take (cell_limit s cell + 1) object))
-held_by (Some sharding) s cell object = spanned object (found object sharding (cell_limit s cell) (id_of s cell))
+held_by (Some sharding) s cell object = spanned object
+    (found object sharding (cell_limit s cell) (id_of s cell))
 
 abbrev pub held : Scale → Cell → Option Bytes → Result (Option Bytes) Fault
 held s cell None = Ok None

@@ -15,7 +15,8 @@ use Rattle.vol_spec.specs.declared.scale.Scale.{Scale}
 
 -- the number of a cell in the grid: x fastest, then y, then z
 abbrev pub cell_number : Scale → Cell → ℕ
-cell_number s cell = slice_index cell 0 + cells_on s 0 * (slice_index cell 1 + cells_on s 1 * slice_index cell 2)
+cell_number s cell = slice_index cell 0 + cells_on s 0 * (slice_index cell 1
+    + cells_on s 1 * slice_index cell 2)
 
 -- distinct cells of the grid, in its order
 pub record AreInOrder (s : Scale) (cells : List Cell) : Type 0 where
@@ -36,7 +37,8 @@ met_cells s writes = filter (met s writes) (numbers_on (cells_on s))
 
 -- a value for each voxel and channel of a box, as the bytes of a raw chunk with so many bytes a value
 abbrev pub raw_bytes : Box3 → ℕ → ℕ → (Position → ℕ → ℕ) → Bytes
-raw_bytes b channels w f = flat_map (λ n. bytes_of w (f (position_of b n) (channel_of b n))) (range_with_len 0 (voxels b * channels))
+raw_bytes b channels w f = flat_map (λ n. bytes_of w (f (position_of b n) (channel_of b n)))
+    (range_with_len 0 (voxels b * channels))
 
 -- the bytes of a cell's values after writes, over what was there
 unfoldable pub written_raw : Scale → Before → Writes → Cell → Bytes

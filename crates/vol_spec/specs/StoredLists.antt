@@ -1,5 +1,6 @@
--- What chunks are stored as, in every form of scale. Chunks are cells with the bytes of their values, in the order of the grid: x fastest,
--- then y, then z.
+-- What chunks are stored as, in every form of scale (precomputed volume format, chunk storage and sharded
+-- format). Chunks are cells with the bytes of their values. In which order objects are put is this project's
+-- profile: that of the grid, x fastest, then y, then z, or of the shards' numbers.
 use Rattle.std.specs.Prelude.{◌≡◌, ◌^◌, List, [], ◌∷◌, map, slice_index, AllPairs, All, Option, Some, None}
 use Rattle.std.specs.Cmp.Lexicographic.{slice_cmp}
 use Rattle.std.specs.List.{range_with_len}
@@ -28,7 +29,8 @@ pub record AreJobs (s : Scale) (cells : List Cell) : Type 0 where
 
 -- cells in the order of their keys
 unfoldable pub in_key_order : Scale → List Cell → List Cell
-in_key_order s cells = map (λ (entry : Key × Cell). entry.1) (in_order (map (λ cell. (cell_key s cell, cell)) cells))
+in_key_order s cells = map (λ (entry : Key × Cell). entry.1)
+    (in_order (map (λ cell. (cell_key s cell, cell)) cells))
 
 -- chunks with their bytes as they are stored
 abbrev pub encoded_chunks : Scale → Chunks → Chunks
@@ -37,7 +39,8 @@ encoded_chunks s chunks = map (λ chunk. (chunk.0, encoded s chunk.0 chunk.1)) c
 -- an object for each chunk, or one for each shard that has a chunk
 abbrev pub listed_by : Option Sharding → Name → Scale → Chunks → Listed
 listed_by None dataset s chunks = object_list dataset s chunks
-listed_by (Some sharding) dataset s chunks = objects_in dataset s sharding (placed s sharding chunks) (range_with_len 0 (2 ^ sharding.shard_bits))
+listed_by (Some sharding) dataset s chunks = objects_in dataset s sharding (placed s sharding chunks)
+    (range_with_len 0 (2 ^ sharding.shard_bits))
 
 -- the objects that chunks are stored as, in the order in which they are put: by the cells' keys
 unfoldable pub stored_list : Name → Scale → Chunks → Listed

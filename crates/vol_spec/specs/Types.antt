@@ -1,4 +1,4 @@
--- What stands in the lists and pairs of the definitions.
+-- What stands in the lists and pairs of the definitions (this project's names).
 use Rattle.std.specs.Prelude.{ℕ, ℤ, List}
 use Rattle.vol_base.specs.declared.boxes.Box3.{Box3}
 

@@ -36,25 +36,29 @@ belongs sharding shard m id = (shard_of sharding id == shard) && (minishard_of s
 
 -- what is wrong with a row of the index of a shard and minishard
 abbrev pub row_wrong : Sharding → ℕ → ℕ → Result Row IndexFault → Option Wrong
-row_wrong sharding shard m (Ok row) = if belongs sharding shard m row.id then None else Some (Misplaced shard m row.id)
+row_wrong sharding shard m (Ok row) = if belongs sharding shard m row.id then None
+    else Some (Misplaced shard m row.id)
 row_wrong sharding shard m (Err fault) = Some (Damaged (Index fault))
 
 -- with the way to an index and its rows, from the first on
 abbrev pub rows_wrong : Bytes → Sharding → ℕ → ℕ → Result ℕ ShardFault → Option Wrong
 rows_wrong object sharding shard m (Ok rows) =
-    first_some (map (λ r. row_wrong sharding shard m (judged_row (columns_of (index_in object sharding m rows)) r)) (range_with_len 0 rows))
+    first_some (map (λ r. row_wrong sharding shard m
+    (judged_row (columns_of (index_in object sharding m rows)) r)) (range_with_len 0 rows))
 rows_wrong object sharding shard m (Err fault) = Some (Damaged (Shard fault))
 
 -- with the index that has the chunk of an id, in the object of its shard
 abbrev pub index_wrong : Option Sharding → ℕ → Option Bytes → Option Wrong
 index_wrong None id object = None
 index_wrong (Some sharding) id None = None
-index_wrong (Some sharding) id (Some object) = let m = minishard_of sharding id in rows_wrong object sharding (shard_of sharding id) m (rows_in object sharding m)
+index_wrong (Some sharding) id (Some object) = let m = minishard_of sharding id in
+    rows_wrong object sharding (shard_of sharding id) m (rows_in object sharding m)
 
 -- the first that is wrong with a cell: with its index, then with its chunk
 unfoldable pub judge : Objects → Name → Scale → Cell → Option Wrong
 judge objects dataset s cell =
-    first_some (index_wrong s.sharding (id_of s cell) (fin.get objects (object_of dataset s cell)) ∷ damage (fault_in objects dataset s cell) ∷ [])
+    first_some (index_wrong s.sharding (id_of s cell) (fin.get objects (object_of dataset s cell))
+    ∷ damage (fault_in objects dataset s cell) ∷ [])
 
 -- nothing is wrong with the cells that meet a box
 abbrev pub Sound : Objects → Name → Scale → Box3 → Type 0

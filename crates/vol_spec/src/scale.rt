@@ -9,7 +9,7 @@ use vol_base::Name;
 
 /// One scale of a volume (precomputed volume format, info metadata). Sizes and offsets are counted
 /// in voxels, x first; `width` is the bytes of one value.
-#[derive(Drop)]
+#[derive(Debug, Drop)]
 pub struct Scale {
     pub key: Name,
     pub width: u32,
@@ -78,7 +78,8 @@ impl Scale {
 
     /// How many bytes a chunk has at most.
     pub fn chunk_limit(&self) -> u64
-        ensures { result ≡ limit_of self.now.encoding self.now.width self.now.channels self.now.size self.now.chunk }
+        ensures { result
+            ≡ limit_of self.now.encoding self.now.width self.now.channels self.now.size self.now.chunk }
     {
         match self.encoding {
             Encoding::Raw => self.raw_limit(),
@@ -89,7 +90,8 @@ impl Scale {
     /// Whether chunks of the scale can be encoded: always but for a segmentation of more than 2^22
     /// padded voxels times channels.
     pub fn can_encode(&self) -> bool
-        ensures { result ≡ nat_le (padded_of self.now.encoding self.now.channels self.now.size self.now.chunk) (2 ^ 22) }
+        ensures { result ≡ nat_le (padded_of self.now.encoding self.now.channels self.now.size self.now.chunk)
+            (2 ^ 22) }
     {
         self.padded() <= 1 << 22
     }

@@ -2,10 +2,9 @@
 use Rattle.std.proofs.Common.{◌≡◌, ◌≤◌, ℕ, ◌+◌, ◌^◌, Option, Some, None, Ok, IfSome, arith, ap, subst}
 use Rattle.vol_base.specs.declared.boxes.Box3.{Box3}
 use Rattle.vol_base.specs.Outside.{Objects}
-use Rattle.vol_spec.specs.Costs.{cost}
 use Rattle.vol_spec.specs.Types.{Name}
 use Rattle.vol_spec.specs.declared.scale.Scale.{Scale}
-use Rattle.vol_tool.specs.Cutouts.{AsksFor, cells_cost}
+use Rattle.vol_tool.specs.Cutouts.{AsksFor, cells_cost, parts_cost}
 use Rattle.vol_tool.specs.Scales.{stored_scale}
 
 -- nothing is asked for
@@ -20,9 +19,9 @@ asks_info (Some m) dataset key part old new h = omega (arith, h)
 
 -- and the cells
 pub asks_cells : (o same : Option Objects) (dataset key : Name) (s : Scale) (part : Box3) (old read new : ℕ) → same ≡ o → IfSome o (λ m. stored_scale m dataset key ≡ Ok s) → read ≤ old + (2 ^ 20 + 1)
-    → IfSome same (λ m. new ≤ read + cost m dataset s part) → IfSome o (λ m. AsksFor m dataset key part old new)
+    → IfSome same (λ m. new ≤ read + parts_cost m dataset s part) → IfSome o (λ m. AsksFor m dataset key part old new)
 asks_cells None same dataset key s part old read new e is h cells = tt
 asks_cells (Some m) same dataset key s part old read new e is h cells =
-    let more : new ≤ read + cost m dataset s part = subst (λ o. IfSome o (λ m. new ≤ read + cost m dataset s part)) e cells in
-    let costs : cells_cost (stored_scale m dataset key) m dataset part ≡ cost m dataset s part = ap (λ told. cells_cost told m dataset part) is in
+    let more : new ≤ read + parts_cost m dataset s part = subst (λ o. IfSome o (λ m. new ≤ read + parts_cost m dataset s part)) e cells in
+    let costs : cells_cost (stored_scale m dataset key) m dataset part ≡ parts_cost m dataset s part = ap (λ told. cells_cost told m dataset part) is in
     omega (arith, h, more, costs)

@@ -11,7 +11,7 @@ use Rattle.vol_spec.specs.Writable.{padded}
 use Rattle.vol_spec.specs.declared.scale.Scale.{Scale}
 use Rattle.shard_writer.specs.Writing.{joint_len}
 use Rattle.write_plan.specs.Plans.{pairs}
-use Rattle.vol_shell.specs.Effects.{Gains, GainsFront}
+use Rattle.vol_base.specs.Gains.{Gains, GainsFront}
 use Rattle.vol_shell.specs.Lines.{generated_line, large_line, stream_line, voxels_line}
 use Rattle.vol_tool.proofs.Choices.{err_and, ok_and}
 use Rattle.vol_tool.proofs.WriteSteps.{many_told, stored_front}

@@ -1,5 +1,7 @@
 -- What writing a list that a number makes answers.
-use Rattle.std.proofs.Common.{◌≡◌, ◌⊎◌, ◌∙◌, ℕ, ◌*◌, ◌/◌, ◌^◌, ◌<◌, length, Option, Some, None, IfSome, Result, Ok, Err, true, false, refl, sym, subst, ap, inl, inr, arith}
+use Rattle.std.proofs.Common.{◌≡◌, ◌⊎◌, ◌∙◌, ℕ, ◌*◌, ◌^◌, ◌<◌, ◌≤◌, [], length, Option, Some, None, IfSome, Result, Ok, Err, true, false, refl, sym, subst, ap, inl, inr, ⊎_elim, arith}
+use Rattle.std.proofs.lemmas.Bool.{cases_lt}
+use Rattle.std.proofs.lemmas.Grind.{not_there}
 use Rattle.std.specs.Prelude.{All}
 use Rattle.vol_base.specs.Boxes.{voxels}
 use Rattle.vol_base.specs.Bytes.{AreBytes}
@@ -7,26 +9,28 @@ use Rattle.vol_base.specs.Causes.{Rose}
 use Rattle.vol_base.specs.declared.boxes.Box3.{Box3}
 use Rattle.vol_base.specs.Outside.{any_under, Draft, Objects, OnlyReads}
 use Rattle.vol_spec.specs.CellNames.{folder_of}
-use Rattle.vol_spec.specs.Cut.{first_fault}
+use Rattle.vol_spec.specs.Cut.{cut, first_fault}
 use Rattle.vol_spec.specs.Grid.{Inside, whole}
 use Rattle.vol_spec.specs.LastWrite.{last, zeros}
+use Rattle.vol_spec.specs.Limits.{IsWidth}
 use Rattle.vol_spec.specs.Types.{Bytes, Name, Writes}
 use Rattle.vol_spec.specs.Writable.{IsWritable, padded}
 use Rattle.vol_spec.specs.declared.scale.Scale.{Scale}
-use Rattle.vol_spec.proofs.RawSteps.{last-lt, zeros_are}
+use Rattle.vol_spec.proofs.RawSteps.{last-lt, length-raw_bytes, zeros_are}
+use Rattle.vol_spec.proofs.Told.{from_told, in_told}
 use Rattle.chunk_laws.specs.Told.{ReadsBack}
 use Rattle.shard_writer.specs.declared.written.Written.{Written}
 use Rattle.write_plan.specs.declared.fault.PlanFault.{PlanFault}
 use Rattle.vol_tool.proofs.Choices.{ok_and, ok_is}
-use Rattle.vectors_vol.proofs.SizeSteps.{some_width}
-use Rattle.vol_tool.proofs.SumSteps.{sum_made, values_in}
+use Rattle.value_sums.proofs.SumSteps.{sum_made}
+use Rattle.vectors_vol.proofs.SizeSteps.{small_width}
 use Rattle.vol_tool.proofs.WriteSteps.{written_front}
-use Rattle.vol_tool.specs.Cutouts.{HasRead, IsUnread, JudgesPart}
-use Rattle.vol_tool.specs.Generating.{Generates, HasGenerated, IsRefusal, IsSmall, IsUnsummed, JudgesWhole, MayPut, Summarizes, SumsScale, whole_len}
+use Rattle.vol_tool.specs.Cutouts.{CutsScale, IsBroken, JudgesPart}
+use Rattle.vol_tool.specs.Generating.{Generates, HasGenerated, IsRefusal, IsSmall, IsUnsummed, JudgesWhole, MayPut, Summarizes, Sums, SumsScale}
 use Rattle.vol_tool.specs.Refusals.{cutout_status, generate_status, write_status, write_without}
 use Rattle.vol_tool.specs.Scales.{ReadsScale, stored_scale}
 use Rattle.vol_tool.specs.Storing.{AllReadBack, Counts, FrontPut, HasStored, IsReady, Judges, JudgesLimit, KeepsStore, puts, Listing, WritesScale}
-use Rattle.vol_tool.specs.Sums.{sum_in, sum_of}
+use Rattle.value_sums.specs.Sums.{sum_in, sum_of}
 use Rattle.vol_tool.specs.declared.generate.Summary.{Summary}
 use Rattle.vol_tool.specs.declared.refusal.CutoutRefusal.{CutoutRefusal}
 use Rattle.vol_tool.specs.declared.refusal.CutoutRefusal.TheVariants as uncut
@@ -43,6 +47,18 @@ use Rattle.vol_tool.specs.declared.status.Status.TheVariants.{StoreFault as Stor
 pub whole_inside : (s : Scale) → Inside s (whole s)
 whole_inside s = record { some = λ axis l. (s.size_ok axis l).0; within = λ p covered. covered }
 
+-- a width that is none of the others is the greatest
+no_less : (w : ℕ) → w < 8 → (w ≡ 1 → ⊥) → (w ≡ 2 → ⊥) → (w ≡ 4 → ⊥) → IsWidth w → ⊥
+no_less w less one two four (inl e) = one e
+no_less w less one two four (inr (inl e)) = two e
+no_less w less one two four (inr (inr (inl e))) = four e
+no_less w less one two four (inr (inr (inr e))) = absurd (omega (arith, less, e))
+
+pub widest : (w : ℕ) → ∥ IsWidth w ∥₁ → (w ≡ 1 → ⊥) → (w ≡ 2 → ⊥) → (w ≡ 4 → ⊥) → w ≡ 8
+widest w is one two four =
+    let most : w ≤ 8 = small_width w is in
+    ⊎_elim (λ less. absurd (not_there is (no_less w less one two four))) (λ not. omega (arith, most, not)) (cases_lt w 8)
+
 -- why all of a scale can't be cut out
 pub whole_refused : (refusal : CutoutRefusal) (s : Scale) → JudgesPart (Err refusal) s (whole s) → JudgesWhole (Err (Cutout refusal)) s
 whole_refused (uncut.TooLarge bytes) s judged = judged
@@ -53,49 +69,53 @@ whole_refused uncut.StoreFault s judged = absurd judged
 whole_refused uncut.OutFault s judged = absurd judged
 whole_refused uncut.NoMemory s judged = absurd judged
 
--- what was read of a whole scale, summed
-pub sums_read : (sum : ℕ) (o : Option Objects) (dataset : Name) (s t : Scale) (b : Box3) (out : Bytes) → t ≡ s → b ≡ whole s → length out ≡ whole_len s
-    → IfSome o (λ m. HasRead (Ok tt) m dataset t b out) → sum ≡ sum_in s.width (length out / s.width) out → IfSome o (λ m. SumsScale (Ok sum) m dataset s)
-sums_read sum None dataset s t b out same whole_is len read is = tt
-sums_read sum (Some m) dataset s t b out same whole_is len read is =
-    let all : HasRead (Ok tt) m dataset s (whole s) out = subst (λ x. HasRead (Ok tt) m dataset s x out) whole_is (subst (λ x. HasRead (Ok tt) m dataset x b out) same read) in (
-      all.0,
-      is ∙ ap (λ n. sum_in s.width n out) (values_in (voxels (whole s) * s.channels) s.width (length out) (some_width s.width s.width_ok) len)
-          ∙ ap (sum_in s.width (voxels (whole s) * s.channels)) all.1,
-    )
-
-unread_sums : (refusal : CutoutRefusal) (m : Objects) (dataset : Name) (s : Scale) (out : Bytes) → HasRead (Err refusal) m dataset s (whole s) out → SumsScale (Err refusal) m dataset s
-unread_sums (uncut.Damaged cell fault) m dataset s out read = read
-unread_sums (uncut.NoScale why) m dataset s out read = tt
-unread_sums (uncut.Outside told all) m dataset s out read = tt
-unread_sums (uncut.TooLarge bytes) m dataset s out read = tt
-unread_sums uncut.StoreFault m dataset s out read = tt
-unread_sums uncut.OutFault m dataset s out read = tt
-unread_sums uncut.NoMemory m dataset s out read = tt
-
-pub unread_told : (refusal : CutoutRefusal) (o : Option Objects) (dataset : Name) (s t : Scale) (b : Box3) (out : Bytes) → t ≡ s → b ≡ whole s
-    → IfSome o (λ m. HasRead (Err refusal) m dataset t b out) → IfSome o (λ m. SumsScale (Err refusal) m dataset s)
-unread_told refusal None dataset s t b out same whole_is read = tt
-unread_told refusal (Some m) dataset s t b out same whole_is read =
-    unread_sums refusal m dataset s out (subst (λ x. HasRead (Err refusal) m dataset s x out) whole_is (subst (λ x. HasRead (Err refusal) m dataset x b out) same read))
-
-pub unread_unsummed : (refusal : CutoutRefusal) → IsUnread refusal → IsUnsummed refusal
-unread_unsummed uncut.StoreFault unread = tt
-unread_unsummed (uncut.Damaged cell fault) unread = tt
-unread_unsummed uncut.NoMemory unread = tt
-unread_unsummed (uncut.NoScale why) unread = unread
-unread_unsummed (uncut.Outside told all) unread = unread
-unread_unsummed (uncut.TooLarge bytes) unread = unread
-unread_unsummed uncut.OutFault unread = unread
-
 -- a count of faults that stays 0 didn't rise
 pub never_rose : Rose 0 0 → ⊥
 never_rose rose = omega arith
 
+some_is : (x y : Bytes) → Some x ≡ Some y → x ≡ y
+some_is x y e = cc e
+
+-- what was streamed of a whole scale, summed
+sums_streamed : (sum : ℕ) (m : Objects) (dataset : Name) (s : Scale) (bytes : Bytes) → CutsScale (Ok tt) m dataset s (whole s) (Some []) (Some bytes) → Sums s.width bytes sum → SumsScale (Ok sum) m dataset s
+sums_streamed sum m dataset s bytes cuts sums = (cuts.0.1, subst (λ xs. Sums s.width xs sum) (some_is bytes _ cuts.1) sums)
+
+pub sums_told : (sum : ℕ) (o : Option Objects) (dataset : Name) (s t : Scale) (b : Box3) (bytes : Bytes) (old : Option Bytes) → t ≡ s → b ≡ whole s → old ≡ Some []
+    → IfSome o (λ m. CutsScale (Ok tt) m dataset t b old (Some bytes)) → Sums s.width bytes sum → IfSome o (λ m. SumsScale (Ok sum) m dataset s)
+sums_told sum o dataset s t b bytes old same whole_is new cuts sums =
+    in_told o _ (λ m told.
+    sums_streamed sum m dataset s bytes (subst (λ x. CutsScale (Ok tt) m dataset s (whole s) x (Some bytes)) new (subst (λ x. CutsScale (Ok tt) m dataset s x old (Some bytes)) whole_is (subst (λ x. CutsScale (Ok tt) m dataset x b old (Some bytes)) same (from_told o _ m told cuts)))) sums)
+
+broken_sums : (refusal : CutoutRefusal) (m : Objects) (dataset : Name) (s : Scale) (old new : Option Bytes) → CutsScale (Err refusal) m dataset s (whole s) old new → SumsScale (Err refusal) m dataset s
+broken_sums (uncut.Damaged cell fault) m dataset s old new cuts = cuts.1
+broken_sums (uncut.NoScale why) m dataset s old new cuts = tt
+broken_sums (uncut.Outside told all) m dataset s old new cuts = tt
+broken_sums (uncut.TooLarge bytes) m dataset s old new cuts = tt
+broken_sums uncut.StoreFault m dataset s old new cuts = tt
+broken_sums uncut.OutFault m dataset s old new cuts = tt
+broken_sums uncut.NoMemory m dataset s old new cuts = tt
+
+pub broken_told : (refusal : CutoutRefusal) (o : Option Objects) (dataset : Name) (s t : Scale) (b : Box3) (old new : Option Bytes) → t ≡ s → b ≡ whole s
+    → IfSome o (λ m. CutsScale (Err refusal) m dataset t b old new) → IfSome o (λ m. SumsScale (Err refusal) m dataset s)
+broken_told refusal o dataset s t b old new same whole_is cuts =
+    in_told o _ (λ m told.
+    broken_sums refusal m dataset s old new (subst (λ x. CutsScale (Err refusal) m dataset s x old new) whole_is (subst (λ x. CutsScale (Err refusal) m dataset x b old new) same (from_told o _ m told cuts))))
+
+-- an outlet that never fails breaks nothing off
+pub broken_unsummed : (refusal : CutoutRefusal) → IsBroken refusal → (refusal ≡ uncut.OutFault → ⊥) → IsUnsummed refusal
+broken_unsummed uncut.StoreFault comes never = tt
+broken_unsummed (uncut.Damaged cell fault) comes never = tt
+broken_unsummed uncut.NoMemory comes never = tt
+broken_unsummed (uncut.NoScale why) comes never = absurd comes
+broken_unsummed (uncut.Outside told all) comes never = absurd comes
+broken_unsummed (uncut.TooLarge bytes) comes never = absurd comes
+broken_unsummed uncut.OutFault comes never = absurd (never refl)
+
 -- the sum of what reads back is the sum of the last writes
 sum_is : (sum : ℕ) (now : Objects) (dataset : Name) (s : Scale) (writes : Writes) → All (λ write. AreBytes write.1) writes → ReadsBack now dataset s writes (whole s) → SumsScale (Ok sum) now dataset s → sum ≡ sum_of s writes
 sum_is sum now dataset s writes small back sums =
-    sums.1 ∙ ap (sum_in s.width (voxels (whole s) * s.channels)) back.values
+    let len : length (cut now dataset s (whole s)) ≡ voxels (whole s) * s.channels * s.width = ap length back.values ∙ length-raw_bytes (whole s) s.channels s.width (last s.width zeros writes) in
+    sums.1 (voxels (whole s) * s.channels) len ∙ ap (sum_in s.width (voxels (whole s) * s.channels)) back.values
     ∙ sum_made (whole s) s.channels s.width (last s.width zeros writes) (λ p c. last-lt s.width zeros (zeros_are s.width) writes p c small)
 
 summed : (written : Written) (sum : ℕ) (m : Objects) (now : Option Objects) (list : Result Writes PlanFault) (dataset key : Name) (s : Scale) → IsSmall s → WritesScale (Ok written) m now list dataset key s

@@ -1,6 +1,7 @@
 pub mod AnswerSteps
 pub mod AskSteps
 pub mod Choices
+pub mod CopySteps
 pub mod CutoutSteps
 pub mod DrawnSteps
 pub mod GenerateSteps
@@ -11,6 +12,5 @@ pub mod ReportSteps
 pub mod ReshardSteps
 pub mod ServeSteps
 pub mod StreamSteps
-pub mod SumSteps
 pub mod VerifySteps
 pub mod WriteSteps

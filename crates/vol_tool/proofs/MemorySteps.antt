@@ -6,7 +6,8 @@ use Rattle.vol_shell.specs.Lines.{memory_line}
 use Rattle.vol_spec.proofs.Told.{in_told}
 use Rattle.vol_spec.specs.Types.{Bytes}
 use Rattle.vol_tool.proofs.AskSteps.{asks_none}
-use Rattle.vol_tool.proofs.Choices.{no_front, nothing_behind}
+use Rattle.vol_tool.proofs.Choices.{nothing_behind}
+use Rattle.vol_tool.proofs.ReshardSteps.{draft_kept}
 use Rattle.vol_tool.specs.Cutouts.{cells_cost}
 use Rattle.vol_tool.specs.Scales.{stored_scale}
 use Rattle.vol_tool.specs.Runs.{Answers, Causes, Headline, IsCaused, Keeps, Leaves, Succeeds}
@@ -20,7 +21,7 @@ said_only before err count = record before { err = err; faults = record before.f
 
 pub memory_answers : (command : Option Command) (before : Seen) (err : Option Bytes) (count : ℕ) → Answers command NoMemory before (said_only before err count)
 memory_answers None before err count = inr refl
-memory_answers (Some (Cutout dataset key part)) before err count = in_told before.objects _ (λ m told. no_front before.out before.out _ refl)
+memory_answers (Some (Cutout dataset key part)) before err count = in_told before.objects _ (λ m told. inl refl)
 memory_answers (Some (Write dataset key workers)) before err count = in_told before.objects _ (λ m told. (tt, in_told before.left _ (λ bytes fed. (tt, inl told))))
 memory_answers (Some (Generate dataset key number writes workers)) before err count = in_told before.objects _ (λ m told. inl told)
 memory_answers (Some (Verify dataset key part)) before err count = in_told before.objects _ (λ m told. tt)
@@ -43,7 +44,7 @@ memory_headline (Some (Cutout dataset key part)) before err count = tt
 memory_headline (Some (Write dataset key workers)) before err count = λ done. absurd (cc done)
 memory_headline (Some (Generate dataset key number writes workers)) before err count = λ done. absurd (cc done)
 memory_headline (Some (Verify dataset key part)) before err count = tt
-memory_headline (Some (Reshard dataset key to_dataset to_key workers)) before err count = tt
+memory_headline (Some (Reshard dataset key to_dataset to_key workers)) before err count = λ done. absurd (cc done)
 memory_headline (Some (Serve dataset port connections)) before err count = tt
 
 pub memory_leaves : (command : Option Command) (before : Seen) (err : Option Bytes) (count : ℕ) → before.door.bound ≡ None → Tells (outlets before (said_only before err count)) memory_line → Leaves command NoMemory before (said_only before err count)
@@ -65,7 +66,8 @@ memory_keeps (Some (Cutout dataset key part)) before err count =
 memory_keeps (Some (Write dataset key workers)) before err count = (inr refl, λ no. reads before err count, λ done. absurd (cc done), λ refused. refl, refl)
 memory_keeps (Some (Generate dataset key number writes workers)) before err count = (inr refl, λ no. reads before err count, refl, refl)
 memory_keeps (Some (Verify dataset key part)) before err count = (reads before err count, refl, refl)
-memory_keeps (Some (Reshard dataset key to_dataset to_key workers)) before err count = (λ done. absurd (cc done), λ no. reads before err count, refl, refl)
+memory_keeps (Some (Reshard dataset key to_dataset to_key workers)) before err count =
+    (λ done. absurd (cc done), λ out. absurd (cc out), in_told before.objects _ (λ m told. draft_kept (stored_scale m to_dataset to_key) before.draft before.draft refl), λ no. reads before err count, refl, refl)
 memory_keeps (Some (Serve dataset port connections)) before err count = (reads before err count, refl, (0, omega arith, omega arith), in_told before.out _ (λ bytes gained same. refl))
 
 caused : (before : Faults) (count : ℕ) → before.err ≤ count → IsCaused NoMemory before (record before { err = count })

@@ -2,24 +2,27 @@
 use Rattle.std.proofs.Common.{◌≡◌, ◌⊎◌, ◌∙◌, ◌^◌, ◌<◌, length, Option, Some, None, IfSome, Result, Ok, Err, false, refl, sym, subst, ap, inl, inr, ⊎_elim, arith}
 use Rattle.std.specs.Prelude.{IsOkAnd}
 use Rattle.vol_base.specs.Outside.{Draft, Objects, OnlyReads}
-use Rattle.vol_spec.specs.Copies.{AreOfOneVolume}
+use Rattle.vol_spec.specs.Copies.{AreOfOneVolume, copy}
 use Rattle.vol_spec.specs.Types.{Bytes, Name}
 use Rattle.vol_spec.specs.Writable.{IsWritable, padded}
 use Rattle.vol_spec.specs.declared.scale.Scale.{Scale}
 use Rattle.chunk_laws.specs.Told.{HasNoFault}
 use Rattle.info_doc.specs.declared.fault.Item.{Item}
 use Rattle.info_doc.specs.declared.fault.Item.TheVariants.{Root, AtType, VolumeType, DataType, NumChannels, Scales, Size, VoxelOffset, ChunkSizes, Resolution, Encoding, BlockSize, Sharding, ShardingType, PreshiftBits, Hash, MinishardBits, ShardBits, MinishardIndexEncoding, DataEncoding, ChunkBytes, MortonBits, Padded}
+use Rattle.shard_writer.specs.Writing.{Drops}
 use Rattle.shard_writer.specs.declared.written.Written.{Written}
 use Rattle.reshard_cmd.specs.Judging.{DiffersFirst, Judges, too_many}
 use Rattle.reshard_cmd.specs.Resharding.{copy_fault, copy_list, KeepsStore, Reshards}
 use Rattle.reshard_cmd.specs.declared.fault.ReshardFault.{ReshardFault}
 use Rattle.reshard_cmd.specs.declared.fault.ReshardFault.TheVariants as fault
-use Rattle.vol_shell.specs.Effects.{Gains, GainsFront}
+use Rattle.vol_base.specs.Gains.{Gains, GainsFront}
 use Rattle.vol_shell.specs.Lines.{cells_line, damaged_line, voxels_line, written_line}
+use Rattle.reshard_cmd.proofs.CopyingSteps.{front_whole}
 use Rattle.vol_tool.proofs.Choices.{err_and, ok_and, some_and}
+use Rattle.vol_tool.proofs.CopySteps.{all_read, scales_kept}
 use Rattle.vol_tool.proofs.WriteSteps.{front_all}
 use Rattle.vol_tool.specs.Refusals.{reshard_line, reshard_status, reshard_without, write_line, write_status}
-use Rattle.vol_tool.specs.Resharding.{CanReshard, CopiesScale, CopiesStored, copy_line, CopyFront, CountsCopy, IsReadyCopy, MeetsDamage, named_in, OfBoth, ReadsTarget, RefusesCopy, ReshardLeaves, ReshardShows, StoresCopy, unmade}
+use Rattle.vol_tool.specs.Resharding.{AllReadAsSource, CanReshard, CopiedBack, CopiesScale, CopiesStored, copy_line, CopyFront, CountsCopy, DropsUnsharded, IsReadyCopy, MeetsDamage, named_in, OfBoth, ReadsTarget, RefusesCopy, ReshardLeaves, ReshardShows, StoresCopy, unmade}
 use Rattle.vol_tool.specs.Scales.{ReadsScale, stored_scale}
 use Rattle.vol_tool.specs.Seen.{Outlets, Silent, Tells}
 use Rattle.vol_tool.specs.Statuses.{fixed_line, Reports}
@@ -56,7 +59,14 @@ pub made_copy : (o now : Option Objects) (from_dataset to_dataset : Name) (from 
     → IfSome o (λ m. Reshards (Ok written) m now from_dataset from to_dataset to) → IfSome o (λ m. CopiesScale (Ok written) m now from_dataset from to_dataset to)
 made_copy None now from_dataset to_dataset from to written few judges h = tt
 made_copy (Some m) now from_dataset to_dataset from to written few judges h = (
-  record { ready = (judges.0, judges.1, (few, h.0)); put = h.1.put; source = h.1.source; values = h.1.values; target = h.1.target },
+  record {
+    ready = (judges.0, judges.1, (few, h.0));
+    put = h.1.put;
+    scales = scales_kept m to_dataset to (copy m from_dataset from to) h.0;
+    source = h.1.source;
+    values = h.1.values;
+    target = h.1.target;
+  },
   record { objects = h.1.objects; cells = h.1.cells },
 )
 
@@ -134,6 +144,26 @@ unsourced refusal found None now from_dataset from_key to_dataset to_key is kept
 unsourced refusal found (Some m) now from_dataset from_key to_dataset to_key is kept reads =
     subst (λ r. CopiesStored (Err r) (stored_scale m from_dataset from_key) (stored_scale m to_dataset to_key) m now from_dataset to_dataset) (sym is)
     (no_source refusal (stored_scale m from_dataset from_key) (stored_scale m to_dataset to_key) m now from_dataset to_dataset kept reads)
+
+-- what is left of an object that was being written, where the target isn't sharded
+pub draft_kept : (told : Result Scale NoScaleType) (before after : Option Draft) → after ≡ before → DropsUnsharded told before after
+draft_kept (Ok to) before after kept = λ none. inr kept
+draft_kept (Err why) before after kept = tt
+
+pub target_kept : (o : Option Objects) (dataset key : Name) (before after : Option Draft) → after ≡ before → IfSome o (λ m. DropsUnsharded (stored_scale m dataset key) before after)
+target_kept None dataset key before after kept = tt
+target_kept (Some m) dataset key before after kept = draft_kept (stored_scale m dataset key) before after kept
+
+pub target_drops : (o : Option Objects) (dataset key : Name) (to : Scale) (before read after : Option Draft) → read ≡ before → IfSome o (λ m. ReadsTarget (Ok to) (stored_scale m dataset key))
+    → (to.sharding ≡ None → Drops read after) → IfSome o (λ m. DropsUnsharded (stored_scale m dataset key) before after)
+target_drops None dataset key to before read after kept reads drops = tt
+target_drops (Some m) dataset key to before read after kept reads drops =
+    subst (λ told. DropsUnsharded told before after) (sym reads.0) (λ none. subst (λ d. Drops d after) kept (drops none))
+
+pub source_drops : (o same : Option Objects) (dataset key : Name) (before read after : Option Draft) → same ≡ o → read ≡ before → IfSome same (λ m. DropsUnsharded (stored_scale m dataset key) read after)
+    → IfSome o (λ m. DropsUnsharded (stored_scale m dataset key) before after)
+source_drops o same dataset key before read after objects kept drops =
+    subst (λ d. IfSome o (λ m. DropsUnsharded (stored_scale m dataset key) d after)) kept (subst (λ x. IfSome x (λ m. DropsUnsharded (stored_scale m dataset key) read after)) objects drops)
 
 -- of both scales
 both_and : (source target : Result Scale NoScaleType) (P Q : Scale → Scale → Type 0) → ((from to : Scale) → P from to → Q from to) → OfBoth source target P → OfBoth source target Q
@@ -214,7 +244,7 @@ module _ (m : Objects) (now : Option Objects) (from_dataset from_key to_dataset 
       → OfBoth (stored_scale m from_dataset from_key) (stored_scale m to_dataset to_key) (λ from to. CopyFront m now from_dataset from to_dataset to)
   fronts written copies =
       both_and (stored_scale m from_dataset from_key) (stored_scale m to_dataset to_key) (λ from to. CopiesScale (Ok written) m now from_dataset from to_dataset to) (λ from to. CopyFront m now from_dataset from to_dataset to)
-      (λ from to h. (h.0.ready, front_all m now (copy_list m from_dataset from to_dataset to) h.0.put)) copies
+      (λ from to h. (h.0.ready, front_whole m now from_dataset from to_dataset to (front_all m now (copy_list m from_dataset from to_dataset to) h.0.put) h.0.source)) copies
 
   unprinted : (refusal : WriteRefusal) (status : Status) (written : Written) → CopiesStored (Ok written) (stored_scale m from_dataset from_key) (stored_scale m to_dataset to_key) m now from_dataset to_dataset
       → Prints (Err refusal) o.out_old o.out_new (written_line written.objects written.cells) → Reports (write_status refusal) (write_line from_dataset refusal) status (Tells o)
@@ -240,6 +270,15 @@ pub copy_printed : (written : Written) (told now : Option Objects) (from_dataset
 copy_printed written None now from_dataset from_key to_dataset to_key o copies prints = tt
 copy_printed written (Some m) now from_dataset from_key to_dataset to_key o copies prints =
     stores m now from_dataset from_key to_dataset to_key o (Gains o.out_old o.out_new) written copies prints
+
+-- after a copy each box reads as the source
+pub copied_back : (written : Written) (told now : Option Objects) (from_dataset from_key to_dataset to_key : Name)
+    → IfSome told (λ m. CopiesStored (Ok written) (stored_scale m from_dataset from_key) (stored_scale m to_dataset to_key) m now from_dataset to_dataset)
+    → IfSome told (λ m. CopiedBack m now from_dataset from_key to_dataset to_key)
+copied_back written None now from_dataset from_key to_dataset to_key copies = tt
+copied_back written (Some m) now from_dataset from_key to_dataset to_key copies =
+    both_and (stored_scale m from_dataset from_key) (stored_scale m to_dataset to_key) (λ from to. CopiesScale (Ok written) m now from_dataset from to_dataset to) (λ from to. AllReadAsSource m now from_dataset from to_dataset to)
+    (λ from to h. all_read m now from_dataset to_dataset from to h.0) copies
 
 pub copy_unprinted : (refusal : WriteRefusal) (status : Status) (written : Written) (told now : Option Objects) (from_dataset from_key to_dataset to_key : Name) (o : Outlets)
     → IfSome told (λ m. CopiesStored (Ok written) (stored_scale m from_dataset from_key) (stored_scale m to_dataset to_key) m now from_dataset to_dataset)

@@ -8,7 +8,7 @@ use Rattle.range_server.specs.declared.fault.DoorRefusal.TheVariants as refusal
 use Rattle.vol_spec.proofs.Told.{in_told}
 use Rattle.std.specs.Fmt.{decimal}
 use Rattle.vol_base.specs.FaultTexts.{texts}
-use Rattle.vol_shell.specs.Effects.{Gains}
+use Rattle.vol_base.specs.Gains.{Gains}
 use Rattle.vol_shell.specs.Lines.{line_feed, listening_line}
 use Rattle.vol_spec.specs.Types.{Bytes, Name}
 use Rattle.vol_tool.specs.Seen.{Doorway, Ends, Outlets, Tells}

@@ -12,7 +12,7 @@ use Rattle.verify_cmd.specs.Verifying.{CanJudge, first_wrong, IsReport, IsTooMan
 use Rattle.verify_cmd.specs.declared.fault.VerifyFault.{VerifyFault}
 use Rattle.verify_cmd.specs.declared.fault.VerifyFault.TheVariants as fault
 use Rattle.verify_cmd.specs.declared.report.Report.{Report}
-use Rattle.vol_shell.specs.Effects.{Gains, GainsFront}
+use Rattle.vol_base.specs.Gains.{Gains, GainsFront}
 use Rattle.vol_shell.specs.Lines.{cells_line, outside_line, verified_line}
 use Rattle.vol_tool.proofs.Choices.{err_and, ok_and, some_and}
 use Rattle.vol_tool.proofs.GenerateSteps.{whole_inside}

@@ -14,7 +14,7 @@ use Rattle.shard_writer.specs.declared.written.Written.{Written}
 use Rattle.write_plan.specs.Plans.{pairs}
 use Rattle.write_plan.specs.Stream.{writes_of}
 use Rattle.write_plan.specs.declared.fault.PlanFault.{PlanFault}
-use Rattle.vol_shell.specs.Effects.{Gains, GainsFront}
+use Rattle.vol_base.specs.Gains.{Gains, GainsFront}
 use Rattle.vol_shell.specs.Lines.{cells_line, folder_line, stream_line, voxels_line, written_line}
 use Rattle.vol_tool.proofs.Choices.{err_and, never, ok_and}
 use Rattle.vol_tool.specs.Refusals.{write_line, write_status}

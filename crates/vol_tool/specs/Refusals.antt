@@ -1,4 +1,4 @@
--- The statuses and the lines of refusals.
+-- The statuses and the lines of refusals (this project's).
 use Rattle.std.specs.Prelude.{codes}
 use Rattle.info_doc.specs.Texts.{fault_text as info_fault_text, item_text}
 use Rattle.info_doc.specs.declared.fault.InfoFault.{InfoFault}

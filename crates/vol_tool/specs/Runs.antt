@@ -1,4 +1,4 @@
--- What a call of the program means: six facts, each by an equation for every command.
+-- What a call of the program means (this project's): six facts, each by an equation for every command.
 use Rattle.std.specs.Prelude.{◌≡◌, ◌⊎◌, false, [], Option, None, Some, IfSome}
 use Rattle.std.specs.Option.{option_map}
 use Rattle.vol_base.specs.Causes.{Rose}
@@ -9,7 +9,8 @@ use Rattle.write_plan.specs.Stream.{writes_of}
 use Rattle.vol_shell.specs.Lines.{memory_line, usage_line}
 use Rattle.vol_tool.specs.Cutouts.{AsksFor, CanCut, CutoutLeaves, CutoutShows}
 use Rattle.vol_tool.specs.Generating.{CanGenerate, drawn, GenerateLeaves, GenerateShows}
-use Rattle.vol_tool.specs.Resharding.{CanReshard, ReshardLeaves, ReshardShows}
+use Rattle.vol_tool.specs.Resharding.{CanReshard, CopiedBack, DropsUnsharded, ReshardLeaves, ReshardShows}
+use Rattle.vol_tool.specs.Scales.{stored_scale}
 use Rattle.vol_tool.specs.Seen.{Faults, IsLater, LeavesStore, Outlets, outlets, Seen, Silent, Tells}
 use Rattle.vol_tool.specs.Servings.{AcceptsEnds, ServeLeaves, ServeShows, TellsFirst}
 use Rattle.vol_tool.specs.Storing.{CanWrite, puts, WriteJudges, WriteLeaves, WriteShows, WrittenBack}
@@ -24,15 +25,19 @@ Answers (Some (Cutout dataset key part)) status before after =
     IfSome before.objects (λ m. CutoutShows status m dataset key part (outlets before after))
 Answers (Some (Write dataset key workers)) status before after =
     IfSome before.objects (λ m. WriteJudges status m dataset key before.left after.left (outlets before after)
-    × IfSome before.left (λ bytes. WriteShows status m after.objects bytes after.left dataset key (outlets before after)))
+    × IfSome before.left (λ bytes. WriteShows status m after.objects bytes after.left dataset key
+    (outlets before after)))
 Answers (Some (Generate dataset key number count workers)) status before after =
-    IfSome before.objects (λ m. GenerateShows status m after.objects number count dataset key (outlets before after))
+    IfSome before.objects (λ m. GenerateShows status m after.objects number count dataset key
+    (outlets before after))
 Answers (Some (Verify dataset key part)) status before after =
     IfSome before.objects (λ m. VerifyShows status m dataset key part (outlets before after))
 Answers (Some (Reshard dataset key to_dataset to_key workers)) status before after =
-    IfSome before.objects (λ m. ReshardShows status m after.objects dataset key to_dataset to_key (outlets before after))
+    IfSome before.objects (λ m. ReshardShows status m after.objects dataset key to_dataset to_key
+    (outlets before after))
 Answers (Some (Serve dataset port connections)) status before after =
-    IfSome before.objects (λ m. ServeShows status m dataset before.door after.door before.faults.store after.faults.store)
+    IfSome before.objects (λ m. ServeShows status m dataset before.door after.door before.faults.store
+    after.faults.store)
 
 -- it succeeds, or wants memory
 abbrev pub EndsWell : Status → Type 0
@@ -43,34 +48,42 @@ abbrev pub Succeeds : Option Command → Status → Seen → Seen → Type 0
 Succeeds None status before after = Unit {0}
 Succeeds (Some (Cutout dataset key part)) status before after =
     IfSome before.objects (λ m. CanCut m dataset key part
-    → ¬ Rose before.faults.store after.faults.store → ¬ Rose before.faults.out after.faults.out → EndsWell status)
+    → ¬ Rose before.faults.store after.faults.store → ¬ Rose before.faults.out after.faults.out →
+    EndsWell status)
 Succeeds (Some (Write dataset key workers)) status before after =
     IfSome before.objects (λ m. IfSome before.left (λ bytes. CanWrite m (writes_of bytes) dataset key
     → ¬ Rose before.faults.store after.faults.store → ¬ Rose before.faults.feed after.faults.feed
     → ¬ Rose before.faults.out after.faults.out → EndsWell status))
 Succeeds (Some (Generate dataset key number count workers)) status before after =
     IfSome before.objects (λ m. CanGenerate m number count dataset key
-    → ¬ Rose before.faults.store after.faults.store → ¬ Rose before.faults.out after.faults.out → EndsWell status)
+    → ¬ Rose before.faults.store after.faults.store → ¬ Rose before.faults.out after.faults.out →
+    EndsWell status)
 Succeeds (Some (Verify dataset key part)) status before after =
     IfSome before.objects (λ m. CanVerify m dataset key part
-    → ¬ Rose before.faults.store after.faults.store → ¬ Rose before.faults.out after.faults.out → EndsWell status)
+    → ¬ Rose before.faults.store after.faults.store → ¬ Rose before.faults.out after.faults.out →
+    EndsWell status)
 Succeeds (Some (Reshard dataset key to_dataset to_key workers)) status before after =
     IfSome before.objects (λ m. CanReshard m dataset key to_dataset to_key
-    → ¬ Rose before.faults.store after.faults.store → ¬ Rose before.faults.out after.faults.out → EndsWell status)
+    → ¬ Rose before.faults.store after.faults.store → ¬ Rose before.faults.out after.faults.out →
+    EndsWell status)
 Succeeds (Some (Serve dataset port connections)) status before after =
     ¬ Rose before.faults.door after.faults.door → ¬ Rose before.faults.out after.faults.out → EndsWell status
 
--- After a writing command that succeeds, each box inside the scale reads back: no cell of it has a fault, and its cutout is
--- exactly the bytes of the last write at each voxel and channel, none missing.
+-- After a `write` or a `generate` that succeeds, each box inside the scale reads back: no cell of it has a fault,
+-- and its cutout is exactly the bytes of the last write at each voxel and channel, none missing: one value for each,
+-- side by side. After a `reshard` that succeeds, each box inside the target reads as the source: no cell of it has a
+-- fault, and its cutout is exactly the source's, before the copy and after it.
 abbrev pub Headline : Option Command → Status → Seen → Seen → Type 0
 Headline None status before after = Unit {0}
 Headline (Some (Cutout dataset key part)) status before after = Unit {0}
 Headline (Some (Write dataset key workers)) status before after =
-    status ≡ Ok → IfSome before.objects (λ m. IfSome before.left (λ bytes. WrittenBack m after.objects (writes_of bytes) dataset key))
+    status ≡ Ok → IfSome before.objects (λ m. IfSome before.left (λ bytes.
+    WrittenBack m after.objects (writes_of bytes) dataset key))
 Headline (Some (Generate dataset key number count workers)) status before after =
     status ≡ Ok → IfSome before.objects (λ m. WrittenBack m after.objects (drawn number count) dataset key)
 Headline (Some (Verify dataset key part)) status before after = Unit {0}
-Headline (Some (Reshard dataset key to_dataset to_key workers)) status before after = Unit {0}
+Headline (Some (Reshard dataset key to_dataset to_key workers)) status before after =
+    status ≡ Ok → IfSome before.objects (λ m. CopiedBack m after.objects dataset key to_dataset to_key)
 Headline (Some (Serve dataset port connections)) status before after = Unit {0}
 
 -- what words that are no command line leave
@@ -82,40 +95,52 @@ UsageLeaves other o = ⊥
 -- What the two outlets gained, also where nothing is told, and so with which statuses a command can end.
 abbrev pub Leaves : Option Command → Status → Seen → Seen → Type 0
 Leaves None status before after = UsageLeaves status (outlets before after)
-Leaves (Some (Cutout dataset key part)) status before after = CutoutLeaves status dataset part (outlets before after)
-Leaves (Some (Write dataset key workers)) status before after = WriteLeaves status dataset (outlets before after)
-Leaves (Some (Generate dataset key number count workers)) status before after = GenerateLeaves status dataset count (outlets before after)
-Leaves (Some (Verify dataset key part)) status before after = VerifyLeaves status dataset part (outlets before after)
-Leaves (Some (Reshard dataset key to_dataset to_key workers)) status before after = ReshardLeaves status dataset to_dataset (outlets before after)
-Leaves (Some (Serve dataset port connections)) status before after = ServeLeaves status port after.door.bound (outlets before after)
+Leaves (Some (Cutout dataset key part)) status before after =
+    CutoutLeaves status dataset part (outlets before after)
+Leaves (Some (Write dataset key workers)) status before after =
+    WriteLeaves status dataset (outlets before after)
+Leaves (Some (Generate dataset key number count workers)) status before after =
+    GenerateLeaves status dataset count (outlets before after)
+Leaves (Some (Verify dataset key part)) status before after =
+    VerifyLeaves status dataset part (outlets before after)
+Leaves (Some (Reshard dataset key to_dataset to_key workers)) status before after =
+    ReshardLeaves status dataset to_dataset (outlets before after)
+Leaves (Some (Serve dataset port connections)) status before after =
+    ServeLeaves status port after.door.bound (outlets before after)
 
 -- What stays of the store, the feed and the door.
 abbrev pub Keeps : Option Command → Status → Seen → Seen → Type 0
-Keeps None status before after = LeavesStore before after × (after.left ≡ before.left) × (after.door ≡ before.door)
+Keeps None status before after = LeavesStore before after × (after.left ≡ before.left) ×
+    (after.door ≡ before.door)
 -- and no more bytes are asked for than the cells of the box cost, where they are told
 Keeps (Some (Cutout dataset key part)) status before after =
     LeavesStore before after × (after.left ≡ before.left) × (after.door ≡ before.door)
     × IfSome before.objects (λ m. AsksFor m dataset key part before.asked after.asked)
--- no object stays half written that was begun in the call; a write that succeeds reads its feed to the end, and one without a scale
--- doesn't read it
+-- no object stays half written that was begun in the call; a write that succeeds reads its feed to the end, and one without a scale leaves
+-- it as before
 Keeps (Some (Write dataset key workers)) status before after =
     Drops before.draft after.draft × (puts status ≡ false → LeavesStore before after)
-    × (status ≡ Ok → after.left ≡ option_map (λ _. []) before.left) × (status ≡ InfoRefused → after.left ≡ before.left)
+    × (status ≡ Ok → after.left ≡ option_map (λ _. []) before.left) ×
+    (status ≡ InfoRefused → after.left ≡ before.left)
     × (after.door ≡ before.door)
--- the same of a list that is made from a number, and the feed isn't read
+-- the same of a list that is made from a number, and what is left of the feed is as before
 Keeps (Some (Generate dataset key number count workers)) status before after =
     Drops before.draft after.draft × (puts status ≡ false → LeavesStore before after)
     × (after.left ≡ before.left) × (after.door ≡ before.door)
 -- nothing but an outlet changes
 Keeps (Some (Verify dataset key part)) status before after =
     LeavesStore before after × (after.left ≡ before.left) × (after.door ≡ before.door)
--- no object stays half written that was begun in a call that succeeds, and the feed isn't read
+-- no object stays half written that was begun in the call, where all of a copy was put, or where the target isn't sharded; and what is left
+-- of the feed is as before
 Keeps (Some (Reshard dataset key to_dataset to_key workers)) status before after =
-    (status ≡ Ok → Drops before.draft after.draft) × (puts status ≡ false → LeavesStore before after)
-    × (after.left ≡ before.left) × (after.door ≡ before.door)
+    (status ≡ Ok → Drops before.draft after.draft) × (status ≡ OutFault → Drops before.draft after.draft)
+    × IfSome before.objects (λ m. DropsUnsharded (stored_scale m to_dataset to_key) before.draft after.draft)
+    × (puts status ≡ false → LeavesStore before after) × (after.left ≡ before.left) ×
+    (after.door ≡ before.door)
 -- no more ends are taken from the door than were asked for, and none before the port is told
 Keeps (Some (Serve dataset port connections)) status before after =
-    LeavesStore before after × (after.left ≡ before.left) × AcceptsEnds status connections before.door after.door
+    LeavesStore before after × (after.left ≡ before.left) ×
+    AcceptsEnds status connections before.door after.door
     × TellsFirst before.out after.out before.door after.door
 
 -- no count falls, a fault comes only where its count rose, and at success nothing was told, so nothing failed to be
@@ -130,15 +155,18 @@ pub record IsCaused (status : Status) (before after : Faults) : Type 0 where
 -- Why it failed, and what it doesn't use.
 abbrev pub Causes : Option Command → Status → Faults → Faults → Type 0
 Causes None status before after =
-    IsCaused status before after × (after.store ≡ before.store) × (after.feed ≡ before.feed) × (after.out ≡ before.out)
+    IsCaused status before after × (after.store ≡ before.store) × (after.feed ≡ before.feed) ×
+    (after.out ≡ before.out)
     × (after.door ≡ before.door)
 Causes (Some (Cutout dataset key part)) status before after =
     IsCaused status before after × (after.feed ≡ before.feed) × (after.door ≡ before.door)
-Causes (Some (Write dataset key workers)) status before after = IsCaused status before after × (after.door ≡ before.door)
+Causes (Some (Write dataset key workers)) status before after = IsCaused status before after ×
+    (after.door ≡ before.door)
 Causes (Some (Generate dataset key number count workers)) status before after =
     IsCaused status before after × (after.feed ≡ before.feed) × (after.door ≡ before.door)
 Causes (Some (Verify dataset key part)) status before after =
     IsCaused status before after × (after.feed ≡ before.feed) × (after.door ≡ before.door)
 Causes (Some (Reshard dataset key to_dataset to_key workers)) status before after =
     IsCaused status before after × (after.feed ≡ before.feed) × (after.door ≡ before.door)
-Causes (Some (Serve dataset port connections)) status before after = IsCaused status before after × (after.feed ≡ before.feed)
+Causes (Some (Serve dataset port connections)) status before after = IsCaused status before after ×
+    (after.feed ≡ before.feed)

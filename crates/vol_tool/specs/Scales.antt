@@ -1,4 +1,4 @@
--- The scale of a key, as objects have it.
+-- The scale of a key, as objects have it (this project's profile).
 use Rattle.std.specs.Prelude.{◌≡◌, Option, Some, None, Result, Ok, Err, codes}
 use Rattle.std.specs.FinMap as fin
 use Rattle.vol_base.specs.Outside.{Objects}

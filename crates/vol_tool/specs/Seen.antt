@@ -1,4 +1,4 @@
--- What is seen of the outside before or after a call.
+-- What is seen of the outside before or after a call (this project's).
 use Rattle.std.specs.Prelude.{◌≡◌, ◌≤◌, ℕ, List, Option}
 use Rattle.vol_shell.specs.Effects.{Says}
 use Rattle.vol_base.specs.Outside.{Draft, Objects, OnlyReads}
@@ -39,19 +39,29 @@ pub record Seen : Type 0 where
   pub faults : Faults
 
 -- the same by what a store, a feed, two outlets and a door tell
-abbrev pub view : {S F O E D : Type 0} → (S → Option Objects) → (S → Option Draft) → (S → ℕ) → (S → ℕ) → (F → Option Bytes) → (F → ℕ)
-    → (O → Option Bytes) → (O → ℕ) → (E → Option Bytes) → (E → ℕ) → (D → Option ℕ) → (D → ℕ) → (D → Option Ends) → (D → ℕ)
+abbrev pub view : {S F O E D : Type 0} → (S → Option Objects) → (S → Option Draft) → (S → ℕ) → (S → ℕ) →
+    (F → Option Bytes) → (F → ℕ)
+    → (O → Option Bytes) → (O → ℕ) → (E → Option Bytes) → (E → ℕ) → (D → Option ℕ) → (D → ℕ) →
+    (D → Option Ends) → (D → ℕ)
     → S → F → O → E → D → Seen
-view objects draft asked store_faults left feed_faults out out_faults err err_faults bound accepted served door_faults s f o e d = record {
-  objects = objects s;
-  draft = draft s;
-  asked = asked s;
-  left = left f;
-  out = out o;
-  err = err e;
-  door = doorway bound accepted served d;
-  faults = record { store = store_faults s; feed = feed_faults f; out = out_faults o; err = err_faults e; door = door_faults d };
-}
+view objects draft asked store_faults left feed_faults out out_faults err err_faults bound accepted served
+    door_faults s f o e d = record {
+      objects = objects s;
+      draft = draft s;
+      asked = asked s;
+      left = left f;
+      out = out o;
+      err = err e;
+      door = doorway bound accepted served d;
+      faults = record {
+        store = store_faults s;
+        feed = feed_faults f;
+        out = out_faults o;
+        err =
+            err_faults e;
+        door = door_faults d;
+      };
+    }
 
 -- the outlets of a call: what was written before and after it, and the error outlet's counts of faults
 pub record Outlets : Type 0 where
@@ -71,7 +81,8 @@ abbrev pub Silent : Outlets → Type 0
 Silent o = o.out_new ≡ o.out_old
 
 -- the same by what the two outlets tell
-abbrev pub outlets_of : {O E : Type 0} → (O → Option Bytes) → (O → ℕ) → (E → Option Bytes) → (E → ℕ) → O → O → E → E → Outlets
+abbrev pub outlets_of : {O E : Type 0} → (O → Option Bytes) → (O → ℕ) → (E → Option Bytes) → (E → ℕ) → O → O →
+    E → E → Outlets
 outlets_of out out_faults err err_faults o p e f = record {
   out_old = out o;
   out_new = out p;

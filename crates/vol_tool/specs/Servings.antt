@@ -1,8 +1,8 @@
--- What `serve` answers, and what stands after it.
+-- What `serve` answers, and what stands after it (this project's profile).
 use Rattle.std.specs.Prelude.{◌≡◌, ◌≢◌, ◌⊎◌, ℕ, ◌+◌, ◌<◌, ◌≤◌, ◌++◌, length, Option, Some, None, Result, Ok as Done, Err, ⊤, IfSome, IsSomeAnd}
 use Rattle.vol_base.specs.Outside.{Objects}
 use Rattle.range_server.specs.Serving.{EndsCutShort, EndsServed}
-use Rattle.vol_shell.specs.Effects.{Gains, GainsFront}
+use Rattle.vol_base.specs.Gains.{Gains, GainsFront}
 use Rattle.vol_shell.specs.Lines.{listening_line}
 use Rattle.vol_spec.specs.Types.{Bytes, Name}
 use Rattle.vol_tool.specs.Seen.{Doorway, Ends, Outlets, Tells}
@@ -54,7 +54,8 @@ GivesEnds DoorFault wanted given = given < wanted
 GivesEnds other wanted given = ⊥
 
 abbrev pub AcceptsEnds : Status → ℕ → Doorway → Doorway → Type 0
-AcceptsEnds status wanted before after = (given : ℕ) × (after.accepted ≡ before.accepted + given) × GivesEnds status wanted given
+AcceptsEnds status wanted before after = (given : ℕ) × (after.accepted ≡ before.accepted + given) ×
+    GivesEnds status wanted given
 
 -- no end is given before the port is told: none where the output gained nothing
 abbrev pub TellsFirst : Option Bytes → Option Bytes → Doorway → Doorway → Type 0
@@ -63,13 +64,15 @@ TellsFirst old new before after = IfSome old (λ bytes. new ≡ Some bytes → a
 -- how ends were served, while the store's count of faults went from one number to another: to the end, or until the link or the store
 -- failed; where memory ran out, perhaps amid the last of them
 abbrev pub AreServed : Status → Objects → Name → ℕ → ℕ → Ends → Type 0
-AreServed NoMemory m dataset from to ends = EndsServed m dataset from to ends ⊎ EndsCutShort m dataset from to ends
+AreServed NoMemory m dataset from to ends = EndsServed m dataset from to ends ⊎
+    EndsCutShort m dataset from to ends
 AreServed other m dataset from to ends = EndsServed m dataset from to ends
 
 -- the door noted as many ends as it gave, served so
 abbrev pub ServeShows : Status → Objects → Name → Doorway → Doorway → ℕ → ℕ → Type 0
 ServeShows status m dataset before after from to =
-    IfSome before.served (λ list. (ends : Ends) × (after.served ≡ Some (list ++ ends)) × (after.accepted ≡ before.accepted + length ends)
+    IfSome before.served (λ list. (ends : Ends) × (after.served ≡ Some (list ++ ends)) ×
+    (after.accepted ≡ before.accepted + length ends)
     × AreServed status m dataset from to ends)
 
 -- the error output gained the line that a status always has, and nothing where it has none
@@ -83,4 +86,5 @@ IsBoundTo port = λ bound. IfSome bound (λ found. port ≢ 0 → found ≡ port
 
 -- what `serve` leaves, also where nothing is told
 abbrev pub ServeLeaves : Status → ℕ → Option ℕ → Outlets → Type 0
-ServeLeaves status port bound o = IsBoundTo port bound × PortTold status bound o.out_old o.out_new × SaysFixed (fixed_line status) o
+ServeLeaves status port bound o = IsBoundTo port bound × PortTold status bound o.out_old o.out_new ×
+    SaysFixed (fixed_line status) o

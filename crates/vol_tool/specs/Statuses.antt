@@ -1,4 +1,4 @@
--- The statuses of commands, their numbers, and what is told of them.
+-- The statuses of commands, their numbers, and what is told of them (this project's).
 use Rattle.std.specs.Prelude.{◌≡◌, ◌⊎◌, ℕ, Option, Some, None, IfSome, refl}
 use Rattle.vol_shell.specs.Lines.{door_line, feed_line, memory_line, output_line, store_line, usage_line}
 use Rattle.vol_spec.specs.Types.{Bytes, Name}
@@ -44,10 +44,12 @@ fixed_line DoorFault = Some door_line
 
 -- a refusal of this status and line is told, and the command ends with the status; or there is no memory for the line, which is told then
 abbrev pub Reports : Status → Bytes → Status → (Bytes → Type 0) → Type 0
-Reports wanted line status Tells = ((status ≡ wanted) × Tells line) ⊎ ((status ≡ NoMemory) × (fixed_line wanted ≡ None) × Tells memory_line)
+Reports wanted line status Tells = ((status ≡ wanted) × Tells line) ⊎
+    ((status ≡ NoMemory) × (fixed_line wanted ≡ None) × Tells memory_line)
 
 -- where the status of a refusal always has the same line, the refusal has it
-pub cutout_fixed : (dataset : Name) (refusal : CutoutRefusal) → IfSome (fixed_line (cutout_status refusal)) (λ text. cutout_line dataset refusal ≡ text)
+pub cutout_fixed : (dataset : Name) (refusal : CutoutRefusal) →
+    IfSome (fixed_line (cutout_status refusal)) (λ text. cutout_line dataset refusal ≡ text)
 cutout_fixed dataset (cutout.NoScale why) = tt
 cutout_fixed dataset (cutout.Outside part whole) = tt
 cutout_fixed dataset (cutout.TooLarge bytes) = tt
@@ -56,7 +58,8 @@ cutout_fixed dataset cutout.StoreFault = refl
 cutout_fixed dataset cutout.OutFault = refl
 cutout_fixed dataset cutout.NoMemory = refl
 
-pub write_fixed : (dataset : Name) (refusal : WriteRefusal) → IfSome (fixed_line (write_status refusal)) (λ text. write_line dataset refusal ≡ text)
+pub write_fixed : (dataset : Name) (refusal : WriteRefusal) →
+    IfSome (fixed_line (write_status refusal)) (λ text. write_line dataset refusal ≡ text)
 write_fixed dataset (write.NoScale why) = tt
 write_fixed dataset (write.TooManyVoxels voxels) = tt
 write_fixed dataset write.NotEmpty = tt
@@ -67,11 +70,13 @@ write_fixed dataset write.FeedFault = refl
 write_fixed dataset write.OutFault = refl
 write_fixed dataset write.NoMemory = refl
 
-pub generate_fixed : (dataset : Name) (refusal : GenerateRefusal) → IfSome (fixed_line (generate_status refusal)) (λ text. generate_line dataset refusal ≡ text)
+pub generate_fixed : (dataset : Name) (refusal : GenerateRefusal) →
+    IfSome (fixed_line (generate_status refusal)) (λ text. generate_line dataset refusal ≡ text)
 generate_fixed dataset (Write refusal) = write_fixed dataset refusal
 generate_fixed dataset (Cutout refusal) = cutout_fixed dataset refusal
 
-pub verify_fixed : (dataset : Name) (refusal : VerifyRefusal) → IfSome (fixed_line (verify_status refusal)) (λ text. verify_line dataset refusal ≡ text)
+pub verify_fixed : (dataset : Name) (refusal : VerifyRefusal) →
+    IfSome (fixed_line (verify_status refusal)) (λ text. verify_line dataset refusal ≡ text)
 verify_fixed dataset (verify.NoScale why) = tt
 verify_fixed dataset (verify.Outside part whole) = tt
 verify_fixed dataset (verify.TooManyCells cells) = tt
@@ -80,7 +85,8 @@ verify_fixed dataset (verify.Misplaced shard minishard id) = tt
 verify_fixed dataset verify.StoreFault = refl
 verify_fixed dataset verify.NoMemory = refl
 
-pub reshard_fixed : (dataset : Name) (refusal : ReshardRefusal) → IfSome (fixed_line (reshard_status refusal)) (λ text. reshard_line dataset refusal ≡ text)
+pub reshard_fixed : (dataset : Name) (refusal : ReshardRefusal) →
+    IfSome (fixed_line (reshard_status refusal)) (λ text. reshard_line dataset refusal ≡ text)
 reshard_fixed dataset (reshard.NoSource why) = tt
 reshard_fixed dataset (reshard.NoTarget why) = tt
 reshard_fixed dataset (reshard.TooManyVoxels voxels) = tt

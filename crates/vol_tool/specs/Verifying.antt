@@ -1,4 +1,4 @@
--- What `verify` answers.
+-- What `verify` answers (this project's profile).
 use Rattle.std.specs.Prelude.{◌≡◌, ◌⊎◌, ℕ, ◌+◌, ◌^◌, ◌<◌, length, Option, Some, None, Result, Ok as Done, Err, IsOkAnd, IsErrAnd, IsSomeAnd}
 use Rattle.vol_base.specs.declared.boxes.Box3.{Box3}
 use Rattle.vol_base.specs.Outside.{Objects}
@@ -11,7 +11,7 @@ use Rattle.verify_cmd.specs.Verifying.{absent_in, CanJudge, first_wrong, IsRepor
 use Rattle.verify_cmd.specs.declared.fault.VerifyFault.{VerifyFault}
 use Rattle.verify_cmd.specs.declared.fault.VerifyFault.TheVariants as fault
 use Rattle.verify_cmd.specs.declared.report.Report.{Report}
-use Rattle.vol_shell.specs.Effects.{Gains, GainsFront}
+use Rattle.vol_base.specs.Gains.{Gains, GainsFront}
 use Rattle.vol_shell.specs.Lines.{cells_line, damaged_line, info_line, memory_line, misplaced_line, outside_line, output_line, store_line, verified_line}
 use Rattle.vol_tool.specs.Cutouts.{TellsDamage, TellsNoScale}
 use Rattle.vol_tool.specs.Refusals.{info_text}
@@ -34,7 +34,8 @@ IsFoundSound m dataset s part = CanJudge s part × Sound m dataset s part
 
 -- the scale is there, and the part of it is found sound
 abbrev pub CanVerify : Objects → Name → Name → Option Box3 → Type 0
-CanVerify m dataset key part = IsOkAnd (stored_scale m dataset key) (λ s. IsFoundSound m dataset s (part_in s part))
+CanVerify m dataset key part = IsOkAnd (stored_scale m dataset key) (λ s.
+    IsFoundSound m dataset s (part_in s part))
 
 -- what a fault of the judgement is, as a refusal, over the part and all of the scale
 abbrev pub unverified : Box3 → Box3 → VerifyFault → VerifyRefusal
@@ -49,16 +50,20 @@ unverified part all fault.OutOfMemory = refused.NoMemory
 abbrev pub JudgesScale : Result Report VerifyRefusal → Objects → Name → Scale → Box3 → Type 0
 JudgesScale (Done report) m dataset s part = CanJudge s part × IsReport m dataset s part report
 JudgesScale (Err (refused.NoScale why)) m dataset s part = ⊥
-JudgesScale (Err (refused.Outside told all)) m dataset s part = (told ≡ part) × (all ≡ whole s) × ¬ Inside s part
+JudgesScale (Err (refused.Outside told all)) m dataset s part = (told ≡ part) × (all ≡ whole s) ×
+    ¬ Inside s part
 JudgesScale (Err (refused.TooManyCells cells)) m dataset s part = IsTooMany s part cells
-JudgesScale (Err (refused.Damaged cell found)) m dataset s part = CanJudge s part × (first_wrong m dataset s part ≡ Some (cell, DamagedBy found))
+JudgesScale (Err (refused.Damaged cell found)) m dataset s part = CanJudge s part ×
+    (first_wrong m dataset s part ≡ Some (cell, DamagedBy found))
 JudgesScale (Err (refused.Misplaced shard minishard id)) m dataset s part =
-    CanJudge s part × (cell : Cell) × (first_wrong m dataset s part ≡ Some (cell, MisplacedAt shard minishard id))
+    CanJudge s part × (cell : Cell) × (first_wrong m dataset s part
+    ≡ Some (cell, MisplacedAt shard minishard id))
 JudgesScale (Err refused.StoreFault) m dataset s part = Unit {0}
 JudgesScale (Err refused.NoMemory) m dataset s part = Unit {0}
 
 -- what `verify` answers before it prints, by the scale that is told
-abbrev pub JudgesStored : Result Report VerifyRefusal → Result Scale NoScale → Objects → Name → Option Box3 → Type 0
+abbrev pub JudgesStored : Result Report VerifyRefusal → Result Scale NoScale → Objects → Name → Option Box3 →
+    Type 0
 JudgesStored (Err (refused.NoScale why)) told m dataset part = told ≡ Err why
 JudgesStored (Err refused.StoreFault) told m dataset part = Unit {0}
 JudgesStored (Err refused.NoMemory) told m dataset part = Unit {0}
@@ -71,7 +76,8 @@ IsAsked other part = Unit {0}
 
 -- the line of a part that is sound: how many cells meet it, and of how many the chunk is stored, and absent
 abbrev pub sound_line : Objects → Name → Scale → Box3 → Bytes
-sound_line m dataset s part = verified_line (length (cells_in s part)) (stored_in m dataset s part) (absent_in m dataset s part)
+sound_line m dataset s part = verified_line (length (cells_in s part)) (stored_in m dataset s part)
+    (absent_in m dataset s part)
 
 -- the line of what is wrong with a cell
 abbrev pub wrong_line : Cell → Wrong → Bytes
@@ -86,7 +92,8 @@ RefusesPart s part o =
 
 -- a part that isn't sound: the line says what is wrong with the first cell with which something is
 abbrev pub FindsWrong : Objects → Name → Scale → Box3 → Outlets → Type 0
-FindsWrong m dataset s part o = CanJudge s part × IsSomeAnd (first_wrong m dataset s part) (λ found. Tells o (wrong_line found.0 found.1))
+FindsWrong m dataset s part o = CanJudge s part ×
+    IsSomeAnd (first_wrong m dataset s part) (λ found. Tells o (wrong_line found.0 found.1))
 
 -- a part that is sound, and what its line is for
 abbrev pub FindsSound : (Bytes → Type 0) → Objects → Name → Scale → Box3 → Type 0
@@ -95,13 +102,17 @@ FindsSound Gained m dataset s part = IsFoundSound m dataset s part × Gained (so
 -- what each status of `verify` says over objects that are told
 abbrev pub VerifyShows : Status → Objects → Name → Name → Option Box3 → Outlets → Type 0
 VerifyShows Ok m dataset key part o =
-    IsOkAnd (stored_scale m dataset key) (λ s. FindsSound (Gains o.out_old o.out_new) m dataset s (part_in s part))
+    IsOkAnd (stored_scale m dataset key) (λ s. FindsSound (Gains o.out_old o.out_new) m dataset s
+    (part_in s part))
 VerifyShows InfoRefused m dataset key part o =
     IsErrAnd (stored_scale m dataset key) (λ why. Tells o (info_line dataset (info_text why)))
-VerifyShows RequestRefused m dataset key part o = IsOkAnd (stored_scale m dataset key) (λ s. RefusesPart s (part_in s part) o)
-VerifyShows Damaged m dataset key part o = IsOkAnd (stored_scale m dataset key) (λ s. FindsWrong m dataset s (part_in s part) o)
+VerifyShows RequestRefused m dataset key part o =
+    IsOkAnd (stored_scale m dataset key) (λ s. RefusesPart s (part_in s part) o)
+VerifyShows Damaged m dataset key part o = IsOkAnd (stored_scale m dataset key) (λ s.
+    FindsWrong m dataset s (part_in s part) o)
 VerifyShows OutFault m dataset key part o =
-    IsOkAnd (stored_scale m dataset key) (λ s. FindsSound (GainsFront o.out_old o.out_new) m dataset s (part_in s part))
+    IsOkAnd (stored_scale m dataset key) (λ s. FindsSound (GainsFront o.out_old o.out_new) m dataset s
+    (part_in s part))
 VerifyShows StoreFault m dataset key part o = Unit {0}
 VerifyShows NoMemory m dataset key part o = Unit {0}
 VerifyShows Usage m dataset key part o = ⊥
@@ -111,11 +122,13 @@ VerifyShows DoorFault m dataset key part o = ⊥
 -- the line of the box that was asked for, as one that isn't inside some scale, or of too many cells
 abbrev pub TellsPart : Outlets → Option Box3 → Type 0
 TellsPart o part =
-    IsSomeAnd part (λ asked. (all : Box3) × Tells o (outside_line asked all)) ⊎ ((cells : ℕ) × Tells o (cells_line cells))
+    IsSomeAnd part (λ asked. (all : Box3) × Tells o (outside_line asked all)) ⊎
+    ((cells : ℕ) × Tells o (cells_line cells))
 
 -- the line of some cell that has some fault, or of some row that is misplaced
 abbrev pub TellsWrong : Outlets → Type 0
-TellsWrong o = TellsDamage o ⊎ ((shard : ℕ) × (minishard : ℕ) × (id : ℕ) × Tells o (misplaced_line shard minishard id))
+TellsWrong o = TellsDamage o ⊎ ((shard : ℕ) × (minishard : ℕ) × (id : ℕ) ×
+    Tells o (misplaced_line shard minishard id))
 
 -- some line of cells, of each of which the chunk is stored or absent
 abbrev pub PrintsCells : (Bytes → Type 0) → Type 0

@@ -7,17 +7,15 @@ ghost use Rattle.vol_spec.specs.Writable.{IsWritable};
 ghost use Rattle.shard_writer.specs.Writing.{Drops};
 ghost use Rattle.vol_shell.specs.Lines.{generated_line};
 ghost use Rattle.vol_tool.specs.Cutouts.{IsRequest};
-ghost use Rattle.vol_tool.specs.Generating.{drawn, Generates, IsRefusal, IsUnsummed, JudgesWhole, SumsScale, whole_len};
+ghost use Rattle.vol_tool.specs.Generating.{drawn, Generates, IsRefusal, IsUnsummed, JudgesWhole, SumsScale};
 ghost use Rattle.vol_tool.specs.Refusals.{generate_status};
 ghost use Rattle.vol_tool.specs.Scales.{stored_scale};
 ghost use Rattle.vol_tool.specs.Storing.{IsReady, Prints, puts};
 ghost use Rattle.vol_tool.specs.declared.status.Status.TheVariants.{StoreFault as StoreStatus};
 
-use crate::buffers::make_buffer;
-use crate::cut_out::{judge_part, read_values};
+use crate::cut_out::{judge_part, stream_part};
 use crate::info::read_scale;
 use crate::refusal::{CutoutRefusal, GenerateRefusal, WriteRefusal};
-use crate::sums::sum_values;
 use crate::write::{find_folder, judge_limit, print_line, write_list};
 use chunk_grid::whole;
 use cutout::Reader;
@@ -26,6 +24,7 @@ use shard_writer::Written;
 use std::alloc::Global;
 use std::sync::Wait;
 use std::thread::Threads;
+use value_sums::SumOutlet;
 use vectors_vol::Generator;
 use vol_base::{Gate, Name, Outlet, Source, Store};
 use vol_shell::write_generated_line;
@@ -37,35 +36,61 @@ pub(crate) struct Summary {
     pub sum: u64,
 }
 
-// How many bytes the values of a whole scale have, where these can be cut out.
-fn judge_whole(scale: &Scale) -> Result<usize, GenerateRefusal>
+// Whether all values of a scale can be cut out.
+fn judge_whole(scale: &Scale) -> Result<(), GenerateRefusal>
     ensures { JudgesWhole result scale.now }
 {
     match judge_part(scale, &whole(scale)) {
-        Ok(len) => Ok(len),
+        Ok(()) => Ok(()),
         Err(refusal) => Err(GenerateRefusal::Cutout(refusal)),
     }
 }
 
-// The sum of the values of the whole scale of a reader, by way of a buffer for all of them.
-fn sum_into<S: Source>(
+// The sum of the values of the whole scale of a reader, which have `WIDTH` bytes each.
+fn sum_values<S: Source, const WIDTH: usize>(
+    alloc: Global,
     store: &mut S,
     reader: &mut Reader,
     scale: &Scale,
-    values: &mut [u8],
 ) -> Result<u64, CutoutRefusal>
     requires scale { reader.old.scale ≡ scale.now }
+    requires width { scale.now.width ≡ WIDTH }
     requires small { IsRequest scale.now (whole_of scale.now) }
-    requires len { length values.old ≡ whole_len scale.now }
     ensures sums { IfSome (S.objects store.old) (λ m. SumsScale result m reader.old.dataset scale.now) }
     ensures refused { IfErr result IsUnsummed }
-    ensures kept { OnlyReads (S.objects store.old) (S.objects store.new) (S.draft store.old) (S.draft store.new) }
+    ensures kept { OnlyReads (S.objects store.old) (S.objects store.new) (S.draft store.old)
+        (S.draft store.new) }
     ensures later { S.faults store.old ≤ S.faults store.new }
     ensures fault { result ≡ Err CutoutRefusal.StoreFault → Rose (S.faults store.old) (S.faults store.new) }
 {
-    match read_values(store, reader, &whole(scale), values) {
-        Ok(()) => Ok(sum_values(values, scale.width)),
+    let mut sums: SumOutlet<WIDTH> = SumOutlet::new();
+    match stream_part(alloc, store, &mut sums, reader, &whole(scale)) {
+        Ok(()) => Ok(sums.sum()),
         Err(refusal) => Err(refusal),
+    }
+}
+
+// The sum of the values of the whole scale of a reader.
+fn sum_whole<S: Source>(
+    alloc: Global,
+    store: &mut S,
+    reader: &mut Reader,
+    scale: &Scale,
+) -> Result<u64, CutoutRefusal>
+    requires scale { reader.old.scale ≡ scale.now }
+    requires small { IsRequest scale.now (whole_of scale.now) }
+    ensures sums { IfSome (S.objects store.old) (λ m. SumsScale result m reader.old.dataset scale.now) }
+    ensures refused { IfErr result IsUnsummed }
+    ensures kept { OnlyReads (S.objects store.old) (S.objects store.new) (S.draft store.old)
+        (S.draft store.new) }
+    ensures later { S.faults store.old ≤ S.faults store.new }
+    ensures fault { result ≡ Err CutoutRefusal.StoreFault → Rose (S.faults store.old) (S.faults store.new) }
+{
+    match scale.width {
+        1 => sum_values::<S, 1>(alloc, store, reader, scale),
+        2 => sum_values::<S, 2>(alloc, store, reader, scale),
+        4 => sum_values::<S, 4>(alloc, store, reader, scale),
+        _ => sum_values::<S, 8>(alloc, store, reader, scale),
     }
 }
 
@@ -75,20 +100,18 @@ fn sum_scale<S: Source>(
     store: &mut S,
     dataset: &Name,
     scale: &Scale,
-    len: usize,
 ) -> Result<u64, CutoutRefusal>
     requires dataset { length dataset.now ≤ 200 }
     requires small { IsRequest scale.now (whole_of scale.now) }
-    requires len { len ≡ whole_len scale.now }
     ensures sums { IfSome (S.objects store.old) (λ m. SumsScale result m dataset.now scale.now) }
     ensures refused { IfErr result IsUnsummed }
-    ensures kept { OnlyReads (S.objects store.old) (S.objects store.new) (S.draft store.old) (S.draft store.new) }
+    ensures kept { OnlyReads (S.objects store.old) (S.objects store.new) (S.draft store.old)
+        (S.draft store.new) }
     ensures later { S.faults store.old ≤ S.faults store.new }
     ensures fault { result ≡ Err CutoutRefusal.StoreFault → Rose (S.faults store.old) (S.faults store.new) }
 {
-    let mut values = make_buffer(alloc, len)?;
     let mut reader = Reader::open(alloc, dataset, scale)?;
-    sum_into(store, &mut reader, scale, &mut values)
+    sum_whole(alloc, store, &mut reader, scale)
 }
 
 // Writes a list that a number makes into a scale that is ready, and sums the scale.
@@ -98,7 +121,6 @@ fn write_and_sum<R, S: Store, G: Gate + Sync>(
     store: &mut S,
     dataset: &Name,
     scale: &Scale,
-    len: usize,
     number: u32,
     count: u32,
     workers: u32,
@@ -110,22 +132,24 @@ where
     requires writable { IsWritable scale.now }
     requires empty { IfSome (S.objects store.old) (λ m. IsReady m dataset.now scale.now) }
     requires small { IsRequest scale.now (whole_of scale.now) }
-    requires len { len ≡ whole_len scale.now }
     requires number { number < 2 ^ 31 }
     requires count { count ≤ 4096 }
-    ensures generates { (key : List ℕ) → IfSome (S.objects store.old) (λ m. Generates result (Ok scale.now) m (S.objects store.new) (drawn number count) dataset.now key) }
+    ensures generates { (key : List ℕ) → IfSome (S.objects store.old) (λ m.
+        Generates result (Ok scale.now) m (S.objects store.new) (drawn number count) dataset.now key) }
     ensures refused { IfErr result IsRefusal }
     ensures draft { Drops (S.draft store.old) (S.draft store.new) }
-    ensures kept { IfErr result (λ refusal. puts (generate_status refusal) ≡ false → OnlyReads (S.objects store.old) (S.objects store.new) (S.draft store.old) (S.draft store.new)) }
+    ensures kept { IfErr result (λ refusal. puts (generate_status refusal) ≡ false →
+        OnlyReads (S.objects store.old) (S.objects store.new) (S.draft store.old) (S.draft store.new)) }
     ensures later { S.faults store.old ≤ S.faults store.new }
-    ensures fault { IfErr result (λ refusal. generate_status refusal ≡ StoreStatus → Rose (S.faults store.old) (S.faults store.new)) }
+    ensures fault { IfErr result (λ refusal. generate_status refusal ≡ StoreStatus →
+        Rose (S.faults store.old) (S.faults store.new)) }
 {
     let mut list = Generator::new(scale, number, count);
     let written = match write_list(rt, alloc, store, &mut list, dataset, scale, workers, gate) {
         Ok(written) => written,
         Err(refusal) => return Err(GenerateRefusal::Write(refusal)),
     };
-    match sum_scale(alloc, store, dataset, scale, len) {
+    match sum_scale(alloc, store, dataset, scale) {
         Ok(sum) => Ok(Summary { written, sum }),
         Err(refusal) => Err(GenerateRefusal::Cutout(refusal)),
     }
@@ -150,24 +174,27 @@ where
     requires writable { IsWritable scale.now }
     requires number { number < 2 ^ 31 }
     requires count { count ≤ 4096 }
-    ensures generates { (key : List ℕ) → IfSome (S.objects store.old) (λ m. Generates result (Ok scale.now) m (S.objects store.new) (drawn number count) dataset.now key) }
+    ensures generates { (key : List ℕ) → IfSome (S.objects store.old) (λ m.
+        Generates result (Ok scale.now) m (S.objects store.new) (drawn number count) dataset.now key) }
     ensures refused { IfErr result IsRefusal }
     ensures draft { Drops (S.draft store.old) (S.draft store.new) }
-    ensures kept { IfErr result (λ refusal. puts (generate_status refusal) ≡ false → OnlyReads (S.objects store.old) (S.objects store.new) (S.draft store.old) (S.draft store.new)) }
+    ensures kept { IfErr result (λ refusal. puts (generate_status refusal) ≡ false →
+        OnlyReads (S.objects store.old) (S.objects store.new) (S.draft store.old) (S.draft store.new)) }
     ensures later { S.faults store.old ≤ S.faults store.new }
-    ensures fault { IfErr result (λ refusal. generate_status refusal ≡ StoreStatus → Rose (S.faults store.old) (S.faults store.new)) }
+    ensures fault { IfErr result (λ refusal. generate_status refusal ≡ StoreStatus →
+        Rose (S.faults store.old) (S.faults store.new)) }
 {
     match store.any_under(&find_folder(dataset, scale)) {
         Ok(false) => {}
         Ok(true) => return Err(GenerateRefusal::Write(WriteRefusal::NotEmpty)),
         Err(_) => return Err(GenerateRefusal::Write(WriteRefusal::StoreFault)),
     }
-    let len = match judge_whole(scale) {
-        Ok(len) => len,
+    match judge_whole(scale) {
+        Ok(()) => {}
         Err(refusal) => return Err(refusal),
-    };
+    }
     write_and_sum(
-        rt, alloc, store, dataset, scale, len, number, count, workers, gate,
+        rt, alloc, store, dataset, scale, number, count, workers, gate,
     )
 }
 
@@ -189,12 +216,16 @@ where
     requires key { length key.now ≤ 200 }
     requires number { number < 2 ^ 31 }
     requires count { count ≤ 4096 }
-    ensures generates { IfSome (S.objects store.old) (λ m. Generates result (stored_scale m dataset.now key.now) m (S.objects store.new) (drawn number count) dataset.now key.now) }
+    ensures generates { IfSome (S.objects store.old) (λ m.
+        Generates result (stored_scale m dataset.now key.now) m (S.objects store.new)
+        (drawn number count) dataset.now key.now) }
     ensures refused { IfErr result IsRefusal }
     ensures draft { Drops (S.draft store.old) (S.draft store.new) }
-    ensures kept { IfErr result (λ refusal. puts (generate_status refusal) ≡ false → OnlyReads (S.objects store.old) (S.objects store.new) (S.draft store.old) (S.draft store.new)) }
+    ensures kept { IfErr result (λ refusal. puts (generate_status refusal) ≡ false →
+        OnlyReads (S.objects store.old) (S.objects store.new) (S.draft store.old) (S.draft store.new)) }
     ensures later { S.faults store.old ≤ S.faults store.new }
-    ensures fault { IfErr result (λ refusal. generate_status refusal ≡ StoreStatus → Rose (S.faults store.old) (S.faults store.new)) }
+    ensures fault { IfErr result (λ refusal. generate_status refusal ≡ StoreStatus →
+        Rose (S.faults store.old) (S.faults store.new)) }
 {
     let scale = match read_scale(alloc, store, dataset, key) {
         Ok(scale) => scale,
@@ -216,7 +247,8 @@ pub(crate) fn print_summary<O: Outlet>(
     count: u32,
     summary: &Summary,
 ) -> Result<(), WriteRefusal>
-    ensures prints { Prints result (O.written out.old) (O.written out.new) (generated_line count summary.now.written.objects summary.now.written.bytes summary.now.sum) }
+    ensures prints { Prints result (O.written out.old) (O.written out.new)
+        (generated_line count summary.now.written.objects summary.now.written.bytes summary.now.sum) }
     ensures later { O.faults out.old ≤ O.faults out.new }
     ensures fault { result ≡ Err WriteRefusal.OutFault → Rose (O.faults out.old) (O.faults out.new) }
 {

@@ -43,8 +43,10 @@ fn read_scale_into<S: Source>(
     requires dataset { length dataset.now ≤ 200 }
     requires key { length key.now ≤ 200 }
     requires room { length buffer.old ≡ 2 ^ 20 + 1 }
-    ensures read { IfSome (S.objects store.old) (λ m. ReadsScale result (stored_scale m dataset.now key.now)) }
-    ensures kept { OnlyReads (S.objects store.old) (S.objects store.new) (S.draft store.old) (S.draft store.new) }
+    ensures read { IfSome (S.objects store.old) (λ m.
+        ReadsScale result (stored_scale m dataset.now key.now)) }
+    ensures kept { OnlyReads (S.objects store.old) (S.objects store.new) (S.draft store.old)
+        (S.draft store.new) }
     ensures asked { S.asked store.new ≤ S.asked store.old + (2 ^ 20 + 1) }
     ensures later { S.faults store.old ≤ S.faults store.new }
     ensures fault { result ≡ Err ScaleRefusal.StoreFault → Rose (S.faults store.old) (S.faults store.new) }
@@ -66,8 +68,10 @@ pub(crate) fn read_scale<S: Source>(
 ) -> Result<Scale, ScaleRefusal>
     requires dataset { length dataset.now ≤ 200 }
     requires key { length key.now ≤ 200 }
-    ensures read { IfSome (S.objects store.old) (λ m. ReadsScale result (stored_scale m dataset.now key.now)) }
-    ensures kept { OnlyReads (S.objects store.old) (S.objects store.new) (S.draft store.old) (S.draft store.new) }
+    ensures read { IfSome (S.objects store.old) (λ m.
+        ReadsScale result (stored_scale m dataset.now key.now)) }
+    ensures kept { OnlyReads (S.objects store.old) (S.objects store.new) (S.draft store.old)
+        (S.draft store.new) }
     ensures asked { S.asked store.new ≤ S.asked store.old + (2 ^ 20 + 1) }
     ensures later { S.faults store.old ≤ S.faults store.new }
     ensures fault { result ≡ Err ScaleRefusal.StoreFault → Rose (S.faults store.old) (S.faults store.new) }

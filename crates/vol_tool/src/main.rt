@@ -11,7 +11,6 @@ mod report;
 mod reshard;
 mod serving;
 mod status;
-mod sums;
 #[cfg(test)]
 mod tests;
 mod top;

@@ -35,7 +35,8 @@ pub(crate) trait Refusal {
         ensures { IfOk result (λ text. text.items ≡ line dataset.now self.now) };
 
     /// Where the status always has the same line, it is that one.
-    ghost fixed: { (dataset : List ℕ) (refusal : Self) → IfSome (fixed_line (ends refusal)) (λ text. line dataset refusal ≡ text) };
+    ghost fixed: { (dataset : List ℕ) (refusal : Self) →
+        IfSome (fixed_line (ends refusal)) (λ text. line dataset refusal ≡ text) };
 }
 
 // Why a data set has no scale.
@@ -244,7 +245,8 @@ impl Refusal for ReshardRefusal {
 /// Tells a status by the line that it always has.
 pub(crate) fn tell<E: Outlet>(err: &mut E, status: Status)
     requires { fixed_line status ≢ None }
-    ensures told { IfSome (fixed_line status) (Says (E.written err.old) (E.written err.new) (E.faults err.old) (E.faults err.new)) }
+    ensures told { IfSome (fixed_line status) (Says (E.written err.old) (E.written err.new) (E.faults err.old)
+        (E.faults err.new)) }
     ensures later { E.faults err.old ≤ E.faults err.new }
 {
     if let Some(line) = status.fixed_line() {

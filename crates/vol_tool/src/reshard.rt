@@ -1,11 +1,11 @@
 //! The command `reshard`.
-ghost use Rattle.std.specs.Prelude.{◌≡◌, ◌≤◌, length, false, IfErr, IfOk, IfSome, OnOk};
+ghost use Rattle.std.specs.Prelude.{◌≡◌, ◌≤◌, length, false, None, IfErr, IfOk, IfSome, OnOk};
 ghost use Rattle.vol_base.specs.Causes.{Rose};
 ghost use Rattle.vol_base.specs.Outside.{OnlyReads};
 ghost use Rattle.vol_spec.specs.Writable.{IsWritable};
 ghost use Rattle.shard_writer.specs.Writing.{Drops};
 ghost use Rattle.vol_tool.specs.Refusals.{reshard_status};
-ghost use Rattle.vol_tool.specs.Resharding.{CopiesScale, CopiesStored, named_in, ReadsTarget, unmade};
+ghost use Rattle.vol_tool.specs.Resharding.{CopiesScale, CopiesStored, DropsUnsharded, named_in, ReadsTarget, unmade};
 ghost use Rattle.vol_tool.specs.Scales.{ReadsScale, stored_scale};
 ghost use Rattle.vol_tool.specs.Storing.{puts};
 
@@ -57,9 +57,11 @@ fn read_target<S: Source>(
 ) -> Result<Scale, ReshardRefusal>
     requires dataset { length dataset.now ≤ 200 }
     requires key { length key.now ≤ 200 }
-    ensures read { IfSome (S.objects store.old) (λ m. ReadsTarget result (stored_scale m dataset.now key.now)) }
+    ensures read { IfSome (S.objects store.old) (λ m.
+        ReadsTarget result (stored_scale m dataset.now key.now)) }
     ensures writable { IfOk result IsWritable }
-    ensures kept { OnlyReads (S.objects store.old) (S.objects store.new) (S.draft store.old) (S.draft store.new) }
+    ensures kept { OnlyReads (S.objects store.old) (S.objects store.new) (S.draft store.old)
+        (S.draft store.new) }
     ensures later { S.faults store.old ≤ S.faults store.new }
     ensures fault { result ≡ Err ReshardRefusal.StoreFault → Rose (S.faults store.old) (S.faults store.new) }
 {
@@ -93,9 +95,12 @@ where
     requires from_dataset { length from_dataset.now ≤ 200 }
     requires to_dataset { length to_dataset.now ≤ 200 }
     requires writable { IsWritable to.now }
-    ensures copies { IfSome (S.objects store.old) (λ m. CopiesScale result m (S.objects store.new) from_dataset.now from.now to_dataset.now to.now) }
-    ensures kept { IfErr result (λ refusal. puts (reshard_status refusal) ≡ false → OnlyReads (S.objects store.old) (S.objects store.new) (S.draft store.old) (S.draft store.new)) }
+    ensures copies { IfSome (S.objects store.old) (λ m.
+        CopiesScale result m (S.objects store.new) from_dataset.now from.now to_dataset.now to.now) }
+    ensures kept { IfErr result (λ refusal. puts (reshard_status refusal) ≡ false →
+        OnlyReads (S.objects store.old) (S.objects store.new) (S.draft store.old) (S.draft store.new)) }
     ensures draft { OnOk result (Drops (S.draft store.old) (S.draft store.new)) }
+    ensures unsharded { to.now.sharding ≡ None → Drops (S.draft store.old) (S.draft store.new) }
     ensures later { S.faults store.old ≤ S.faults store.new }
     ensures fault { result ≡ Err ReshardRefusal.StoreFault → Rose (S.faults store.old) (S.faults store.new) }
 {
@@ -132,9 +137,14 @@ where
     requires from_dataset { length from_dataset.now ≤ 200 }
     requires to_dataset { length to_dataset.now ≤ 200 }
     requires to_key { length to_key.now ≤ 200 }
-    ensures copies { IfSome (S.objects store.old) (λ m. CopiesStored result (Ok from.now) (stored_scale m to_dataset.now to_key.now) m (S.objects store.new) from_dataset.now to_dataset.now) }
-    ensures kept { IfErr result (λ refusal. puts (reshard_status refusal) ≡ false → OnlyReads (S.objects store.old) (S.objects store.new) (S.draft store.old) (S.draft store.new)) }
+    ensures copies { IfSome (S.objects store.old) (λ m.
+        CopiesStored result (Ok from.now) (stored_scale m to_dataset.now to_key.now) m
+        (S.objects store.new) from_dataset.now to_dataset.now) }
+    ensures kept { IfErr result (λ refusal. puts (reshard_status refusal) ≡ false →
+        OnlyReads (S.objects store.old) (S.objects store.new) (S.draft store.old) (S.draft store.new)) }
     ensures draft { OnOk result (Drops (S.draft store.old) (S.draft store.new)) }
+    ensures unsharded { IfSome (S.objects store.old) (λ m.
+        DropsUnsharded (stored_scale m to_dataset.now to_key.now) (S.draft store.old) (S.draft store.new)) }
     ensures later { S.faults store.old ≤ S.faults store.new }
     ensures fault { result ≡ Err ReshardRefusal.StoreFault → Rose (S.faults store.old) (S.faults store.new) }
 {
@@ -172,9 +182,14 @@ where
     requires from_key { length from_key.now ≤ 200 }
     requires to_dataset { length to_dataset.now ≤ 200 }
     requires to_key { length to_key.now ≤ 200 }
-    ensures copies { IfSome (S.objects store.old) (λ m. CopiesStored result (stored_scale m from_dataset.now from_key.now) (stored_scale m to_dataset.now to_key.now) m (S.objects store.new) from_dataset.now to_dataset.now) }
-    ensures kept { IfErr result (λ refusal. puts (reshard_status refusal) ≡ false → OnlyReads (S.objects store.old) (S.objects store.new) (S.draft store.old) (S.draft store.new)) }
+    ensures copies { IfSome (S.objects store.old) (λ m.
+        CopiesStored result (stored_scale m from_dataset.now from_key.now)
+        (stored_scale m to_dataset.now to_key.now) m (S.objects store.new) from_dataset.now to_dataset.now) }
+    ensures kept { IfErr result (λ refusal. puts (reshard_status refusal) ≡ false →
+        OnlyReads (S.objects store.old) (S.objects store.new) (S.draft store.old) (S.draft store.new)) }
     ensures draft { OnOk result (Drops (S.draft store.old) (S.draft store.new)) }
+    ensures unsharded { IfSome (S.objects store.old) (λ m.
+        DropsUnsharded (stored_scale m to_dataset.now to_key.now) (S.draft store.old) (S.draft store.new)) }
     ensures later { S.faults store.old ≤ S.faults store.new }
     ensures fault { result ≡ Err ReshardRefusal.StoreFault → Rose (S.faults store.old) (S.faults store.new) }
 {

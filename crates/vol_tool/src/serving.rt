@@ -8,8 +8,8 @@ ghost use Rattle.vol_tool.specs.Servings.{AcceptsEnds, Announces, IsBoundTo, Por
 use crate::refusal::ServeRefusal;
 use range_server::{DoorRefusal, serve_ends};
 use std::alloc::Global;
-use vol_base::{Door, Name, Outlet, Store};
-use vol_shell::{write_all, write_listening_line};
+use vol_base::{Door, Name, Outlet, Store, write_all};
+use vol_shell::write_listening_line;
 
 // Binds a port of the door, or a free one for 0, and prints it.
 fn announce<O: Outlet, D: Door>(
@@ -53,13 +53,17 @@ pub(crate) fn serve<S: Store, O: Outlet, D: Door>(
 ) -> Result<(), ServeRefusal>
     requires unbound { D.bound door.old ≡ None }
     requires some { 1 ≤ connections }
-    ensures shows { IfSome (S.objects store.old) (λ m. ServeShows (status_of result) m dataset.now (doorway D.bound D.accepted D.served door.old)
+    ensures shows { IfSome (S.objects store.old) (λ m.
+        ServeShows (status_of result) m dataset.now (doorway D.bound D.accepted D.served door.old)
         (doorway D.bound D.accepted D.served door.new) (S.faults store.old) (S.faults store.new)) }
     ensures told { PortTold (status_of result) (D.bound door.new) (O.written out.old) (O.written out.new) }
     ensures bound { IsBoundTo port (D.bound door.new) }
-    ensures given { AcceptsEnds (status_of result) connections (doorway D.bound D.accepted D.served door.old) (doorway D.bound D.accepted D.served door.new) }
-    ensures first { TellsFirst (O.written out.old) (O.written out.new) (doorway D.bound D.accepted D.served door.old) (doorway D.bound D.accepted D.served door.new) }
-    ensures kept { OnlyReads (S.objects store.old) (S.objects store.new) (S.draft store.old) (S.draft store.new) }
+    ensures given { AcceptsEnds (status_of result) connections (doorway D.bound D.accepted D.served door.old)
+        (doorway D.bound D.accepted D.served door.new) }
+    ensures first { TellsFirst (O.written out.old) (O.written out.new)
+        (doorway D.bound D.accepted D.served door.old) (doorway D.bound D.accepted D.served door.new) }
+    ensures kept { OnlyReads (S.objects store.old) (S.objects store.new) (S.draft store.old)
+        (S.draft store.new) }
     ensures store_later { S.faults store.old ≤ S.faults store.new }
     ensures out_later { O.faults out.old ≤ O.faults out.new }
     ensures door_later { D.faults door.old ≤ D.faults door.new }

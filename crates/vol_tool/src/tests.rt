@@ -3,6 +3,7 @@
 mod copies;
 mod damages;
 mod generate;
+mod layers;
 mod plain;
 mod segments;
 mod serving;

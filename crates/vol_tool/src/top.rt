@@ -8,8 +8,9 @@ ghost use Rattle.shard_writer.specs.Writing.{Drops};
 ghost use Rattle.write_plan.specs.Stream.{writes_of};
 ghost use Rattle.vol_tool.specs.Cutouts.{AsksFor, CanCut, CutoutLeaves, CutoutShows};
 ghost use Rattle.vol_tool.specs.Generating.{CanGenerate, drawn, GenerateLeaves, GenerateShows};
-ghost use Rattle.vol_tool.specs.Resharding.{CanReshard, ReshardLeaves, ReshardShows};
+ghost use Rattle.vol_tool.specs.Resharding.{CanReshard, CopiedBack, DropsUnsharded, ReshardLeaves, ReshardShows};
 ghost use Rattle.vol_tool.specs.Runs.{Answers, Causes, Headline, Keeps, Leaves, Succeeds};
+ghost use Rattle.vol_tool.specs.Scales.{stored_scale};
 ghost use Rattle.vol_tool.specs.Seen.{doorway, outlets_of, Seen, view};
 ghost use Rattle.vol_tool.specs.Servings.{AcceptsEnds, ServeLeaves, ServeShows, TellsFirst};
 ghost use Rattle.vol_tool.specs.Storing.{CanWrite, puts, WriteJudges, WriteLeaves, WriteShows, WrittenBack};
@@ -48,9 +49,13 @@ fn run_cutout<S: Store, O: Outlet, E: Outlet>(
     ensures usage { result ≡ Status.Usage → ⊥ }
     ensures feed { result ≡ Status.FeedFault → ⊥ }
     ensures complete { (m : Objects) → S.objects store.old ≡ Some m → CanCut m dataset.now key.now part.now
-        → (Rose (S.faults store.old) (S.faults store.new) → ⊥) → (Rose (O.faults out.old) (O.faults out.new) → ⊥) → (result ≡ Status.Ok) ⊎ (result ≡ Status.NoMemory) }
-    ensures asked { IfSome (S.objects store.old) (λ m. AsksFor m dataset.now key.now part.now (S.asked store.old) (S.asked store.new)) }
-    ensures kept { OnlyReads (S.objects store.old) (S.objects store.new) (S.draft store.old) (S.draft store.new) }
+        → (Rose (S.faults store.old) (S.faults store.new) → ⊥)
+        → (Rose (O.faults out.old) (O.faults out.new) → ⊥)
+        → (result ≡ Status.Ok) ⊎ (result ≡ Status.NoMemory) }
+    ensures asked { IfSome (S.objects store.old) (λ m.
+        AsksFor m dataset.now key.now part.now (S.asked store.old) (S.asked store.new)) }
+    ensures kept { OnlyReads (S.objects store.old) (S.objects store.new) (S.draft store.old)
+        (S.draft store.new) }
     ensures store_later { S.faults store.old ≤ S.faults store.new }
     ensures out_later { O.faults out.old ≤ O.faults out.new }
     ensures err_later { E.faults err.old ≤ E.faults err.new }
@@ -81,22 +86,29 @@ where
     R: Threads + Wait + Sync,
     requires dataset { length dataset.now ≤ 200 }
     requires key { length key.now ≤ 200 }
-    ensures judges { IfSome (S.objects store.old) (λ m. WriteJudges result m dataset.now key.now (F.left feed.old) (F.left feed.new)
+    ensures judges { IfSome (S.objects store.old) (λ m.
+        WriteJudges result m dataset.now key.now (F.left feed.old) (F.left feed.new)
         (outlets_of O.written O.faults E.written E.faults out.old out.new err.old err.new)) }
-    ensures shows { IfSome (S.objects store.old) (λ m. IfSome (F.left feed.old) (λ bytes. WriteShows result m (S.objects store.new) bytes (F.left feed.new) dataset.now key.now
+    ensures shows { IfSome (S.objects store.old) (λ m.
+        IfSome (F.left feed.old) (λ bytes. WriteShows result m (S.objects store.new) bytes
+        (F.left feed.new) dataset.now key.now
         (outlets_of O.written O.faults E.written E.faults out.old out.new err.old err.new))) }
     ensures leaves { WriteLeaves result dataset.now
         (outlets_of O.written O.faults E.written E.faults out.old out.new err.old err.new) }
     ensures usage { result ≡ Status.Usage → ⊥ }
-    ensures complete { (m : Objects) (bytes : List ℕ) → S.objects store.old ≡ Some m → F.left feed.old ≡ Some bytes → CanWrite m (writes_of bytes) dataset.now key.now
-        → (Rose (S.faults store.old) (S.faults store.new) → ⊥) → (Rose (F.faults feed.old) (F.faults feed.new) → ⊥) → (Rose (O.faults out.old) (O.faults out.new) → ⊥)
+    ensures complete { (m : Objects) (bytes : List ℕ) → S.objects store.old ≡ Some m →
+        F.left feed.old ≡ Some bytes → CanWrite m (writes_of bytes) dataset.now key.now
+        → (Rose (S.faults store.old) (S.faults store.new) → ⊥)
+        → (Rose (F.faults feed.old) (F.faults feed.new) → ⊥)
+        → (Rose (O.faults out.old) (O.faults out.new) → ⊥)
         → (result ≡ Status.Ok) ⊎ (result ≡ Status.NoMemory) }
     ensures back { result ≡ Status.Ok → IfSome (S.objects store.old) (λ m. IfSome (F.left feed.old) (λ bytes.
         WrittenBack m (S.objects store.new) (writes_of bytes) dataset.now key.now)) }
     ensures end { result ≡ Status.Ok → F.left feed.new ≡ option_map (λ _. []) (F.left feed.old) }
     ensures unread { result ≡ Status.InfoRefused → F.left feed.new ≡ F.left feed.old }
     ensures draft { Drops (S.draft store.old) (S.draft store.new) }
-    ensures kept { puts result ≡ false → OnlyReads (S.objects store.old) (S.objects store.new) (S.draft store.old) (S.draft store.new) }
+    ensures kept { puts result ≡ false → OnlyReads (S.objects store.old) (S.objects store.new)
+        (S.draft store.old) (S.draft store.new) }
     ensures store_later { S.faults store.old ≤ S.faults store.new }
     ensures feed_later { F.faults feed.old ≤ F.faults feed.new }
     ensures out_later { O.faults out.old ≤ O.faults out.new }
@@ -136,16 +148,21 @@ where
     requires key { length key.now ≤ 200 }
     requires number { number < 2 ^ 31 }
     requires count { count ≤ 4096 }
-    ensures shows { IfSome (S.objects store.old) (λ m. GenerateShows result m (S.objects store.new) number count dataset.now key.now
+    ensures shows { IfSome (S.objects store.old) (λ m.
+        GenerateShows result m (S.objects store.new) number count dataset.now key.now
         (outlets_of O.written O.faults E.written E.faults out.old out.new err.old err.new)) }
     ensures leaves { GenerateLeaves result dataset.now count
         (outlets_of O.written O.faults E.written E.faults out.old out.new err.old err.new) }
-    ensures complete { (m : Objects) → S.objects store.old ≡ Some m → CanGenerate m number count dataset.now key.now
-        → (Rose (S.faults store.old) (S.faults store.new) → ⊥) → (Rose (O.faults out.old) (O.faults out.new) → ⊥)
+    ensures complete { (m : Objects) → S.objects store.old ≡ Some m →
+        CanGenerate m number count dataset.now key.now
+        → (Rose (S.faults store.old) (S.faults store.new) → ⊥)
+        → (Rose (O.faults out.old) (O.faults out.new) → ⊥)
         → (result ≡ Status.Ok) ⊎ (result ≡ Status.NoMemory) }
-    ensures back { result ≡ Status.Ok → IfSome (S.objects store.old) (λ m. WrittenBack m (S.objects store.new) (drawn number count) dataset.now key.now) }
+    ensures back { result ≡ Status.Ok → IfSome (S.objects store.old) (λ m.
+        WrittenBack m (S.objects store.new) (drawn number count) dataset.now key.now) }
     ensures draft { Drops (S.draft store.old) (S.draft store.new) }
-    ensures kept { puts result ≡ false → OnlyReads (S.objects store.old) (S.objects store.new) (S.draft store.old) (S.draft store.new) }
+    ensures kept { puts result ≡ false → OnlyReads (S.objects store.old) (S.objects store.new)
+        (S.draft store.old) (S.draft store.new) }
     ensures store_later { S.faults store.old ≤ S.faults store.new }
     ensures out_later { O.faults out.old ≤ O.faults out.new }
     ensures err_later { E.faults err.old ≤ E.faults err.new }
@@ -182,8 +199,11 @@ fn run_verify<S: Store, O: Outlet, E: Outlet>(
     ensures leaves { VerifyLeaves result dataset.now part.now
         (outlets_of O.written O.faults E.written E.faults out.old out.new err.old err.new) }
     ensures complete { (m : Objects) → S.objects store.old ≡ Some m → CanVerify m dataset.now key.now part.now
-        → (Rose (S.faults store.old) (S.faults store.new) → ⊥) → (Rose (O.faults out.old) (O.faults out.new) → ⊥) → (result ≡ Status.Ok) ⊎ (result ≡ Status.NoMemory) }
-    ensures kept { OnlyReads (S.objects store.old) (S.objects store.new) (S.draft store.old) (S.draft store.new) }
+        → (Rose (S.faults store.old) (S.faults store.new) → ⊥)
+        → (Rose (O.faults out.old) (O.faults out.new) → ⊥)
+        → (result ≡ Status.Ok) ⊎ (result ≡ Status.NoMemory) }
+    ensures kept { OnlyReads (S.objects store.old) (S.objects store.new) (S.draft store.old)
+        (S.draft store.new) }
     ensures store_later { S.faults store.old ≤ S.faults store.new }
     ensures out_later { O.faults out.old ≤ O.faults out.new }
     ensures err_later { E.faults err.old ≤ E.faults err.new }
@@ -221,14 +241,24 @@ where
     requires key { length key.now ≤ 200 }
     requires to_dataset { length to_dataset.now ≤ 200 }
     requires to_key { length to_key.now ≤ 200 }
-    ensures shows { IfSome (S.objects store.old) (λ m. ReshardShows result m (S.objects store.new) dataset.now key.now to_dataset.now to_key.now
+    ensures shows { IfSome (S.objects store.old) (λ m.
+        ReshardShows result m (S.objects store.new) dataset.now key.now to_dataset.now to_key.now
         (outlets_of O.written O.faults E.written E.faults out.old out.new err.old err.new)) }
     ensures leaves { ReshardLeaves result dataset.now to_dataset.now
         (outlets_of O.written O.faults E.written E.faults out.old out.new err.old err.new) }
-    ensures complete { (m : Objects) → S.objects store.old ≡ Some m → CanReshard m dataset.now key.now to_dataset.now to_key.now
-        → (Rose (S.faults store.old) (S.faults store.new) → ⊥) → (Rose (O.faults out.old) (O.faults out.new) → ⊥) → (result ≡ Status.Ok) ⊎ (result ≡ Status.NoMemory) }
+    ensures complete { (m : Objects) → S.objects store.old ≡ Some m →
+        CanReshard m dataset.now key.now to_dataset.now to_key.now
+        → (Rose (S.faults store.old) (S.faults store.new) → ⊥)
+        → (Rose (O.faults out.old) (O.faults out.new) → ⊥)
+        → (result ≡ Status.Ok) ⊎ (result ≡ Status.NoMemory) }
+    ensures back { result ≡ Status.Ok → IfSome (S.objects store.old) (λ m.
+        CopiedBack m (S.objects store.new) dataset.now key.now to_dataset.now to_key.now) }
     ensures draft { result ≡ Status.Ok → Drops (S.draft store.old) (S.draft store.new) }
-    ensures kept { puts result ≡ false → OnlyReads (S.objects store.old) (S.objects store.new) (S.draft store.old) (S.draft store.new) }
+    ensures draft_unprinted { result ≡ Status.OutFault → Drops (S.draft store.old) (S.draft store.new) }
+    ensures unsharded { IfSome (S.objects store.old) (λ m.
+        DropsUnsharded (stored_scale m to_dataset.now to_key.now) (S.draft store.old) (S.draft store.new)) }
+    ensures kept { puts result ≡ false → OnlyReads (S.objects store.old) (S.objects store.new)
+        (S.draft store.old) (S.draft store.new) }
     ensures store_later { S.faults store.old ≤ S.faults store.new }
     ensures out_later { O.faults out.old ≤ O.faults out.new }
     ensures err_later { E.faults err.old ≤ E.faults err.new }
@@ -264,15 +294,20 @@ fn run_serve<S: Store, O: Outlet, E: Outlet, D: Door>(
 ) -> Status
     requires unbound { D.bound door.old ≡ None }
     requires some { 1 ≤ connections }
-    ensures shows { IfSome (S.objects store.old) (λ m. ServeShows result m dataset.now (doorway D.bound D.accepted D.served door.old)
+    ensures shows { IfSome (S.objects store.old) (λ m.
+        ServeShows result m dataset.now (doorway D.bound D.accepted D.served door.old)
         (doorway D.bound D.accepted D.served door.new) (S.faults store.old) (S.faults store.new)) }
     ensures leaves { ServeLeaves result port (D.bound door.new)
         (outlets_of O.written O.faults E.written E.faults out.old out.new err.old err.new) }
-    ensures given { AcceptsEnds result connections (doorway D.bound D.accepted D.served door.old) (doorway D.bound D.accepted D.served door.new) }
-    ensures first { TellsFirst (O.written out.old) (O.written out.new) (doorway D.bound D.accepted D.served door.old) (doorway D.bound D.accepted D.served door.new) }
-    ensures complete { (Rose (D.faults door.old) (D.faults door.new) → ⊥) → (Rose (O.faults out.old) (O.faults out.new) → ⊥)
+    ensures given { AcceptsEnds result connections (doorway D.bound D.accepted D.served door.old)
+        (doorway D.bound D.accepted D.served door.new) }
+    ensures first { TellsFirst (O.written out.old) (O.written out.new)
+        (doorway D.bound D.accepted D.served door.old) (doorway D.bound D.accepted D.served door.new) }
+    ensures complete { (Rose (D.faults door.old) (D.faults door.new) → ⊥) →
+        (Rose (O.faults out.old) (O.faults out.new) → ⊥)
         → (result ≡ Status.Ok) ⊎ (result ≡ Status.NoMemory) }
-    ensures kept { OnlyReads (S.objects store.old) (S.objects store.new) (S.draft store.old) (S.draft store.new) }
+    ensures kept { OnlyReads (S.objects store.old) (S.objects store.new) (S.draft store.old)
+        (S.draft store.new) }
     ensures store_later { S.faults store.old ≤ S.faults store.new }
     ensures out_later { O.faults out.old ≤ O.faults out.new }
     ensures err_later { E.faults err.old ≤ E.faults err.new }
@@ -300,7 +335,8 @@ pub trait Viewed<S, F, O, E, D> {
 }
 
 impl<S: Store, F: Feed, O: Outlet, E: Outlet, D: Door> Viewed<S, F, O, E, D> for Outside {
-    ghost at = { view S.objects S.draft S.asked S.faults F.left F.faults O.written O.faults E.written E.faults D.bound D.accepted D.served D.faults };
+    ghost at = { view S.objects S.draft S.asked S.faults F.left F.faults O.written O.faults E.written E.faults
+        D.bound D.accepted D.served D.faults };
 }
 
 /// Runs the command that the words spell (those after the program's name) over a store, a feed, an output, an
@@ -330,6 +366,7 @@ where
         (at store.old feed.old out.old err.old door.old)
         (at store.new feed.new out.new err.new door.new) }
     // After a write each box inside the scale reads back: the last write at each voxel and channel.
+    // After a copy each box inside the target reads as the source did.
     ensures headline { let at = ⟦<Outside as Viewed<S, F, O, E, D>>⟧.at in
         Headline (line (map string_bytes words.now)) result
         (at store.old feed.old out.old err.old door.old)

@@ -62,10 +62,12 @@ fn judge_scale<S: Source>(
     part: &Option<Box3>,
 ) -> Result<Report, VerifyRefusal>
     requires dataset { length dataset.now ≤ 200 }
-    ensures judges { IfSome (S.objects store.old) (λ m. JudgesScale result m dataset.now scale.now (part_in scale.now part.now)) }
+    ensures judges { IfSome (S.objects store.old) (λ m.
+        JudgesScale result m dataset.now scale.now (part_in scale.now part.now)) }
     ensures both { IfOk result (λ report. report.stored + report.absent ≡ report.cells) }
     ensures asked { IfErr result (λ refusal. IsAsked refusal part.now) }
-    ensures kept { OnlyReads (S.objects store.old) (S.objects store.new) (S.draft store.old) (S.draft store.new) }
+    ensures kept { OnlyReads (S.objects store.old) (S.objects store.new) (S.draft store.old)
+        (S.draft store.new) }
     ensures later { S.faults store.old ≤ S.faults store.new }
     ensures fault { result ≡ Err VerifyRefusal.StoreFault → Rose (S.faults store.old) (S.faults store.new) }
 {
@@ -86,10 +88,12 @@ pub(crate) fn judge_stored<S: Source>(
 ) -> Result<Report, VerifyRefusal>
     requires dataset { length dataset.now ≤ 200 }
     requires key { length key.now ≤ 200 }
-    ensures judges { IfSome (S.objects store.old) (λ m. JudgesStored result (stored_scale m dataset.now key.now) m dataset.now part.now) }
+    ensures judges { IfSome (S.objects store.old) (λ m.
+        JudgesStored result (stored_scale m dataset.now key.now) m dataset.now part.now) }
     ensures both { IfOk result (λ report. report.stored + report.absent ≡ report.cells) }
     ensures asked { IfErr result (λ refusal. IsAsked refusal part.now) }
-    ensures kept { OnlyReads (S.objects store.old) (S.objects store.new) (S.draft store.old) (S.draft store.new) }
+    ensures kept { OnlyReads (S.objects store.old) (S.objects store.new) (S.draft store.old)
+        (S.draft store.new) }
     ensures later { S.faults store.old ≤ S.faults store.new }
     ensures fault { result ≡ Err VerifyRefusal.StoreFault → Rose (S.faults store.old) (S.faults store.new) }
 {
@@ -105,7 +109,8 @@ pub(crate) fn print_report<O: Outlet>(
     out: &mut O,
     report: &Report,
 ) -> Result<(), WriteRefusal>
-    ensures prints { Prints result (O.written out.old) (O.written out.new) (verified_line report.now.cells report.now.stored report.now.absent) }
+    ensures prints { Prints result (O.written out.old) (O.written out.new)
+        (verified_line report.now.cells report.now.stored report.now.absent) }
     ensures later { O.faults out.old ≤ O.faults out.new }
     ensures fault { result ≡ Err WriteRefusal.OutFault → Rose (O.faults out.old) (O.faults out.new) }
 {

@@ -20,8 +20,8 @@ use shard_writer::{WriteFault, Written, write_scale};
 use std::alloc::Global;
 use std::sync::Wait;
 use std::thread::Threads;
-use vol_base::{Feed, Gate, Name, Outlet, Store};
-use vol_shell::{write_all, write_written_line};
+use vol_base::{Feed, Gate, Name, Outlet, Store, write_all};
+use vol_shell::write_written_line;
 use write_plan::{Plan, Writes, read_writes};
 
 /// Refuses a scale that passes the writing limit.
@@ -60,9 +60,11 @@ where
     requires writable { IsWritable scale.now }
     requires scale { plan.old.scale ≡ scale.now }
     requires few { pairs scale.now plan.old.writes ≤ 2 ^ 22 }
-    ensures put { IfSome (S.objects store.old) (λ m. PutsWrites result m (S.objects store.new) dataset.now scale.now plan.old.writes) }
+    ensures put { IfSome (S.objects store.old) (λ m.
+        PutsWrites result m (S.objects store.new) dataset.now scale.now plan.old.writes) }
     ensures draft { Drops (S.draft store.old) (S.draft store.new) }
-    ensures kept { IfErr result (λ refusal. KeepsPlan refusal (S.objects store.old) (S.objects store.new) (S.draft store.old) (S.draft store.new)) }
+    ensures kept { IfErr result (λ refusal. KeepsPlan refusal (S.objects store.old) (S.objects store.new)
+        (S.draft store.old) (S.draft store.new)) }
     ensures later { S.faults store.old ≤ S.faults store.new }
     ensures fault { result ≡ Err WriteRefusal.StoreFault → Rose (S.faults store.old) (S.faults store.new) }
 {
@@ -90,9 +92,11 @@ where
     requires dataset { length dataset.now ≤ 200 }
     requires writable { IsWritable scale.now }
     requires fits { All (IsWriteOf scale.now) writes }
-    ensures put { IfSome (S.objects store.old) (λ m. PutsWrites result m (S.objects store.new) dataset.now scale.now writes) }
+    ensures put { IfSome (S.objects store.old) (λ m.
+        PutsWrites result m (S.objects store.new) dataset.now scale.now writes) }
     ensures draft { Drops (S.draft store.old) (S.draft store.new) }
-    ensures kept { IfErr result (λ refusal. KeepsPlan refusal (S.objects store.old) (S.objects store.new) (S.draft store.old) (S.draft store.new)) }
+    ensures kept { IfErr result (λ refusal. KeepsPlan refusal (S.objects store.old) (S.objects store.new)
+        (S.draft store.old) (S.draft store.new)) }
     ensures later { S.faults store.old ≤ S.faults store.new }
     ensures fault { result ≡ Err WriteRefusal.StoreFault → Rose (S.faults store.old) (S.faults store.new) }
 {
@@ -115,15 +119,20 @@ where
     R: Threads + Wait + Sync,
     requires dataset { length dataset.now ≤ 200 }
     requires writable { IsWritable scale.now }
-    requires empty { IfSome (S.objects store.old) (λ m. any_under m (folder_of dataset.now scale.now) ≡ false) }
+    requires empty { IfSome (S.objects store.old) (λ m.
+        any_under m (folder_of dataset.now scale.now) ≡ false) }
     ensures judges { IfSome (S.objects store.old) (λ m. Judges result (Ok scale.now) m dataset.now) }
-    ensures writes { (key : List ℕ) → IfSome (S.objects store.old) (λ m. IfSome (F.left feed.old) (λ bytes. WritesScale result m (S.objects store.new) (writes_of bytes scale.now) dataset.now key scale.now)) }
+    ensures writes { (key : List ℕ) → IfSome (S.objects store.old) (λ m.
+        IfSome (F.left feed.old) (λ bytes. WritesScale result m (S.objects store.new)
+        (writes_of bytes scale.now) dataset.now key scale.now)) }
     ensures feed { KeepsFeed result (F.left feed.old) (F.left feed.new) }
     ensures draft { Drops (S.draft store.old) (S.draft store.new) }
-    ensures kept { IfErr result (λ refusal. KeepsStore refusal (S.objects store.old) (S.objects store.new) (S.draft store.old) (S.draft store.new)) }
+    ensures kept { IfErr result (λ refusal. KeepsStore refusal (S.objects store.old) (S.objects store.new)
+        (S.draft store.old) (S.draft store.new)) }
     ensures later { S.faults store.old ≤ S.faults store.new }
     ensures feed_later { F.faults feed.old ≤ F.faults feed.new }
-    ensures store_fault { result ≡ Err WriteRefusal.StoreFault → Rose (S.faults store.old) (S.faults store.new) }
+    ensures store_fault { result ≡ Err WriteRefusal.StoreFault →
+        Rose (S.faults store.old) (S.faults store.new) }
     ensures feed_fault { result ≡ Err WriteRefusal.FeedFault → Rose (F.faults feed.old) (F.faults feed.new) }
 {
     let writes = read_writes(alloc, feed, scale)?;
@@ -147,13 +156,17 @@ where
     requires dataset { length dataset.now ≤ 200 }
     requires writable { IsWritable scale.now }
     ensures judges { IfSome (S.objects store.old) (λ m. Judges result (Ok scale.now) m dataset.now) }
-    ensures writes { (key : List ℕ) → IfSome (S.objects store.old) (λ m. IfSome (F.left feed.old) (λ bytes. WritesScale result m (S.objects store.new) (writes_of bytes scale.now) dataset.now key scale.now)) }
+    ensures writes { (key : List ℕ) → IfSome (S.objects store.old) (λ m.
+        IfSome (F.left feed.old) (λ bytes. WritesScale result m (S.objects store.new)
+        (writes_of bytes scale.now) dataset.now key scale.now)) }
     ensures feed { KeepsFeed result (F.left feed.old) (F.left feed.new) }
     ensures draft { Drops (S.draft store.old) (S.draft store.new) }
-    ensures kept { IfErr result (λ refusal. KeepsStore refusal (S.objects store.old) (S.objects store.new) (S.draft store.old) (S.draft store.new)) }
+    ensures kept { IfErr result (λ refusal. KeepsStore refusal (S.objects store.old) (S.objects store.new)
+        (S.draft store.old) (S.draft store.new)) }
     ensures later { S.faults store.old ≤ S.faults store.new }
     ensures feed_later { F.faults feed.old ≤ F.faults feed.new }
-    ensures store_fault { result ≡ Err WriteRefusal.StoreFault → Rose (S.faults store.old) (S.faults store.new) }
+    ensures store_fault { result ≡ Err WriteRefusal.StoreFault →
+        Rose (S.faults store.old) (S.faults store.new) }
     ensures feed_fault { result ≡ Err WriteRefusal.FeedFault → Rose (F.faults feed.old) (F.faults feed.new) }
 {
     match store.any_under(&find_folder(dataset, scale)) {
@@ -179,14 +192,19 @@ where
     R: Threads + Wait + Sync,
     requires dataset { length dataset.now ≤ 200 }
     requires key { length key.now ≤ 200 }
-    ensures judges { IfSome (S.objects store.old) (λ m. Judges result (stored_scale m dataset.now key.now) m dataset.now) }
-    ensures writes { IfSome (S.objects store.old) (λ m. IfSome (F.left feed.old) (λ bytes. WritesAll result (stored_scale m dataset.now key.now) m (S.objects store.new) (writes_of bytes) dataset.now key.now)) }
+    ensures judges { IfSome (S.objects store.old) (λ m.
+        Judges result (stored_scale m dataset.now key.now) m dataset.now) }
+    ensures writes { IfSome (S.objects store.old) (λ m.
+        IfSome (F.left feed.old) (λ bytes. WritesAll result (stored_scale m dataset.now key.now) m
+        (S.objects store.new) (writes_of bytes) dataset.now key.now)) }
     ensures feed { KeepsFeed result (F.left feed.old) (F.left feed.new) }
     ensures draft { Drops (S.draft store.old) (S.draft store.new) }
-    ensures kept { IfErr result (λ refusal. KeepsStore refusal (S.objects store.old) (S.objects store.new) (S.draft store.old) (S.draft store.new)) }
+    ensures kept { IfErr result (λ refusal. KeepsStore refusal (S.objects store.old) (S.objects store.new)
+        (S.draft store.old) (S.draft store.new)) }
     ensures later { S.faults store.old ≤ S.faults store.new }
     ensures feed_later { F.faults feed.old ≤ F.faults feed.new }
-    ensures store_fault { result ≡ Err WriteRefusal.StoreFault → Rose (S.faults store.old) (S.faults store.new) }
+    ensures store_fault { result ≡ Err WriteRefusal.StoreFault →
+        Rose (S.faults store.old) (S.faults store.new) }
     ensures feed_fault { result ≡ Err WriteRefusal.FeedFault → Rose (F.faults feed.old) (F.faults feed.new) }
 {
     let scale = read_scale(alloc, store, dataset, key)?;
@@ -212,7 +230,8 @@ pub(crate) fn print_written<O: Outlet>(
     out: &mut O,
     written: &Written,
 ) -> Result<(), WriteRefusal>
-    ensures prints { Prints result (O.written out.old) (O.written out.new) (written_line written.now.objects written.now.cells) }
+    ensures prints { Prints result (O.written out.old) (O.written out.new)
+        (written_line written.now.objects written.now.cells) }
     ensures later { O.faults out.old ≤ O.faults out.new }
     ensures fault { result ≡ Err WriteRefusal.OutFault → Rose (O.faults out.old) (O.faults out.new) }
 {

@@ -1,4 +1,4 @@
--- Places on one axis, and what two boxes have in common.
+-- Places on one axis, and what two boxes have in common (this project's).
 use Rattle.std.specs.Prelude.{◌↔◌, ℕ, ℤ, pos, ◌+ℤ◌, ◌≤ℤ◌, ◌<ℤ◌, List}
 use Rattle.vol_base.specs.declared.boxes.Box3.{Box3}
 use Rattle.vol_base.specs.Boxes.{Covers}

@@ -1,4 +1,4 @@
--- Where a part of a box lies in its raw bytes.
+-- Where a part of a box, which is a box inside it, lies in its raw bytes (this project's).
 use Rattle.std.specs.Prelude.{◌≡◌, ℕ, ◌*◌, List, [], ◌∷◌, slice_index}
 use Rattle.voxel_raw.specs.declared.axes.Axis.{Axis}
 use Rattle.voxel_raw.specs.declared.axes.Run.{Run}
@@ -23,6 +23,20 @@ run_of at to_at size w = record { from = at.x; to = to_at.x; len = w * slice_ind
 abbrev pub axes_of : Place → Place → List ℕ → ℕ → List Axis
 axes_of at to_at size channels =
     record { from = 0; from_stride = at.volume; to = 0; to_stride = to_at.volume; count = channels }
-    ∷ record { from = at.z; from_stride = at.plane; to = to_at.z; to_stride = to_at.plane; count = slice_index size 2 }
-    ∷ record { from = at.y; from_stride = at.row; to = to_at.y; to_stride = to_at.row; count = slice_index size 1 }
+    ∷ record {
+      from = at.z;
+      from_stride = at.plane;
+      to = to_at.z;
+      to_stride = to_at.plane;
+      count =
+          slice_index size 2;
+    }
+    ∷ record {
+      from = at.y;
+      from_stride = at.row;
+      to = to_at.y;
+      to_stride = to_at.row;
+      count =
+          slice_index size 1;
+    }
     ∷ []

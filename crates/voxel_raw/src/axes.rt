@@ -33,7 +33,8 @@ fn put_run<S: Source + Drop>(run: &Run, from: &S, to: &mut [u8])
 fn put_bytes<S: Source + Drop>(from: &S, at: usize, to: &mut [u8], to_at: usize, len: usize)
     requires source { at + len ≤ length (S.bytes from.now) }
     requires target { to_at + len ≤ length to.old }
-    ensures copied { (k : ℕ) → k < len → slice_index to.new (to_at + k) ≡ slice_index (S.bytes from.now) (at + k) }
+    ensures copied { (k : ℕ) → k < len → slice_index to.new (to_at + k)
+        ≡ slice_index (S.bytes from.now) (at + k) }
     ensures kept { (i : ℕ) → (i < to_at) ⊎ (to_at + len ≤ i) → slice_index to.new i ≡ slice_index to.old i }
 {
     from.part(at, len).put(&mut to[to_at..to_at + len]);

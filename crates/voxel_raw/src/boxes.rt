@@ -66,10 +66,13 @@ fn put_places<S: Source + Drop>(
     w: usize,
 )
     requires small { length (S.bytes from.now) ≤ 2 ^ 30 }
-    requires source { FitsFrom (run_of at.now to_at.now size.now w) (axes_of at.now to_at.now size.now channels) (length (S.bytes from.now)) }
-    requires target { FitsTo (run_of at.now to_at.now size.now w) (axes_of at.now to_at.now size.now channels) (length to.old) }
+    requires source { FitsFrom (run_of at.now to_at.now size.now w)
+        (axes_of at.now to_at.now size.now channels) (length (S.bytes from.now)) }
+    requires target { FitsTo (run_of at.now to_at.now size.now w) (axes_of at.now to_at.now size.now channels)
+        (length to.old) }
     requires row { w * slice_index size.now 0 ≤ at.now.row }
-    ensures { Copied (run_of at.now to_at.now size.now w) (axes_of at.now to_at.now size.now channels) (S.bytes from.now) to.old to.new }
+    ensures { Copied (run_of at.now to_at.now size.now w) (axes_of at.now to_at.now size.now channels)
+        (S.bytes from.now) to.old to.new }
 {
     let run = Run {
         from: at.x,

@@ -21,7 +21,8 @@ fn count_bytes(part: &Box3, channels: u32, width: u32) -> u64
 /// A length that isn't this one is `ChunkLength`.
 pub fn check_len(found: u64, part: &Box3, channels: u32, width: u32) -> Result<(), ChunkFault>
     requires { raw_len part.now channels width < 2 ^ 64 }
-    ensures { result ≡ (if found == raw_len part.now channels width then Ok tt else Err (ChunkFault.ChunkLength found (raw_len part.now channels width))) }
+    ensures { result ≡ (if found == raw_len part.now channels width then Ok tt
+        else Err (ChunkFault.ChunkLength found (raw_len part.now channels width))) }
 {
     let wanted = count_bytes(part, channels, width);
     if found == wanted {

@@ -1,4 +1,4 @@
--- The jobs of a writer, and what preparing them answers.
+-- The jobs of a writer, and what preparing them answers (this project's).
 use Rattle.std.specs.Prelude.{◌≡◌, ◌≢◌, ℕ, ◌/◌, ◌^◌, ◌≤◌, ◌<◌, min, max, List, [], length, map, slice_index_or, Option, Some, None, Result, Ok, Err, ⊤, IsErrOf}
 use Rattle.std.specs.FinMap as fin
 use Rattle.std.specs.List.{range_with_len}
@@ -23,7 +23,16 @@ use Rattle.write_plan.specs.declared.chunks.PrepareFault.TheVariants.{StoreFault
 abbrev pub job_by : Option Sharding → Scale → Cell → Job
 job_by None s cell = record { cell = cell; id = 0; place = record { shard = 0; minishard = 0 } }
 job_by (Some sharding) s cell =
-    record { cell = cell; id = id_of s cell; place = record { shard = shard_of sharding (id_of s cell); minishard = minishard_of sharding (id_of s cell) } }
+    record {
+      cell = cell;
+      id = id_of s cell;
+      place =
+          record {
+            shard = shard_of sharding (id_of s cell);
+            minishard =
+                minishard_of sharding (id_of s cell);
+          };
+    }
 
 abbrev pub job_of : Scale → Cell → Job
 job_of s cell = job_by s.sharding s cell
@@ -41,7 +50,12 @@ cells_in jobs = map (λ (job : Job). job.cell) jobs
 
 -- a job of a list of jobs
 abbrev pub job_at : List Job → ℕ → Job
-job_at jobs n = slice_index_or jobs n (record { cell = []; id = 0; place = record { shard = 0; minishard = 0 } })
+job_at jobs n = slice_index_or jobs n (record {
+  cell = [];
+  id = 0;
+  place =
+      record { shard = 0; minishard = 0 };
+})
 
 -- jobs: the cells of a scale, and over objects the raw bytes of each job's cell, and its fault with the cell that has it, or none
 pub record Work : Type 0 where
@@ -64,7 +78,8 @@ FitsJob work job bytes = length bytes ≡ raw_size work.scale (cell_of work.cell
 
 -- what is told of jobs over objects stays where only another job's object is stored
 abbrev pub StaysBeside : {A : Type 0} → Name → Scale → List Cell → (Objects → ℕ → A) → Type 0
-StaysBeside dataset s cells told = (m : Objects) (bytes : Bytes) (i j : ℕ) → i < length cells → j < length cells
+StaysBeside dataset s cells told = (m : Objects) (bytes : Bytes) (i j : ℕ) → i < length cells →
+    j < length cells
     → object_of dataset s (cell_of cells i) ≢ object_of dataset s (cell_of cells j)
     → told (fin.insert m (object_of dataset s (cell_of cells i)) bytes) j ≡ told m j
 
@@ -75,7 +90,8 @@ pub record KeepsOthers (dataset : Name) (s : Scale) (work : Work) : Type 0 where
 
 -- the bytes of the larger of a cell's raw and encoded chunks at most
 abbrev pub frame_len : Scale → ℕ
-frame_len s = max (first_bytes s.width s.channels s.size s.chunk) (limit_of s.encoding s.width s.channels s.size s.chunk)
+frame_len s = max (first_bytes s.width s.channels s.size s.chunk)
+    (limit_of s.encoding s.width s.channels s.size s.chunk)
 
 -- how many jobs are prepared at once: as many as have 2^28 bytes, at least 2 and at most 256 (this project's limit)
 abbrev pub window_of : Scale → ℕ

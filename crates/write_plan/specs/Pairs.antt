@@ -1,4 +1,4 @@
--- Pairs of a cell's number in the grid and the number of a write that meets it.
+-- Pairs of a cell's number in the grid and the number of a write that meets it (this project's).
 use Rattle.std.specs.Prelude.{◌≡◌, ℕ, ◌+◌, ◌*◌, ◌<◌, ◌==◌, List, [], ◌∷◌, ◌++◌, length, map, filter, slice_index_or}
 use Rattle.std.specs.List.{All, Contains}
 use Rattle.std.specs.List.Sorted.{IsNonDecreasingBy}
@@ -37,7 +37,8 @@ pub record ArePairs (s : Scale) (writes : List BoxWrite) (ps : List Pair) : Type
   pub within : All (λ pair. pair.write < length writes) ps
   pub below : All (λ pair. pair.number < cell_count s) ps
   pub ordered : IsNonDecreasingBy (λ pair. pair.number) ps
-  pub runs : (cell : List ℕ) (d : BoxWrite) → IsCell s cell → writes_of_run writes d (run_of ps (cell_number s cell)) ≡ filter (λ w. meets s w.0 cell) writes
+  pub runs : (cell : List ℕ) (d : BoxWrite) → IsCell s cell →
+      writes_of_run writes d (run_of ps (cell_number s cell)) ≡ filter (λ w. meets s w.0 cell) writes
 
 -- distinct cells in the order of the grid, which are those of the pairs' numbers
 pub record AreRead (s : Scale) (ps : List Pair) (cells : List Cell) : Type 0 where

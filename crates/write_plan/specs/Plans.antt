@@ -1,4 +1,4 @@
--- Plans of writes.
+-- Plans of writes (this project's).
 use Rattle.std.specs.Prelude.{ℕ, List, Option, Some, None, if◌then◌else◌, length, map, nat_lt, sum}
 use Rattle.vol_base.specs.declared.faults.Fault.{Fault}
 use Rattle.vol_base.specs.Outside.{Objects}
@@ -34,7 +34,13 @@ no_fault plan m job = None
 
 -- the jobs of a plan
 abbrev pub work_of : Planned → Work
-work_of plan = record { scale = plan.scale; cells = planned_cells plan; raw = raw_of plan; fault = no_fault plan }
+work_of plan = record {
+  scale = plan.scale;
+  cells = planned_cells plan;
+  raw = raw_of plan;
+  fault =
+      no_fault plan;
+}
 
 -- each job's raw bytes are ready
 abbrev pub ready_of : Planned → ℕ → Option (List ℕ)

@@ -1,4 +1,5 @@
--- What readers of a feed do. What is left before and after a call is an option: it is there where the feed tells it.
+-- What readers of a feed do (this project's). What is left before and after a call is an option: it is there
+-- where the feed tells it.
 use Rattle.std.specs.Prelude.{◌≡◌, ℕ, ◌+◌, ◌^◌, ◌≤◌, IsTrue, Bool, true, false, List, length, take, drop, Option, IfSome, Result, Ok, Err, IsErrOf}
 use Rattle.std.specs.Option.{option_map}
 use Rattle.vol_base.specs.Causes.{Rose}
@@ -40,7 +41,8 @@ abbrev pub gives : {A : Type 0} → A → List ℕ → Result (A × List ℕ) Pl
 gives value rest = Ok (value, rest)
 
 -- reading gives this value, and leaves what is left
-abbrev pub Gave : {A : Type 0} → (List ℕ → Result (A × List ℕ) PlanFault) → Option (List ℕ) → Option (List ℕ) → A → Type 0
+abbrev pub Gave : {A : Type 0} → (List ℕ → Result (A × List ℕ) PlanFault) → Option (List ℕ) →
+    Option (List ℕ) → A → Type 0
 Gave read before now value = option_map read before ≡ option_map (gives value) now
 
 -- reading gives this fault, if it is one of the stream

@@ -1,4 +1,5 @@
--- The stream of box writes as it is read from the front, with what is left behind what was read.
+-- The stream of box writes as it is read from the front, with what is left behind what was read (this
+-- project's).
 use Rattle.std.specs.Prelude.{ℕ, zero, suc, ◌+◌, ◌^◌, ◌==◌, not, nat_lt, List, [], ◌∷◌, ◌++◌, length, take, drop, Result, Ok, Err, if◌then◌else◌}
 use Rattle.std.specs.Int.{w32, from_le_bytes}
 use Rattle.std.specs.Str.{bytes_eq}

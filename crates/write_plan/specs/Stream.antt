@@ -37,7 +37,8 @@ is_empty b = list_any (λ axis. size b axis == 0) (0 ∷ 1 ∷ 2 ∷ [])
 
 -- on each axis the box begins and ends within the scale
 abbrev pub is_within : Scale → Box3 → Bool
-is_within s b = list_all (λ axis. int_le (at s.offset axis) (at b.begin axis) && int_le (end b axis) (end (whole s) axis)) (0 ∷ 1 ∷ 2 ∷ [])
+is_within s b = list_all (λ axis. int_le (at s.offset axis) (at b.begin axis) && int_le (end b axis)
+    (end (whole s) axis)) (0 ∷ 1 ∷ 2 ∷ [])
 
 -- the place of a write: behind the mark, the count and, for each write before it, a head of 48 bytes and its values
 abbrev pub place : List BoxWrite → ℕ
@@ -52,7 +53,11 @@ len_behind s bytes before = raw_len (box_behind bytes before) s.channels s.width
 
 -- the write itself
 abbrev pub write_behind : Scale → Bytes → List BoxWrite → BoxWrite
-write_behind s bytes before = (box_behind bytes before, take (len_behind s bytes before) (drop (place before + 48) bytes))
+write_behind s bytes before = (
+  box_behind bytes before,
+  take (len_behind s bytes before)
+      (drop (place before + 48) bytes),
+)
 
 -- a fault where a test holds
 abbrev pub fault_if : Bool → PlanFault → Option PlanFault
@@ -77,7 +82,8 @@ write_fault s bytes before = first_some (
     ∷ fault_if (is_empty (box_behind bytes before)) (EmptyBox (length before))
     ∷ fault_if (not (is_within s (box_behind bytes before))) (OutsideBox (length before))
     ∷ fault_if (nat_lt (2 ^ 30) (total before + len_behind s bytes before)) (WritesTooLarge (length before))
-    ∷ fault_if (nat_lt (length bytes) (place before + 48 + len_behind s bytes before)) (Truncated (length before))
+    ∷ fault_if (nat_lt (length bytes) (place before + 48 + len_behind s bytes before))
+    (Truncated (length before))
     ∷ [])
 
 -- the first n writes, as long as none has a fault

@@ -1,4 +1,5 @@
--- The texts of the faults of a stream of writes: of the stream as a whole, or of a write by its number.
+-- The texts of the faults of a stream of writes (this project's): of the stream as a whole, or of a write by
+-- its number.
 use Rattle.std.specs.Prelude.{ℕ, List, [], ◌∷◌, codes}
 use Rattle.std.specs.Fmt.{decimal}
 use Rattle.vol_base.specs.FaultTexts.{texts}

@@ -1,4 +1,4 @@
--- Writes of boxes.
+-- Writes of boxes (this project's).
 use Rattle.std.specs.Prelude.{◌≡◌, ℕ, ◌<◌, ◌≤◌, ◌^◌, List, [], length, map, slice_index_or, sum}
 use Rattle.std.specs.List.{All}
 use Rattle.vol_base.specs.declared.boxes.Box3.{Box3}

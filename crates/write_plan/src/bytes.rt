@@ -14,7 +14,8 @@ use vol_base::{Failed, Feed};
 fn fill<F: Feed>(feed: &mut F, buffer: &mut [u8]) -> Result<usize, Failed>
     ensures within { IfOk result (λ n. n ≤ length buffer.old) }
     ensures came { IfOk result (λ n. Came n (F.left feed.old) buffer.new) }
-    ensures end { IfOk result (λ n. n < length buffer.old → IfSome (F.left feed.old) (λ bytes. length bytes ≤ n)) }
+    ensures end { IfOk result (λ n. n < length buffer.old →
+        IfSome (F.left feed.old) (λ bytes. length bytes ≤ n)) }
     ensures left { IfOk result (λ n. F.left feed.new ≡ option_map (drop n) (F.left feed.old)) }
     ensures took { Took (length buffer.old) (F.left feed.old) (F.left feed.new) }
     ensures cause { HasCause (F.faults feed.old) (F.faults feed.new) result }
@@ -37,7 +38,8 @@ pub(crate) fn read_front<F: Feed>(
     fault: PlanFault,
 ) -> Result<(), PlanFault>
     requires { IsTrue (of_stream fault) }
-    ensures gave { OnOk result (Gave (front (length buffer.old) fault) (F.left feed.old) (F.left feed.new) buffer.new) }
+    ensures gave { OnOk result (Gave (front (length buffer.old) fault) (F.left feed.old)
+        (F.left feed.new) buffer.new) }
     ensures bytes { AreBytes buffer.new }
     ensures refused { IfErr result (Refused (front (length buffer.old) fault) (F.left feed.old)) }
     ensures took { Took (length buffer.old) (F.left feed.old) (F.left feed.new) }
@@ -57,7 +59,8 @@ pub(crate) fn read_values<F: Feed>(
     fault: PlanFault,
 ) -> Result<Vec<u8>, PlanFault>
     requires { IsTrue (of_stream fault) }
-    ensures gave { IfOk result (λ bytes. Gave (front len fault) (F.left feed.old) (F.left feed.new) bytes.items) }
+    ensures gave { IfOk result (λ bytes. Gave (front len fault) (F.left feed.old)
+        (F.left feed.new) bytes.items) }
     ensures len { IfOk result (λ bytes. length bytes.items ≡ len) }
     ensures bytes { IfOk result (λ bytes. AreBytes bytes.items) }
     ensures refused { IfErr result (Refused (front len fault) (F.left feed.old)) }

@@ -45,8 +45,10 @@ pub trait Chunks {
         requires within { to ≤ length (work self.old).cells }
         requires window { to - from ≤ window_of (work self.old).scale }
         ensures prepared { OnOk result ((job : ℕ) → from ≤ job → job < to → IsSome (ready self.new job)) }
-        ensures ready { OnOk result (IfSome (S.objects store.old) (λ m. AreReady (ready self.new) ((work self.old).raw m) from to)) }
-        ensures answer { IfSome (S.objects store.old) (λ m. Prepares result (jobs_fault (work self.old) m from (to - from))) }
+        ensures ready { OnOk result (IfSome (S.objects store.old) (λ m.
+            AreReady (ready self.new) ((work self.old).raw m) from to)) }
+        ensures answer { IfSome (S.objects store.old) (λ m.
+            Prepares result (jobs_fault (work self.old) m from (to - from))) }
         ensures sure { sure self.old → IsOk result × sure self.new }
         ensures work { work self.new ≡ work self.old }
         ensures apart { (dataset : List ℕ) (s : Scale) → apart self.old dataset s → apart self.new dataset s }
@@ -66,9 +68,11 @@ pub trait Chunks {
     ghost fits: { (c : Self) (job : ℕ) → IfSome (ready c job) (FitsJob (work c) job) };
 
     /// The raw bytes of a job over objects are as many, too.
-    ghost lens: { (c : Self) (m : Objects) (job : ℕ) → job < length (work c).cells → FitsJob (work c) job ((work c).raw m job) };
+    ghost lens: { (c : Self) (m : Objects) (job : ℕ) → job < length (work c).cells →
+        FitsJob (work c) job ((work c).raw m job) };
 
     /// Where the jobs are apart from a data set and a scale, storing one job's object leaves the raw
     /// bytes and the faults of the jobs in other objects.
-    ghost kept: { (c : Self) (dataset : List ℕ) (s : Scale) → apart c dataset s → KeepsOthers dataset s (work c) };
+    ghost kept: { (c : Self) (dataset : List ℕ) (s : Scale) → apart c dataset s →
+        KeepsOthers dataset s (work c) };
 }

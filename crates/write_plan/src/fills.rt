@@ -39,7 +39,8 @@ fn apply_run(writes: &[Write], run: &[Pair], cell: &Box3, raw: &mut [u8], channe
     requires source { All (λ w. HoldsValues w.0 channels width (length w.1)) (writes_in writes.now) }
     requires target { HoldsValues cell.now channels width (length raw.old) }
     requires zero { Shows cell.now channels width [] raw.old }
-    ensures { (d : BoxWrite) → Shows cell.now channels width (writes_of_run (writes_in writes.now) d run.now) raw.new }
+    ensures { (d : BoxWrite) → Shows cell.now channels width
+        (writes_of_run (writes_in writes.now) d run.now) raw.new }
 {
     for pair in run {
         apply(&writes[pair.write as usize], cell, raw, channels, width);

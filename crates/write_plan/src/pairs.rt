@@ -67,7 +67,8 @@ fn push_pairs(
     pairs: &mut Vec<Pair>,
 ) -> Result<(), AllocError>
     requires { Inside scale.now part.now }
-    ensures { OnOk result (pairs.new.items ≡ pairs.old.items ++ map (pair_of scale.now write) (cells_in scale.now part.now)) }
+    ensures { OnOk result (pairs.new.items ≡ pairs.old.items
+        ++ map (pair_of scale.now write) (cells_in scale.now part.now)) }
 {
     for cell in cells_in_box(scale, part) {
         let number = find_number(scale, cell);

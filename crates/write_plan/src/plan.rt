@@ -55,7 +55,8 @@ impl Plan {
     pub fn of(alloc: Global, scale: &Scale, writes: Writes) -> Result<Plan, PlanRefusal>
         requires { All (IsWriteOf scale.now) writes }
         ensures plan { IfOk result (λ plan. plan ≡ record { scale = scale.now; writes = writes }) }
-        ensures too_many { (cells : ℕ) → (result ≡ Err (PlanRefusal.TooManyCells cells)) ↔ ((2 ^ 22 < count_of scale.now writes) × (cells ≡ count_of scale.now writes)) }
+        ensures too_many { (cells : ℕ) → (result ≡ Err (PlanRefusal.TooManyCells cells)) ↔
+            ((2 ^ 22 < count_of scale.now writes) × (cells ≡ count_of scale.now writes)) }
     {
         let cells = count_pairs(scale, writes.list());
         if cells > MOST_PAIRS {
@@ -128,9 +129,12 @@ impl Chunks for Plan {
     ) -> Result<(), PrepareFault>
         requires within { _to ≤ length (planned_cells self.old) }
         ensures done { IsOk result }
-        ensures prepared { OnOk result ((job : ℕ) → _from ≤ job → job < _to → IsSome (ready_of self.new job)) }
-        ensures ready { OnOk result (IfSome (S.objects _store.old) (λ m. AreReady (ready_of self.new) ((work_of self.old).raw m) _from _to)) }
-        ensures answer { IfSome (S.objects _store.old) (λ m. Prepares result (jobs_fault (work_of self.old) m _from (_to - _from))) }
+        ensures prepared { OnOk result ((job : ℕ) → _from ≤ job → job < _to →
+            IsSome (ready_of self.new job)) }
+        ensures ready { OnOk result (IfSome (S.objects _store.old) (λ m.
+            AreReady (ready_of self.new) ((work_of self.old).raw m) _from _to)) }
+        ensures answer { IfSome (S.objects _store.old) (λ m.
+            Prepares result (jobs_fault (work_of self.old) m _from (_to - _from))) }
         ensures work { work_of self.new ≡ work_of self.old }
         ensures objects { S.objects _store.new ≡ S.objects _store.old }
         ensures draft { S.draft _store.new ≡ S.draft _store.old }

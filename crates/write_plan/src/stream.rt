@@ -72,7 +72,8 @@ fn lies_inside(scale: &Scale, part: &Box3) -> bool
 #[tactic(auto, unfolding(crate::specs::Reading::judged))]
 fn judge(scale: &Scale, number: u32, before: u64, part: &Box3) -> Result<usize, PlanFault>
     requires { before ≤ 2 ^ 30 }
-    ensures { MatchResult result (λ len. IsJudged scale.now number before part.now len) (λ e. IsTrue (of_stream e) × (judged scale.now number before part.now ≡ Err e)) }
+    ensures { MatchResult result (λ len. IsJudged scale.now number before part.now len) (λ e.
+        IsTrue (of_stream e) × (judged scale.now number before part.now ≡ Err e)) }
 {
     if has_empty_axis(part) {
         return Err(PlanFault::EmptyBox { write: number });
@@ -95,7 +96,8 @@ fn read_part<F: Feed>(
     before: u64,
 ) -> Result<(Box3, usize), PlanFault>
     requires { before ≤ 2 ^ 30 }
-    ensures gave { IfOk result (λ r. Gave (box_at scale.now number before) (F.left feed.old) (F.left feed.new) r.0) }
+    ensures gave { IfOk result (λ r. Gave (box_at scale.now number before) (F.left feed.old)
+        (F.left feed.new) r.0) }
     ensures refused { IfErr result (Refused (box_at scale.now number before) (F.left feed.old)) }
     ensures fits { IfOk result (λ r. IsSized scale.now before r.0 r.1) }
     ensures took { Took 48 (F.left feed.old) (F.left feed.new) }
@@ -117,12 +119,14 @@ fn read_write<F: Feed>(
     before: u64,
 ) -> Result<Write, PlanFault>
     requires { before ≤ 2 ^ 30 }
-    ensures gave { IfOk result (λ write. Gave (write_at scale.now number before) (F.left feed.old) (F.left feed.new) (write_in write)) }
+    ensures gave { IfOk result (λ write. Gave (write_at scale.now number before) (F.left feed.old)
+        (F.left feed.new) (write_in write)) }
     ensures refused { IfErr result (Refused (write_at scale.now number before) (F.left feed.old)) }
     ensures fits { IfOk result (λ write. IsWriteOf scale.now (write_in write)) }
     ensures bytes { IfOk result (λ write. AreBytes write.bytes.items) }
     ensures small { IfOk result (λ write. before + length write.bytes.items ≤ 2 ^ 30) }
-    ensures took { IfOk result (λ write. Took (48 + length write.bytes.items) (F.left feed.old) (F.left feed.new)) }
+    ensures took { IfOk result (λ write. Took (48 + length write.bytes.items) (F.left feed.old)
+        (F.left feed.new)) }
     ensures took_err { OnErr result (Took (48 + (2 ^ 30 - before)) (F.left feed.old) (F.left feed.new)) }
     ensures cause { HasFeedCause (F.faults feed.old) (F.faults feed.new) result }
 {
@@ -139,7 +143,8 @@ fn read_list<F: Feed>(
     count: u32,
 ) -> Result<Vec<Write>, PlanFault>
     requires { count ≤ 65536 }
-    ensures gave { IfOk result (λ writes. Gave (writes_at scale.now count []) (F.left feed.old) (F.left feed.new) (writes_in writes.items)) }
+    ensures gave { IfOk result (λ writes. Gave (writes_at scale.now count []) (F.left feed.old)
+        (F.left feed.new) (writes_in writes.items)) }
     ensures refused { IfErr result (Refused (writes_at scale.now count []) (F.left feed.old)) }
     ensures fits { IfOk result (λ writes. All (IsWriteOf scale.now) (writes_in writes.items)) }
     ensures bytes { IfOk result (λ writes. All (λ w. AreBytes w.1) (writes_in writes.items)) }
@@ -201,7 +206,8 @@ fn read_count<F: Feed>(feed: &mut F) -> Result<u32, PlanFault>
 fn read_end<F: Feed>(feed: &mut F) -> Result<(), PlanFault>
     ensures ended { OnOk result (F.left feed.old ≡ option_map (λ _. []) (F.left feed.old)) }
     ensures end { OnOk result (F.left feed.new ≡ F.left feed.old) }
-    ensures refused { IfErr result (λ e. IsTrue (of_stream e) → (e ≡ TrailingBytes) × IfSome (F.left feed.old) (λ bytes. 0 < length bytes)) }
+    ensures refused { IfErr result (λ e. IsTrue (of_stream e) → (e ≡ TrailingBytes) ×
+        IfSome (F.left feed.old) (λ bytes. 0 < length bytes)) }
     ensures took { Took 1 (F.left feed.old) (F.left feed.new) }
     ensures cause { HasFeedCause (F.faults feed.old) (F.faults feed.new) result }
 {

@@ -1,5 +1,6 @@
 //! Writes of boxes.
 
+use std::fmt;
 use std::marker::Model;
 use vol_base::Box3;
 
@@ -29,7 +30,7 @@ impl Model for Writes {
 }
 
 impl Writes {
-    ghost use Rattle.std.specs.Prelude.{◌≡◌, ◌<◌, length};
+    ghost use Rattle.std.specs.Prelude.{◌≡◌, ◌<◌, ◌↔◌, IsTrue, length};
     ghost use Rattle.write_plan.specs.WriteLists.{AreWrites, write_of, writes_in};
 
     /// How many writes there are.
@@ -37,6 +38,13 @@ impl Writes {
         ensures { result ≡ length self.now }
     {
         self.items.len()
+    }
+
+    /// Whether there is no write.
+    pub fn is_empty(&self) -> bool
+        ensures { IsTrue result ↔ (length self.now ≡ 0) }
+    {
+        self.items.is_empty()
     }
 
     /// The box of a write, by its number.
@@ -61,5 +69,12 @@ impl Writes {
         ensures limits { AreWrites self.now }
     {
         &self.items
+    }
+}
+
+/// How many they are.
+impl fmt::Debug for Writes {
+    fn fmt<W: fmt::Write>(&self, f: &mut fmt::Formatter<W>) -> fmt::Result {
+        f.debug_struct("Writes").field("len", &self.len()).finish()
     }
 }

@@ -75,6 +75,9 @@ const BLOCK_OF_CELLS: &str =
 const ROW_OF_CELLS: &str =
     "{\"type\":\"image\",\"data_type\":\"uint8\",\"num_channels\":1,\"scales\":[{\"key\":\"s\",\"size\":[5000,1,1],\"chunk_sizes\":[[1,1,1]],\"resolution\":[8,8,40],\"encoding\":\"raw\",\"sharding\":{\"@type\":\"neuroglancer_uint64_sharded_v1\",\"preshift_bits\":0,\"hash\":\"identity\",\"minishard_bits\":0,\"shard_bits\":0}}]}";
 
+const TWO_CHANNELS_OF_CELLS: &str =
+    "{\"type\":\"image\",\"data_type\":\"uint8\",\"num_channels\":2,\"scales\":[{\"key\":\"s\",\"size\":[2,2,8],\"chunk_sizes\":[[1,1,1]],\"resolution\":[8,8,40],\"encoding\":\"raw\",\"sharding\":{\"@type\":\"neuroglancer_uint64_sharded_v1\",\"preshift_bits\":0,\"hash\":\"identity\",\"minishard_bits\":0,\"shard_bits\":0}}]}";
+
 // Objects, and what a cutout of both voxels gives.
 const OBJECTS: [(&str, &[(&str, &[u8])], [u8; 2]); 8] = [
     (TWO_MINISHARDS, &[], [0, 0]),
@@ -228,18 +231,22 @@ fn push_column(bytes: &mut Vec<u8>, first: u64, other: u64, rows: u32) -> Result
     Ok(())
 }
 
-// One minishard of the ids from 0 on, each with a chunk of a byte.
-fn long_shard(alloc: Global, rows: u32) -> Result<Vec<u8>, AllocError> {
-    let mut bytes = Vec::new(alloc);
-    let start = u64::from(rows);
-    bytes.extend_from_slice(&start.to_le_bytes())?;
-    bytes.extend_from_slice(&(25 * start).to_le_bytes())?;
-    for id in 0..rows {
-        bytes.push((id % 251) as u8)?;
+// One minishard of the ids from 0 on, each with the same chunk.
+fn long_shard(alloc: Global, rows: u32, chunk: &[u8]) -> Result<Vec<u8>, AllocError> {
+    let mut chunks = Vec::new(alloc);
+    for _ in 0..rows {
+        chunks.extend_from_slice(chunk)?;
     }
+    let start = chunks.len() as u64;
+    let end = start.wrapping_add(24 * u64::from(rows));
+    let len = chunk.len() as u64;
+    let mut bytes = Vec::new(alloc);
+    bytes.extend_from_slice(&start.to_le_bytes())?;
+    bytes.extend_from_slice(&end.to_le_bytes())?;
+    bytes.extend_from_slice(&chunks)?;
     push_column(&mut bytes, 0, 1, rows)?;
     push_column(&mut bytes, 0, 0, rows)?;
-    push_column(&mut bytes, 1, 1, rows)?;
+    push_column(&mut bytes, len, len, rows)?;
     Ok(bytes)
 }
 
@@ -276,10 +283,20 @@ fn asks_for_nothing_twice(rt: HostRuntime) -> Result<(), Fail> {
     let alloc = rt.alloc();
     // Each cell is in the other minishard than the last: its entry, three rows and its chunk.
     check_asked(&rt, alloc, SIX_CELLS, &SIX_CHUNKS, "[0:11,0:1,0:1]", 539)?;
-    // One entry, one index, and the chunks.
-    let block = long_shard(alloc, 256)?;
+    // One entry, one index, and the chunks, through all layers.
+    let block = long_shard(alloc, 256, &[7])?;
     check_asked(&rt, alloc, BLOCK_OF_CELLS, &block, "[0:4,0:8,0:8]", 6416)?;
-    let row = long_shard(alloc, 5000)?;
+    // The chunks once for each channel.
+    let both = long_shard(alloc, 32, &[7, 8])?;
+    check_asked(
+        &rt,
+        alloc,
+        TWO_CHANNELS_OF_CELLS,
+        &both,
+        "[0:2,0:2,0:8]",
+        912,
+    )?;
+    let row = long_shard(alloc, 5000, &[7])?;
     check_asked(
         &rt,
         alloc,

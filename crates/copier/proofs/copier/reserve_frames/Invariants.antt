@@ -1,9 +1,10 @@
 use Rattle.std.proofs.Common.{◌≡◌, length}
 use Rattle.std.specs.Prelude.{All}
+use Rattle.copier.specs.Held.{Holds}
 use Rattle.copier.proofs.copier.reserve_frames.Given as goal
 
 abbrev pub invariant-loop : goal.invariant-loop
 invariant-loop l = record {
   count : length l.frames.items ≡ l.counter;
-  lens : All (λ f. length f.items ≡ l.len) l.frames.items;
+  each : All (Holds l.scale) l.frames.items;
 }

@@ -1,60 +1,54 @@
 use Rattle.std.proofs.Common.{◌≡◌, ◌+◌, Err, Ok, length, length-set, map, take, refl, ap, ◌∙◌, sym, subst, arith, ◌<◌}
-use Rattle.std.specs.Prelude.{slice_index_or}
 use Rattle.std.proofs.lemmas.List.{length-map}
 use Rattle.vol_spec.specs.Copies.{AreOfOneVolume}
 use Rattle.vol_spec.specs.Encodings.{raw_size}
 use Rattle.vol_spec.specs.Grid.{IsCell}
 use Rattle.vol_spec.specs.StoredCells.{cell_of}
 use Rattle.vol_spec.proofs.Told.{from_told, in_told}
-use Rattle.chunk_grid.proofs.GridSteps.{cell_box-short}
 use Rattle.write_plan.specs.Jobs.{cells_in}
-use Rattle.copier.specs.Held.{AreRead, ReadsJob}
-use Rattle.copier.proofs.FrameSteps.{frame_len, items_same, job_step, lens_set, read_failed, read_more, read_none}
+use Rattle.copier.specs.Held.{AreFilled, AreRead, ReadsJob}
+use Rattle.copier.proofs.FrameSteps.{filled_more, holds_set, read_failed, read_more, read_none}
 use Rattle.copier.proofs.JobSteps.{job_cell_at}
 use Rattle.copier.proofs.reading.read_jobs.Goals as goal
 
-pub read_into-requires-clause-volume : goal.read_into-requires-clause-volume
-read_into-requires-clause-volume g c = subst (λ r. AreOfOneVolume r.scale c.args.to.now) (sym c.loop-k.invariant.same) c.requires.volume
+pub read_frame-requires-clause-volume : goal.read_frame-requires-clause-volume
+read_frame-requires-clause-volume g c = subst (λ r. AreOfOneVolume r.scale c.args.to.now) (sym c.loop-k.invariant.same) c.requires.volume
 
-pub read_into-requires-clause-cell : goal.read_into-requires-clause-cell
-read_into-requires-clause-cell g c =
+pub read_frame-requires-clause-cell : goal.read_frame-requires-clause-cell
+read_frame-requires-clause-cell g c =
     let inside : c.args.first + c.loop-k.k < length c.args.jobs.now = omega (arith, c.requires.within, c.loop-k-test.true) in
     let here = ap (λ job. job.cell) c.get.ensures ∙ job_cell_at c.args.jobs.now (c.args.first + c.loop-k.k) inside in
     subst (IsCell c.args.to.now) (sym here) (c.requires.cells (c.args.first + c.loop-k.k) _ (omega (arith, inside, length-map c.args.jobs.now (λ job. job.cell))))
 
-pub read_into-requires-clause-len : goal.read_into-requires-clause-len
-read_into-requires-clause-len g c =
-    let frame = frame_len c.args.to.now c.loop-k.frames c.loop-k.k c.index-frames-k.result c.loop-k.invariant.lens (omega (arith, c.loop-k-test.true, c.requires.room, c.loop-k.auto.frames)) in
-    let short = cell_box-short c.args.to.now c.get.result.cell in
-    let same = ap length c.deref_mut.ensures.value in
-    omega (arith, frame, short, same)
+pub read_frame-requires-clause-room : goal.read_frame-requires-clause-room
+read_frame-requires-clause-room g c =
+    c.loop-k.invariant.each c.loop-k.k c.index-frames-k.result (omega (arith, c.loop-k-test.true, c.requires.room, c.loop-k.auto.frames))
 
 pub loop-k-preserved : goal.loop-k-preserved
 loop-k-preserved g c =
     let inside : c.loop-k.k < length c.loop-k.frames = omega (arith, c.loop-k-test.true, c.requires.room, c.loop-k.auto.frames) in
     let number : c.args.first + c.loop-k.k < length c.args.jobs.now = omega (arith, c.requires.within, c.loop-k-test.true) in
     let here : c.get.result.cell ≡ cell_of (cells_in c.args.jobs.now) (c.args.first + c.loop-k.k) = ap (λ job. job.cell) c.get.ensures ∙ job_cell_at c.args.jobs.now (c.args.first + c.loop-k.k) number in
-    let len = c.read_into.ensures.len ∙ ap length c.deref_mut.ensures.value in
     record {
-      lens = lens_set c.args.to.now c.loop-k.frames c.loop-k.k _ c.loop-k.invariant.lens
-          (ap length (items_same (slice_index_or c.loop-k.frames c.loop-k.k c.index-frames-k.result) c.read_into.new.frame len) ∙ len ∙ frame_len c.args.to.now c.loop-k.frames c.loop-k.k c.index-frames-k.result c.loop-k.invariant.lens inside);
+      filled = filled_more c.args.to.now c.loop-k.frames c.loop-k.k _ inside c.loop-k.invariant.filled c.read_frame.ensures.filled;
+      each = holds_set c.args.to.now c.loop-k.frames c.loop-k.k _ c.loop-k.invariant.each c.read_frame.ensures.room;
       frames = length-set c.loop-k.frames c.loop-k.k _ ∙ c.loop-k.invariant.frames;
       read = λ m told.
           read_more m c.args.reader.now.dataset c.args.reader.now.scale c.args.to.now (cells_in c.args.jobs.now) c.args.first c.loop-k.k c.loop-k.frames _ c.get.result.cell here inside (c.loop-k.invariant.read m told)
-          (job_step m c.args.reader.now.dataset c.args.reader.now.scale c.args.to.now c.get.result.cell (slice_index_or c.loop-k.frames c.loop-k.k c.index-frames-k.result) c.read_into.new.frame len
-          (subst (λ r. ReadsJob (Ok tt) m r.dataset r.scale c.args.to.now c.get.result.cell (take (raw_size c.args.to.now c.get.result.cell) c.read_into.new.frame)) c.loop-k.invariant.same
-          (from_told _ _ m (c.loop-k.invariant.kept.same_objects ∙ told) c.in-Ok.ensures.read)));
-      same = c.read_into.ensures.same ∙ c.loop-k.invariant.same;
+          (subst (λ r. ReadsJob (Ok tt) m r.dataset r.scale c.args.to.now c.get.result.cell (take (raw_size c.args.to.now c.get.result.cell) c.read_frame.new.frame.items)) c.loop-k.invariant.same
+          (from_told _ _ m (c.loop-k.invariant.kept.same_objects ∙ told) c.in-Ok.ensures.read));
+      same = c.read_frame.ensures.same ∙ c.loop-k.invariant.same;
       kept = record {
-        same_objects = c.read_into.ensures.kept.same_objects ∙ c.loop-k.invariant.kept.same_objects;
-        same_draft = c.read_into.ensures.kept.same_draft ∙ c.loop-k.invariant.kept.same_draft;
+        same_objects = c.read_frame.ensures.kept.same_objects ∙ c.loop-k.invariant.kept.same_objects;
+        same_draft = c.read_frame.ensures.kept.same_draft ∙ c.loop-k.invariant.kept.same_draft;
       };
-      later = omega (arith, c.read_into.ensures.cause.later, c.loop-k.invariant.later);
+      later = omega (arith, c.read_frame.ensures.cause.later, c.loop-k.invariant.later);
     }
 
 pub loop-k-init : goal.loop-k-init
 loop-k-init g c = record {
-  lens = c.requires.lens;
+  filled = λ k l. absurd (omega (arith, l));
+  each = c.requires.each;
   frames = refl;
   read = λ m told. read_none m c.args.reader.now.dataset c.args.reader.now.scale c.args.to.now (cells_in c.args.jobs.now) c.args.first _;
   same = refl;
@@ -67,19 +61,20 @@ returns-in-Err-clause-read g c =
     let number : c.args.first + c.loop-k.k < length c.args.jobs.now = omega (arith, c.requires.within, c.loop-k-test.true) in
     let here : c.get.result.cell ≡ cell_of (cells_in c.args.jobs.now) (c.args.first + c.loop-k.k) = ap (λ job. job.cell) c.get.ensures ∙ job_cell_at c.args.jobs.now (c.args.first + c.loop-k.k) number in
     in_told _ _ (λ m told.
-    read_failed m c.args.reader.now.dataset c.args.reader.now.scale c.args.to.now (cells_in c.args.jobs.now) c.args.first c.loop-k.k c.args.count (map (λ f. f.items) c.loop-k.frames) _ c.get.result.cell (take (raw_size c.args.to.now c.get.result.cell) c.read_into.new.frame) c.in-Err.fault here c.loop-k-test.true
+    read_failed m c.args.reader.now.dataset c.args.reader.now.scale c.args.to.now (cells_in c.args.jobs.now) c.args.first c.loop-k.k c.args.count (map (λ f. f.items) c.loop-k.frames) _ c.get.result.cell (take (raw_size c.args.to.now c.get.result.cell) c.read_frame.new.frame.items) c.in-Err.fault here c.loop-k-test.true
     (c.loop-k.invariant.read m told)
-    (subst (λ r. ReadsJob (Err c.in-Err.fault) m r.dataset r.scale c.args.to.now c.get.result.cell (take (raw_size c.args.to.now c.get.result.cell) c.read_into.new.frame)) c.loop-k.invariant.same
+    (subst (λ r. ReadsJob (Err c.in-Err.fault) m r.dataset r.scale c.args.to.now c.get.result.cell (take (raw_size c.args.to.now c.get.result.cell) c.read_frame.new.frame.items)) c.loop-k.invariant.same
     (from_told _ _ m (c.loop-k.invariant.kept.same_objects ∙ told) c.in-Err.ensures.read)))
 
-pub returns-in-Err-clause-lens : goal.returns-in-Err-clause-lens
-returns-in-Err-clause-lens g c =
-    let inside : c.loop-k.k < length c.loop-k.frames = omega (arith, c.loop-k-test.true, c.requires.room, c.loop-k.auto.frames) in
-    let len = c.read_into.ensures.len ∙ ap length c.deref_mut.ensures.value in
-    lens_set c.args.to.now c.loop-k.frames c.loop-k.k _ c.loop-k.invariant.lens
-    (ap length (items_same (slice_index_or c.loop-k.frames c.loop-k.k c.index-frames-k.result) c.read_into.new.frame len) ∙ len ∙ frame_len c.args.to.now c.loop-k.frames c.loop-k.k c.index-frames-k.result c.loop-k.invariant.lens inside)
+pub returns-in-Err-clause-each : goal.returns-in-Err-clause-each
+returns-in-Err-clause-each g c = holds_set c.args.to.now c.loop-k.frames c.loop-k.k _ c.loop-k.invariant.each c.read_frame.ensures.room
 
 pub returns-clause-read : goal.returns-clause-read
 returns-clause-read g c =
     let done : c.loop-k.k ≡ c.args.count = omega (arith, c.loop-k-test.false, c.loop-k.auto.k-end) in
     in_told _ _ (λ m told. subst (λ n. AreRead m c.args.reader.now.dataset c.args.reader.now.scale c.args.to.now (cells_in c.args.jobs.now) c.args.first n (map (λ f. f.items) c.loop-k.frames)) done (c.loop-k.invariant.read m told))
+
+pub returns-clause-filled : goal.returns-clause-filled
+returns-clause-filled g c =
+    let done : c.loop-k.k ≡ c.args.count = omega (arith, c.loop-k-test.false, c.loop-k.auto.k-end) in
+    subst (λ n. AreFilled c.args.to.now n (map (λ f. f.items) c.loop-k.frames)) done c.loop-k.invariant.filled

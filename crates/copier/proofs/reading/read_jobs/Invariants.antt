@@ -1,12 +1,14 @@
 use Rattle.std.proofs.Common.{◌≡◌, ◌≤◌, length, map, Some}
+use Rattle.std.specs.Prelude.{All}
 use Rattle.vol_base.specs.Outside.{Objects, OnlyReads}
 use Rattle.write_plan.specs.Jobs.{cells_in}
-use Rattle.copier.specs.Held.{AreRead, HasLens}
+use Rattle.copier.specs.Held.{AreFilled, AreRead, Holds}
 use Rattle.copier.proofs.reading.read_jobs.Given as goal
 
 abbrev pub invariant-loop-k : goal.invariant-loop-k
 invariant-loop-k g l = record {
-  lens : HasLens l.to (map (λ f. f.items) l.frames);
+  filled : AreFilled l.to l.k (map (λ f. f.items) l.frames);
+  each : All (Holds l.to) l.frames;
   frames : length l.frames ≡ length l.fn.frames;
   read : (m : Objects) → g.S.Source.objects l.fn.store ≡ Some m → AreRead m l.fn.reader.dataset l.fn.reader.scale l.to (cells_in l.jobs) l.first l.k (map (λ f. f.items) l.frames);
   same : l.reader ≡ l.fn.reader;

@@ -6,7 +6,7 @@ use Rattle.vol_spec.specs.Grid.{cell_at, cell_box, cells_in, IsCell}
 use Rattle.cutout.specs.Reading.{ReadSoFar}
 use Rattle.cutout.proofs.CellSteps.{read_none, read_more, read_refused, read_whole, IsHome}
 use Rattle.cutout.proofs.CostSteps.{asked_all, asked_more, asked_next, asked_none}
-use Rattle.cutout.proofs.StoredSteps.{keeps_none, keeps_still}
+use Rattle.cutout.proofs.StoredSteps.{keeps_still}
 use Rattle.chunk_grid.proofs.Walked.{here, one_on, at_end}
 use Rattle.vol_spec.proofs.Told.{from_told, in_told}
 use Rattle.cutout.proofs.cells.read_cells.Goals as goal
@@ -14,8 +14,8 @@ use Rattle.cutout.proofs.cells.read_cells.Goals as goal
 pub loop-cell-init : goal.loop-cell-init
 loop-cell-init g c = record {
   left = c.into_iter-cell-iterator.ensures.into_iter_gives ∙ c.cells-cell-items.ensures;
-  read = λ m told. read_none m c.args.dataset.now c.args.scale.now c.args.part.now c.args.out.now;
-  keeps = keeps_none (g.S.Source.objects c.args.store.now) c.args.dataset.now c.args.scale.now c.forget.new.self c.forget.ensures;
+  read = λ m told. read_none m c.args.dataset.now c.args.scale.now c.args.part.now c.args.channels c.args.out.now;
+  keeps = c.requires.keeps;
   asked = asked_none (g.S.Source.objects c.args.store.now) c.args.dataset.now c.args.scale.now (g.S.Source.asked c.args.store.now);
   kept = record { same_objects = refl; same_draft = refl };
   later = omega arith;
@@ -33,7 +33,7 @@ loop-cell-preserved g c =
     record {
       left = one_on c.loop-cell.yielded c.loop-cell.cell-iterator c.next.new.self (cells_in c.args.scale.now c.args.part.now) c.in-Some.cell next c.loop-cell.invariant.left;
       read = λ m told.
-          read_more m c.args.dataset.now c.args.scale.now c.args.part.now c.loop-cell.yielded c.in-Some.cell c.loop-cell.out c.read_one.new.out home (c.loop-cell.invariant.read m told)
+          read_more m c.args.dataset.now c.args.scale.now c.args.part.now c.args.channels c.loop-cell.yielded c.in-Some.cell c.loop-cell.out c.read_one.new.out home (c.loop-cell.invariant.read m told)
           (from_told _ _ m (c.loop-cell.invariant.kept.same_objects ∙ told) c.in-Ok.ensures.read);
       keeps =
           keeps_still (g.S.Source.objects c.loop-cell.store) (g.S.Source.objects c.args.store.now) c.args.dataset.now c.args.scale.now c.read_one.new.shards (sym c.loop-cell.invariant.kept.same_objects) c.read_one.ensures.keeps;
@@ -55,7 +55,7 @@ read_one-requires-clause-cell g c =
 pub returns-in-Err-clause-read : goal.returns-in-Err-clause-read
 returns-in-Err-clause-read g c =
     in_told _ _ (λ m told.
-    read_refused m c.args.dataset.now c.args.scale.now c.args.part.now c.loop-cell.yielded c.loop-cell.cell-iterator c.next.new.self c.in-Some.cell c.in-Err.fault c.loop-cell.out _ _
+    read_refused m c.args.dataset.now c.args.scale.now c.args.part.now c.args.channels c.loop-cell.yielded c.loop-cell.cell-iterator c.next.new.self c.in-Some.cell c.in-Err.fault c.loop-cell.out _ _
     c.place_fault.result c.place_fault.ensures
     (c.loop-cell.invariant.read m told) c.in-Some.ensures.steps c.loop-cell.invariant.left
     (from_told _ _ m (c.loop-cell.invariant.kept.same_objects ∙ told) c.in-Err.ensures.read))
@@ -68,8 +68,8 @@ returns-in-Err-clause-asked g c =
 pub returns-clause-read : goal.returns-clause-read
 returns-clause-read g c =
     in_told _ _ (λ m told.
-    read_whole m c.args.dataset.now c.args.scale.now c.args.part.now c.loop-cell.out
-    (subst (λ cells. ReadSoFar m c.args.dataset.now c.args.scale.now c.args.part.now cells c.loop-cell.out)
+    read_whole m c.args.dataset.now c.args.scale.now c.args.part.now c.args.channels c.loop-cell.out
+    (subst (λ cells. ReadSoFar m c.args.dataset.now c.args.scale.now c.args.part.now c.args.channels cells c.loop-cell.out)
     (at_end c.loop-cell.yielded c.loop-cell.cell-iterator (cells_in c.args.scale.now c.args.part.now) c.in-None.ensures.steps.0 c.loop-cell.invariant.left) (c.loop-cell.invariant.read m told))
     (λ p cov. c.tell_cells.ensures.covered p c.requires.inside cov))
 

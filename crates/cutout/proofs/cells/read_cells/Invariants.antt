@@ -9,7 +9,7 @@ use Rattle.cutout.proofs.cells.read_cells.Given as goal
 abbrev pub invariant-loop-cell : goal.invariant-loop-cell
 invariant-loop-cell g l = record {
   left : l.yielded ++ l.cell-iterator ≡ cells_in l.scale l.part;
-  read : (m : Objects) → g.S.Source.objects l.fn.store ≡ Some m → ReadSoFar m l.dataset l.scale l.part l.yielded l.out;
+  read : (m : Objects) → g.S.Source.objects l.fn.store ≡ Some m → ReadSoFar m l.dataset l.scale l.part l.channels l.yielded l.out;
   keeps : KeepsShards (g.S.Source.objects l.fn.store) l.dataset l.scale l.shards;
   asked : IfSome (g.S.Source.objects l.fn.store) (λ m. g.S.Source.asked l.store ≤ g.S.Source.asked l.fn.store + costs m l.dataset l.scale l.yielded);
   kept : OnlyReads (g.S.Source.objects l.fn.store) (g.S.Source.objects l.store) (g.S.Source.draft l.fn.store) (g.S.Source.draft l.store);

@@ -7,5 +7,5 @@ check_len-requires c = part_small c.args.scale.now c.args.cell c.cell_box-own.re
 
 pub returns-clause-took : goal.returns-clause-took
 returns-clause-took c =
-    took_values c.args.scale.now c.args.cell c.args.part.now c.args.bytes.now c.args.bytes.now c.args.out.now c.put_values.new.out
-    (holds_raw c.args.scale.now c.args.cell c.args.bytes.now c.requires.raw) c.put_values.ensures
+    took_values c.args.scale.now c.args.cell c.args.part.now c.args.channels c.args.bytes.now c.args.bytes.now c.args.out.now c.put_values.new.out
+    (holds_raw c.args.scale.now c.args.cell c.args.bytes.now c.requires.raw) c.requires.channels c.put_values.ensures

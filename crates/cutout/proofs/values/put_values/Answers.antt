@@ -1,6 +1,9 @@
-use Rattle.std.proofs.Common.{arith, subst}
+use Rattle.std.proofs.Common.{◌∙◌, ap, arith, subst}
+use Rattle.vol_base.specs.Boxes.{num, value}
+use Rattle.vol_spec.specs.Grid.{cell_box}
 use Rattle.voxel_raw.specs.Common.{IsCommon}
 use Rattle.voxel_raw.specs.Copies.{HasValues}
+use Rattle.cutout.proofs.PickSteps.{picked_len, picked_value}
 use Rattle.cutout.proofs.ReadSteps.{cell_small}
 use Rattle.cutout.proofs.TakeSteps.{puts_values}
 use Rattle.cutout.proofs.values.put_values.Goals as goal
@@ -8,13 +11,17 @@ use Rattle.cutout.proofs.values.put_values.Goals as goal
 pub copy_box-requires-clause-source : goal.copy_box-requires-clause-source
 copy_box-requires-clause-source c =
     let small = cell_small c.args.scale.now c.args.cell in
-    record { within = λ p cov. ((c.common_part-common.ensures.both p).0 cov).0; len = rw c.cell_box-own.ensures.positions c.requires.values; limit = omega (arith, c.requires.values, small) }
+    let len = picked_len (cell_box c.args.scale.now c.args.cell) c.args.scale.now.channels c.args.scale.now.width c.args.channels c.args.values.now c.pick-picked.result.now c.requires.channels c.requires.values c.pick-picked.ensures in
+    record { within = λ p cov. ((c.common_part-common.ensures.both p).0 cov).0; len = rw c.cell_box-own.ensures.positions len.0; limit = omega (arith, len.1, c.requires.values, small) }
 
 pub copy_box-requires-clause-target : goal.copy_box-requires-clause-target
 copy_box-requires-clause-target c = record { within = λ p cov. ((c.common_part-common.ensures.both p).0 cov).1; len = c.requires.len; limit = c.requires.limit }
 
 pub returns : goal.returns
 returns c =
-    puts_values c.args.scale.now c.args.cell c.args.part.now c.common_part-common.result c.args.values.now c.args.out.now c.copy_box.new.to
+    puts_values c.args.scale.now c.args.cell c.args.part.now c.common_part-common.result c.args.channels c.args.values.now c.pick-picked.result.now c.args.out.now c.copy_box.new.to
     (subst (λ b. IsCommon b c.args.part.now c.common_part-common.result) c.cell_box-own.ensures.positions c.common_part-common.ensures)
-    (subst (λ b. HasValues b c.args.part.now c.common_part-common.result c.args.scale.now.channels c.args.scale.now.width c.args.values.now c.copy_box.new.to) c.cell_box-own.ensures.positions c.copy_box.ensures.values) c.copy_box.ensures.rest
+    (subst (λ b. HasValues b c.args.part.now c.common_part-common.result c.args.channels.count c.args.scale.now.width c.pick-picked.result.now c.copy_box.new.to) c.cell_box-own.ensures.positions c.copy_box.ensures.values) c.copy_box.ensures.rest
+    (λ p n covered low.
+    ap (λ xs. value c.args.scale.now.width xs (num (cell_box c.args.scale.now c.args.cell) p n)) c.pick-picked.ensures
+    ∙ picked_value (cell_box c.args.scale.now c.args.cell) c.args.scale.now.width c.args.channels.first c.args.channels.count c.args.values.now p n covered low)

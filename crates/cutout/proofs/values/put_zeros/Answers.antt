@@ -8,6 +8,6 @@ fill_box-requires c = record { within = λ p cov. ((c.common_part-common.ensures
 
 pub returns : goal.returns
 returns c =
-    took_zeros c.args.scale.now c.args.cell c.args.part.now c.common_part-common.result c.args.out.now c.fill_box.new.to
+    took_zeros c.args.scale.now c.args.cell c.args.part.now c.common_part-common.result c.args.channels c.args.out.now c.fill_box.new.to
     (subst (λ b. IsCommon b c.args.part.now c.common_part-common.result) c.cell_box-own.ensures.positions c.common_part-common.ensures)
     c.fill_box.ensures.zeros c.fill_box.ensures.rest

@@ -1,5 +1,5 @@
 use Rattle.std.proofs.Common.{◌∙◌, arith, length, ◌-◌}
-use Rattle.range_server.proofs.Gained.{gained-next}
+use Rattle.vol_base.proofs.Gained.{gained-next}
 use Rattle.range_server.proofs.send.send_all.Goals as goal
 
 pub loop-done-preserved : goal.loop-done-preserved

@@ -1,5 +1,5 @@
 use Rattle.std.proofs.Common.{◌≡◌, ◌-◌, ◌≤◌, length, take}
-use Rattle.range_server.specs.Bodies.{Gains}
+use Rattle.vol_base.specs.Gains.{Gains}
 use Rattle.range_server.proofs.send.send_all.Given as goal
 
 abbrev pub invariant-loop-done : goal.invariant-loop-done

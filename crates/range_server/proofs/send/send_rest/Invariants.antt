@@ -1,6 +1,7 @@
 use Rattle.std.proofs.Common.{◌≡◌, ◌-◌, ◌≤◌, length, Some}
 use Rattle.vol_base.specs.Outside.{OnlyReads, part}
-use Rattle.range_server.specs.Bodies.{Gains, WhereTold, object_in}
+use Rattle.vol_base.specs.Gains.{Gains}
+use Rattle.range_server.specs.Bodies.{WhereTold, object_in}
 use Rattle.range_server.proofs.send.send_rest.Given as goal
 
 abbrev pub invariant-loop-at : goal.invariant-loop-at

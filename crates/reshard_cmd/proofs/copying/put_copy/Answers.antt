@@ -12,13 +12,13 @@ returns-in-Ok-clause-copies g c =
 
 pub returns-in-Err-StoreFault-clause-copies : goal.returns-in-Err-StoreFault-clause-copies
 returns-in-Err-StoreFault-clause-copies g c =
-    copied_front (g.S.Source.objects c.args.store.now) (g.S.Source.objects c.write_scale.new.store) c.args.copier.now c.args.dataset.now c.args.scale.now c.requires.scale c.requires.copied c.in-Err-StoreFault.ensures.front
+    copied_front (g.S.Source.objects c.args.store.now) (g.S.Source.objects c.write_scale.new.store) c.args.copier.now c.args.dataset.now c.args.scale.now c.requires.scale c.requires.copied c.in-Err-StoreFault.ensures.front c.in-Err-StoreFault.ensures.spares
 
 pub returns-in-Err-OutOfMemory-clause-copies : goal.returns-in-Err-OutOfMemory-clause-copies
 returns-in-Err-OutOfMemory-clause-copies g c =
-    copied_front (g.S.Source.objects c.args.store.now) (g.S.Source.objects c.write_scale.new.store) c.args.copier.now c.args.dataset.now c.args.scale.now c.requires.scale c.requires.copied c.in-Err-OutOfMemory.ensures.front
+    copied_front (g.S.Source.objects c.args.store.now) (g.S.Source.objects c.write_scale.new.store) c.args.copier.now c.args.dataset.now c.args.scale.now c.requires.scale c.requires.copied c.in-Err-OutOfMemory.ensures.front c.in-Err-OutOfMemory.ensures.spares
 
 pub returns-in-Err-Damaged-clause-copies : goal.returns-in-Err-Damaged-clause-copies
 returns-in-Err-Damaged-clause-copies g c =
     copied_damaged (g.S.Source.objects c.args.store.now) (g.S.Source.objects c.write_scale.new.store) c.args.copier.now c.args.dataset.now c.args.scale.now c.in-Err-Damaged.cell c.in-Err-Damaged.field-0 c.in-Err-Damaged.fault c.requires.scale c.requires.copied
-    c.in-Err-Damaged.ensures.front c.in-Err-Damaged.field-0-is c.in-Err-Damaged.ensures.answer
+    c.in-Err-Damaged.ensures.front c.in-Err-Damaged.ensures.spares c.in-Err-Damaged.field-0-is c.in-Err-Damaged.ensures.answer

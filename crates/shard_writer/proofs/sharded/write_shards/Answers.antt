@@ -21,6 +21,7 @@ use Rattle.shard_writer.proofs.LensSteps.{append_at, front_same, joint_known, nu
 use Rattle.shard_writer.proofs.ObjectSteps.{no_jobs}
 use Rattle.shard_writer.proofs.PlaceSteps.{is_last}
 use Rattle.shard_writer.proofs.PutSteps.{beside_fault}
+use Rattle.shard_writer.proofs.SpareSteps.{spared_behind, stays_named, under_name}
 use Rattle.shard_writer.proofs.StateSteps.{open_room, open_some, rows_fit}
 use Rattle.shard_writer.proofs.WorkSteps.{as_fault, shards_kept, store_sound}
 use Rattle.shard_writer.proofs.sharded.write_shards.Goals as goal
@@ -42,6 +43,7 @@ loop-job-init g c =
           joint = no_bytes c.args.dataset.now c.args.scale.now c.args.sharding.now jobs bytes;
           raws = λ m told j l u. ap (λ list. (g.C.Chunks.work c.args.chunks.now).raw (put_in m list) j) (no_jobs c.args.dataset.now c.args.scale.now c.args.sharding.now jobs bytes);
           faults = λ m told j l u. ap (λ list. (g.C.Chunks.work c.args.chunks.now).fault (put_in m list) j) (no_jobs c.args.dataset.now c.args.scale.now c.args.sharding.now jobs bytes);
+          names = λ m told j l u. ap (λ list. under_name c.args.dataset.now c.args.scale.now (g.C.Chunks.work c.args.chunks.now).cells (put_in m list) j) (no_jobs c.args.dataset.now c.args.scale.now c.args.sharding.now jobs bytes);
         },
       );
       small = omega (arith, c.requires.rows);
@@ -52,7 +54,7 @@ loop-job-init g c =
       few = omega arith;
       bound = omega (arith, c.requires.rows);
       sound = λ m told. refl;
-      encoded = c.no_chunks-encoded.ensures (chunk_ready (g.C.Chunks.work c.args.chunks.now) (g.C.Chunks.ready c.args.chunks.now));
+      team = c.requires.team;
       frames = c.requires.frames;
       draft = λ e. inr refl;
       sure = λ sure. sure;
@@ -285,6 +287,9 @@ loop-job-preserved g c =
           faults = next_kept o c.args.dataset.now s sharding jobs bytes (g.C.Chunks.work c.args.chunks.now).fault n c.loop-job.begun inv.stored.1.between.b k c.pick-begun.result c.ends_shard-last.result c.requires.ordered place h c.requires.sharded last_is c.pick-begun.ensures
               (λ m2 told2 bs i i2 li li2 differ q. shards_kept (g.C.Chunks.work c.args.chunks.now) s sharding c.requires.scale c.requires.sharded (g.C.Chunks.work c.args.chunks.now).fault c.args.dataset.now ((g.met.C.Chunks g.world.𝓛 g.world.𝓜 g.world.𝓡 ((λ s x. x), (λ x. x), (λ x. x), λ x. x)).kept c.args.chunks.now c.args.dataset.now s (from_told _ _ m2 told2 c.requires.apart)).faults q bs i i2 li li2 differ)
               (λ m2 told2 i li ui. ap (λ list. (g.C.Chunks.work c.args.chunks.now).fault (put_in m2 list) i) (sym front) ∙ inv.stored.1.faults m2 told2 i li ui);
+          names = next_kept o c.args.dataset.now s sharding jobs bytes (under_name c.args.dataset.now s (g.C.Chunks.work c.args.chunks.now).cells) n c.loop-job.begun inv.stored.1.between.b k c.pick-begun.result c.ends_shard-last.result c.requires.ordered place h c.requires.sharded last_is c.pick-begun.ensures
+              (λ m2 told2 bs i i2 li li2 differ q. shards_kept (g.C.Chunks.work c.args.chunks.now) s sharding c.requires.scale c.requires.sharded (under_name c.args.dataset.now s (g.C.Chunks.work c.args.chunks.now).cells) c.args.dataset.now (stays_named c.args.dataset.now s (g.C.Chunks.work c.args.chunks.now).cells) q bs i i2 li li2 differ)
+              (λ m2 told2 i li ui. ap (λ list. under_name c.args.dataset.now s (g.C.Chunks.work c.args.chunks.now).cells (put_in m2 list) i) (sym front) ∙ inv.stored.1.names m2 told2 i li ui);
         },
       );
       small = next_small k c.loop-job.at c.in_ok-len.len c.in_ok-next.next c.pick-at.result 0 c.loop-job.rows.items c.push_row.new.rows.items c.end_if.new.rows.items _ c.ends_minishard-ends.result c.ends_shard-last.result
@@ -303,7 +308,7 @@ loop-job-preserved g c =
       raw = λ m told j l u. ready m told j (omega arith) u;
       work = works;
       later = omega (arith, inv.later, c.prepare_next.ensures.cause.later, c.open_shard.ensures.cause.later, c.append_job.ensures.cause.later, c.end_if.ensures.cause.later, c.finish_if.ensures.cause.later);
-      encoded = c.in_ok-ready.ensures.encoded;
+      team = c.in_ok-ready.ensures.team;
       frames = c.append_job.ensures.frames;
     }
 
@@ -312,6 +317,13 @@ returns-in_err-ready-clause-front g c =
     beside_fault c.from_residual.result _
     (front_all (g.S.Source.objects c.args.store.now) (g.S.Source.objects c.loop-job.store) (g.S.Source.objects c.prepare_next.new.store) c.args.dataset.now c.args.scale.now c.args.sharding.now (jobs_in (g.C.Chunks.work c.args.chunks.now)) (stored_by (g.C.Chunks.work c.args.chunks.now)) c.loop-job.invariant.stored.0 (length (g.C.Chunks.work c.args.chunks.now).cells)
     c.loop-job.begun c.loop-job.invariant.stored.1.between.b c.loop-job.job c.requires.ordered c.loop-job.invariant.stored.1.between.place c.loop-job.invariant.stored.1.put (c.prepare_next.ensures.objects))
+
+pub returns-in_err-ready-clause-spares : goal.returns-in_err-ready-clause-spares
+returns-in_err-ready-clause-spares g c =
+    beside_fault c.from_residual.result _
+    (spared_behind (g.S.Source.objects c.args.store.now) (g.S.Source.objects c.loop-job.store) (g.S.Source.objects c.prepare_next.new.store) c.args.dataset.now c.args.scale.now c.args.sharding.now (g.C.Chunks.work c.args.chunks.now) c.loop-job.invariant.stored.0
+    c.loop-job.begun c.loop-job.ready c.requires.scale (let place = c.loop-job.invariant.stored.1.between.place in let x = place.order_a in let y = place.order_b in let z = c.loop-job.invariant.low in omega arith)
+    c.loop-job.invariant.stored.1.put c.loop-job.invariant.stored.1.names c.loop-job.invariant.sound (c.prepare_next.ensures.objects))
 
 pub returns-in_err-ready-clause-cause : goal.returns-in_err-ready-clause-cause
 returns-in_err-ready-clause-cause g c =
@@ -332,6 +344,13 @@ returns-in_err-open_shard-clause-front g c =
     (front_all (g.S.Source.objects c.args.store.now) (g.S.Source.objects c.loop-job.store) (g.S.Source.objects c.open_shard.new.store) c.args.dataset.now c.args.scale.now c.args.sharding.now (jobs_in (g.C.Chunks.work c.args.chunks.now)) (stored_by (g.C.Chunks.work c.args.chunks.now)) c.loop-job.invariant.stored.0 (length (g.C.Chunks.work c.args.chunks.now).cells)
     c.loop-job.begun c.loop-job.invariant.stored.1.between.b c.loop-job.job c.requires.ordered c.loop-job.invariant.stored.1.between.place c.loop-job.invariant.stored.1.put (c.open_shard.ensures.objects ∙ c.prepare_next.ensures.objects))
 
+pub returns-in_err-open_shard-clause-spares : goal.returns-in_err-open_shard-clause-spares
+returns-in_err-open_shard-clause-spares g c =
+    beside_fault c.from_residual-in_err-open_shard.result _
+    (spared_behind (g.S.Source.objects c.args.store.now) (g.S.Source.objects c.loop-job.store) (g.S.Source.objects c.open_shard.new.store) c.args.dataset.now c.args.scale.now c.args.sharding.now (g.C.Chunks.work c.args.chunks.now) c.loop-job.invariant.stored.0
+    c.loop-job.begun c.loop-job.ready c.requires.scale (let place = c.loop-job.invariant.stored.1.between.place in let x = place.order_a in let y = place.order_b in let z = c.loop-job.invariant.low in omega arith)
+    c.loop-job.invariant.stored.1.put c.loop-job.invariant.stored.1.names c.loop-job.invariant.sound (c.open_shard.ensures.objects ∙ c.prepare_next.ensures.objects))
+
 pub returns-in_err-open_shard-clause-cause : goal.returns-in_err-open_shard-clause-cause
 returns-in_err-open_shard-clause-cause g c =
     as_fault (λ r. HasWriteCause (g.S.Source.faults c.args.store.now) (g.S.Source.faults c.open_shard.new.store) r) c.from_residual-in_err-open_shard.result c.from_residual-in_err-open_shard.ensures.1 (λ fault is.
@@ -342,6 +361,13 @@ returns-in_err-len-clause-front g c =
     beside_fault c.from_residual-in_err-len.result _
     (front_all (g.S.Source.objects c.args.store.now) (g.S.Source.objects c.loop-job.store) (g.S.Source.objects c.append_job.new.store) c.args.dataset.now c.args.scale.now c.args.sharding.now (jobs_in (g.C.Chunks.work c.args.chunks.now)) (stored_by (g.C.Chunks.work c.args.chunks.now)) c.loop-job.invariant.stored.0 (length (g.C.Chunks.work c.args.chunks.now).cells)
     c.loop-job.begun c.loop-job.invariant.stored.1.between.b c.loop-job.job c.requires.ordered c.loop-job.invariant.stored.1.between.place c.loop-job.invariant.stored.1.put (c.append_job.ensures.objects ∙ c.open_shard.ensures.objects ∙ c.prepare_next.ensures.objects))
+
+pub returns-in_err-len-clause-spares : goal.returns-in_err-len-clause-spares
+returns-in_err-len-clause-spares g c =
+    beside_fault c.from_residual-in_err-len.result _
+    (spared_behind (g.S.Source.objects c.args.store.now) (g.S.Source.objects c.loop-job.store) (g.S.Source.objects c.append_job.new.store) c.args.dataset.now c.args.scale.now c.args.sharding.now (g.C.Chunks.work c.args.chunks.now) c.loop-job.invariant.stored.0
+    c.loop-job.begun c.loop-job.ready c.requires.scale (let place = c.loop-job.invariant.stored.1.between.place in let x = place.order_a in let y = place.order_b in let z = c.loop-job.invariant.low in omega arith)
+    c.loop-job.invariant.stored.1.put c.loop-job.invariant.stored.1.names c.loop-job.invariant.sound (c.append_job.ensures.objects ∙ c.open_shard.ensures.objects ∙ c.prepare_next.ensures.objects))
 
 pub returns-in_err-len-clause-answer : goal.returns-in_err-len-clause-answer
 returns-in_err-len-clause-answer g c =
@@ -357,6 +383,13 @@ returns-in_err-push_row-clause-front g c =
     beside_fault c.from_residual-in_err-push_row.result _
     (front_all (g.S.Source.objects c.args.store.now) (g.S.Source.objects c.loop-job.store) (g.S.Source.objects c.append_job.new.store) c.args.dataset.now c.args.scale.now c.args.sharding.now (jobs_in (g.C.Chunks.work c.args.chunks.now)) (stored_by (g.C.Chunks.work c.args.chunks.now)) c.loop-job.invariant.stored.0 (length (g.C.Chunks.work c.args.chunks.now).cells)
     c.loop-job.begun c.loop-job.invariant.stored.1.between.b c.loop-job.job c.requires.ordered c.loop-job.invariant.stored.1.between.place c.loop-job.invariant.stored.1.put (c.append_job.ensures.objects ∙ c.open_shard.ensures.objects ∙ c.prepare_next.ensures.objects))
+
+pub returns-in_err-push_row-clause-spares : goal.returns-in_err-push_row-clause-spares
+returns-in_err-push_row-clause-spares g c =
+    beside_fault c.from_residual-in_err-push_row.result _
+    (spared_behind (g.S.Source.objects c.args.store.now) (g.S.Source.objects c.loop-job.store) (g.S.Source.objects c.append_job.new.store) c.args.dataset.now c.args.scale.now c.args.sharding.now (g.C.Chunks.work c.args.chunks.now) c.loop-job.invariant.stored.0
+    c.loop-job.begun c.loop-job.ready c.requires.scale (let place = c.loop-job.invariant.stored.1.between.place in let x = place.order_a in let y = place.order_b in let z = c.loop-job.invariant.low in omega arith)
+    c.loop-job.invariant.stored.1.put c.loop-job.invariant.stored.1.names c.loop-job.invariant.sound (c.append_job.ensures.objects ∙ c.open_shard.ensures.objects ∙ c.prepare_next.ensures.objects))
 
 pub returns-in_err-push_row-clause-answer : goal.returns-in_err-push_row-clause-answer
 returns-in_err-push_row-clause-answer g c =
@@ -400,6 +433,13 @@ returns-in_err-next-clause-front g c =
     (front_all (g.S.Source.objects c.args.store.now) (g.S.Source.objects c.loop-job.store) (g.S.Source.objects c.end_if.new.store) c.args.dataset.now c.args.scale.now c.args.sharding.now (jobs_in (g.C.Chunks.work c.args.chunks.now)) (stored_by (g.C.Chunks.work c.args.chunks.now)) c.loop-job.invariant.stored.0 (length (g.C.Chunks.work c.args.chunks.now).cells)
     c.loop-job.begun c.loop-job.invariant.stored.1.between.b c.loop-job.job c.requires.ordered c.loop-job.invariant.stored.1.between.place c.loop-job.invariant.stored.1.put (c.end_if.ensures.objects ∙ c.append_job.ensures.objects ∙ c.open_shard.ensures.objects ∙ c.prepare_next.ensures.objects))
 
+pub returns-in_err-next-clause-spares : goal.returns-in_err-next-clause-spares
+returns-in_err-next-clause-spares g c =
+    beside_fault c.from_residual-in_err-next.result _
+    (spared_behind (g.S.Source.objects c.args.store.now) (g.S.Source.objects c.loop-job.store) (g.S.Source.objects c.end_if.new.store) c.args.dataset.now c.args.scale.now c.args.sharding.now (g.C.Chunks.work c.args.chunks.now) c.loop-job.invariant.stored.0
+    c.loop-job.begun c.loop-job.ready c.requires.scale (let place = c.loop-job.invariant.stored.1.between.place in let x = place.order_a in let y = place.order_b in let z = c.loop-job.invariant.low in omega arith)
+    c.loop-job.invariant.stored.1.put c.loop-job.invariant.stored.1.names c.loop-job.invariant.sound (c.end_if.ensures.objects ∙ c.append_job.ensures.objects ∙ c.open_shard.ensures.objects ∙ c.prepare_next.ensures.objects))
+
 pub returns-in_err-next-clause-answer : goal.returns-in_err-next-clause-answer
 returns-in_err-next-clause-answer g c =
     as_fault (λ r. IfSome (g.S.Source.objects c.args.store.now) (λ m. WritesAll r (first_of_jobs (g.C.Chunks.work c.args.chunks.now) m))) c.from_residual-in_err-next.result c.from_residual-in_err-next.ensures.1 (λ fault is. store_answer Written (g.S.Source.objects c.args.store.now) (g.C.Chunks.work c.args.chunks.now).fault (length (g.C.Chunks.work c.args.chunks.now).cells) c.in_err-next.field-0.0 fault is)
@@ -418,6 +458,13 @@ returns-in_err-finish_if-clause-front g c =
     beside_fault c.from_residual-in_err-finish_if.result _
     (front_all (g.S.Source.objects c.args.store.now) (g.S.Source.objects c.loop-job.store) (g.S.Source.objects c.finish_if.new.store) c.args.dataset.now c.args.scale.now c.args.sharding.now (jobs_in (g.C.Chunks.work c.args.chunks.now)) (stored_by (g.C.Chunks.work c.args.chunks.now)) c.loop-job.invariant.stored.0 (length (g.C.Chunks.work c.args.chunks.now).cells)
     c.loop-job.begun c.loop-job.invariant.stored.1.between.b c.loop-job.job c.requires.ordered c.loop-job.invariant.stored.1.between.place c.loop-job.invariant.stored.1.put (c.in_err-finish_if.ensures.kept ∙ c.end_if.ensures.objects ∙ c.append_job.ensures.objects ∙ c.open_shard.ensures.objects ∙ c.prepare_next.ensures.objects))
+
+pub returns-in_err-finish_if-clause-spares : goal.returns-in_err-finish_if-clause-spares
+returns-in_err-finish_if-clause-spares g c =
+    beside_fault c.from_residual-in_err-finish_if.result _
+    (spared_behind (g.S.Source.objects c.args.store.now) (g.S.Source.objects c.loop-job.store) (g.S.Source.objects c.finish_if.new.store) c.args.dataset.now c.args.scale.now c.args.sharding.now (g.C.Chunks.work c.args.chunks.now) c.loop-job.invariant.stored.0
+    c.loop-job.begun c.loop-job.ready c.requires.scale (let place = c.loop-job.invariant.stored.1.between.place in let x = place.order_a in let y = place.order_b in let z = c.loop-job.invariant.low in omega arith)
+    c.loop-job.invariant.stored.1.put c.loop-job.invariant.stored.1.names c.loop-job.invariant.sound (c.in_err-finish_if.ensures.kept ∙ c.end_if.ensures.objects ∙ c.append_job.ensures.objects ∙ c.open_shard.ensures.objects ∙ c.prepare_next.ensures.objects))
 
 pub returns-in_err-finish_if-clause-answer : goal.returns-in_err-finish_if-clause-answer
 returns-in_err-finish_if-clause-answer g c =

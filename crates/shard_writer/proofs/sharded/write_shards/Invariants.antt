@@ -5,7 +5,7 @@ use Rattle.vol_base.specs.Outside.{Objects}
 use Rattle.vol_spec.specs.BoxValues.{first_some}
 use Rattle.shard_writer.specs.Writing.{Drops}
 use Rattle.shard_writer.specs.Plain.{chunk_ready}
-use Rattle.shard_writer.specs.Serving.{AreChunks, ServesFrames}
+use Rattle.shard_writer.specs.Serving.{AreWorkers, ServesFrames}
 use Rattle.shard_writer.specs.States.{AreStored}
 use Rattle.shard_writer.proofs.sharded.write_shards.Given as goal
 
@@ -20,7 +20,7 @@ invariant-loop-job g l = record {
   few : l.objects ≤ l.job;
   bound : l.bytes + l.at + 24 * length l.rows.items ≤ l.job * (2 ^ 28 + 2 ^ 27 + 24);
   sound : (m : Objects) → g.S.Source.objects l.fn.store ≡ Some m → first_some (map ((g.C.Chunks.work l.fn.chunks).fault m) (range_with_len 0 l.ready)) ≡ None;
-  encoded : AreChunks (chunk_ready (g.C.Chunks.work l.chunks) (g.C.Chunks.ready l.chunks)) l.encoded.first l.encoded.list.items;
+  team : AreWorkers l.scale (chunk_ready (g.C.Chunks.work l.chunks) (g.C.Chunks.ready l.chunks)) l.team;
   frames : ServesFrames l.scale l.frames;
   draft : l.begun ≡ l.job → Drops (g.S.Source.draft l.fn.store) (g.S.Source.draft l.store);
   sure : g.C.Chunks.sure l.fn.chunks → g.C.Chunks.sure l.chunks;

@@ -10,11 +10,11 @@ use Rattle.shard_writer.proofs.steps.append_job.Goals as goal
 pub returns-in-Some-clause-appended : goal.returns-in-Some-clause-appended
 returns-in-Some-clause-appended g c =
     subst (λ bytes. OnOk c.append_chunk.result (g.S.Source.draft c.append_chunk.new.store ≡ option_map (λ d. appended d bytes) (g.S.Source.draft c.args.store.now)))
-    (c.in-Some.ensures.bytes (chunk_ready (g.C.Chunks.work c.args.chunks.now) (g.C.Chunks.ready c.args.chunks.now)) c.requires.encoded) c.append_chunk.ensures.appended
+    (c.in-Some.ensures.bytes c.args.scale.now (chunk_ready (g.C.Chunks.work c.args.chunks.now) (g.C.Chunks.ready c.args.chunks.now)) c.requires.team) c.append_chunk.ensures.appended
 
 pub returns-in-Some-clause-len : goal.returns-in-Some-clause-len
 returns-in-Some-clause-len g c =
-    subst (λ bytes. IfOk c.append_chunk.result (λ len. len ≡ length bytes)) (c.in-Some.ensures.bytes (chunk_ready (g.C.Chunks.work c.args.chunks.now) (g.C.Chunks.ready c.args.chunks.now)) c.requires.encoded) c.append_chunk.ensures.len
+    subst (λ bytes. IfOk c.append_chunk.result (λ len. len ≡ length bytes)) (c.in-Some.ensures.bytes c.args.scale.now (chunk_ready (g.C.Chunks.work c.args.chunks.now) (g.C.Chunks.ready c.args.chunks.now)) c.requires.team) c.append_chunk.ensures.len
 
 pub returns-in-Some-clause-plain : goal.returns-in-Some-clause-plain
 returns-in-Some-clause-plain g c =
@@ -24,7 +24,7 @@ returns-in-Some-clause-plain g c =
 
 pub returns-in-Some-clause-small : goal.returns-in-Some-clause-small
 returns-in-Some-clause-small g c =
-    let small = c.in-Some.ensures.small (chunk_ready (g.C.Chunks.work c.args.chunks.now) (g.C.Chunks.ready c.args.chunks.now)) c.requires.encoded in
+    let small = c.in-Some.ensures.small c.args.scale.now (chunk_ready (g.C.Chunks.work c.args.chunks.now) (g.C.Chunks.ready c.args.chunks.now)) c.requires.team in
     if_ok c.append_chunk.result _ _ (λ len is. omega (arith, is, small)) c.append_chunk.ensures.len
 
 pub returns-in-None-clause-len : goal.returns-in-None-clause-len

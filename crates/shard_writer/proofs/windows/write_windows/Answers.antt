@@ -1,4 +1,4 @@
-use Rattle.std.proofs.Common.{◌≡◌, ◌≤◌, ◌-◌, ◌+◌, ◌∙◌, ℕ, Some, None, subst, arith, Err}
+use Rattle.std.proofs.Common.{◌≡◌, ◌≤◌, ◌-◌, ◌+◌, ◌∙◌, ◌⊎◌, ℕ, Some, None, subst, arith, Err}
 use Rattle.std.proofs.lemmas.Result.{err_from_is_err_and}
 use Rattle.vol_base.specs.Outside.{Objects}
 use Rattle.vol_spec.specs.CellNames.{cell_name}
@@ -8,6 +8,7 @@ use Rattle.shard_writer.specs.Plain.{bytes_from, objects_from}
 use Rattle.shard_writer.specs.Writing.{joint_len, PutsFront, stored_by, WritesAll}
 use Rattle.vol_spec.proofs.Told.{from_told, in_told}
 use Rattle.shard_writer.proofs.PutSteps.{beside_fault}
+use Rattle.shard_writer.proofs.SpareSteps.{more_spared, stays_named, under_name}
 use Rattle.shard_writer.proofs.WindowSteps.{bytes_behind, drops_on, Keeps, keeps_of, keeps_stored, more_faulty, more_front, more_joint, more_put, more_sound}
 use Rattle.shard_writer.proofs.windows.write_windows.Goals as goal
 
@@ -42,6 +43,28 @@ returns-in_err-bytes-clause-front g c =
     (omega (arith, c.min-to.ensures, c.loop-from-test.true)) keeps
     (subst (λ (x : Work). PutsFront (objects_from c.args.dataset.now c.args.scale.now x.cells (stored_by x now) c.loop-from.from (c.min-to.result - c.loop-from.from)) now (g.S.Source.objects c.write_window.new.store)) c.loop-from.invariant.work
     (from_told _ _ now (c.loop-from.invariant.put m told) c.in_err-bytes.ensures.front))))
+
+pub returns-in_err-bytes-clause-spares : goal.returns-in_err-bytes-clause-spares
+returns-in_err-bytes-clause-spares g c =
+    let w = g.C.Chunks.work c.args.chunks.now in
+    beside_fault c.from_residual.result _
+    (in_told _ _ (λ m told.
+    let apart = from_told _ _ m told c.requires.apart in
+    let jobs = (g.met.C.Chunks g.world.𝓛 g.world.𝓜 g.world.𝓡 ((λ s x. x), (λ x. x), (λ x. x), λ x. x)).ordered c.args.chunks.now in
+    let kept = (g.met.C.Chunks g.world.𝓛 g.world.𝓜 g.world.𝓡 ((λ s x. x), (λ x. x), (λ x. x), λ x. x)).kept c.args.chunks.now c.args.dataset.now c.args.scale.now apart in
+    let now : Objects = put_in m (objects_from c.args.dataset.now c.args.scale.now w.cells (stored_by w m) 0 c.loop-from.from) in
+    more_spared m (g.S.Source.objects c.write_window.new.store) c.args.dataset.now c.args.scale.now w c.args.count c.loop-from.from (c.min-to.result - c.loop-from.from)
+    c.requires.scale c.requires.count (omega (arith, c.min-to.ensures, c.loop-from-test.true))
+    (keeps_stored w (λ i. cell_name c.args.dataset.now c.args.scale.now (cell_of w.cells i)) c.args.count
+    (keeps_of w.raw c.args.dataset.now w.scale c.args.scale.now w.cells c.args.count c.requires.scale c.requires.unsharded jobs c.requires.count kept.raws))
+    (keeps_of w.fault c.args.dataset.now w.scale c.args.scale.now w.cells c.args.count c.requires.scale c.requires.unsharded jobs c.requires.count kept.faults)
+    (keeps_of (under_name c.args.dataset.now c.args.scale.now w.cells) c.args.dataset.now w.scale c.args.scale.now w.cells c.args.count c.requires.scale c.requires.unsharded jobs c.requires.count
+    (stays_named c.args.dataset.now c.args.scale.now w.cells))
+    (c.loop-from.invariant.sound m told)
+    (subst (λ (x : Work). PutsFront (objects_from c.args.dataset.now c.args.scale.now x.cells (stored_by x now) c.loop-from.from (c.min-to.result - c.loop-from.from)) now (g.S.Source.objects c.write_window.new.store)) c.loop-from.invariant.work
+    (from_told _ _ now (c.loop-from.invariant.put m told) c.in_err-bytes.ensures.front))
+    (subst (λ (x : Work). (g.S.Source.objects c.write_window.new.store ≡ Some now) ⊎ (jobs_fault x now c.loop-from.from (c.min-to.result - c.loop-from.from) ≡ None)) c.loop-from.invariant.work
+    (from_told _ _ now (c.loop-from.invariant.put m told) c.in_err-bytes.ensures.unput))))
 
 pub loop-from-preserved : goal.loop-from-preserved
 loop-from-preserved g c =
@@ -79,6 +102,7 @@ loop-from-preserved g c =
           (from_told _ _ now (c.loop-from.invariant.put m told) c.in_ok-bytes.ensures.told));
       plain = λ raw. bytes_behind c.args.scale.now w.cells c.loop-from.from (c.min-to.result - c.loop-from.from) c.min-to.result c.loop-from.bytes c.in_ok-bytes.field-0 behind (c.loop-from.invariant.plain raw)
           (subst (λ (x : Work). c.in_ok-bytes.field-0 ≡ bytes_from c.args.scale.now x.cells c.loop-from.from (c.min-to.result - c.loop-from.from)) c.loop-from.invariant.work (c.in_ok-bytes.ensures.plain raw));
+      team = c.write_window.ensures.team;
       frames = c.write_window.ensures.frames;
       small = omega (arith, c.loop-from.invariant.small, c.in_ok-bytes.ensures.small, behind);
       within = within;

@@ -3,8 +3,8 @@ use Rattle.vol_base.specs.Outside.{Objects}
 use Rattle.vol_spec.specs.StoredCells.{put_in}
 use Rattle.vol_spec.specs.declared.encoding.Encoding.TheVariants.{Raw}
 use Rattle.write_plan.specs.Jobs.{jobs_fault}
-use Rattle.shard_writer.specs.Plain.{bytes_from, objects_from}
-use Rattle.shard_writer.specs.Serving.{ServesFrames}
+use Rattle.shard_writer.specs.Plain.{bytes_from, chunk_ready, objects_from}
+use Rattle.shard_writer.specs.Serving.{AreWorkers, ServesFrames}
 use Rattle.shard_writer.specs.Writing.{Drops, joint_len, stored_by}
 use Rattle.shard_writer.proofs.windows.write_windows.Given as goal
 
@@ -17,6 +17,7 @@ invariant-loop-from g l = record {
   small : l.bytes ≤ l.from * 2 ^ 27;
   within : l.from ≤ l.count;
   work : g.C.Chunks.work l.chunks ≡ g.C.Chunks.work l.fn.chunks;
+  team : AreWorkers l.scale (chunk_ready (g.C.Chunks.work l.chunks) (g.C.Chunks.ready l.chunks)) l.team;
   frames : ServesFrames l.scale l.frames;
   sure : g.C.Chunks.sure l.fn.chunks → g.C.Chunks.sure l.chunks;
   draft : Drops (g.S.Source.draft l.fn.store) (g.S.Source.draft l.store);

@@ -1,6 +1,6 @@
 use Rattle.std.proofs.Common.{◌∙◌, Err, ap, refl}
 use Rattle.vol_spec.proofs.Told.{from_told, in_told}
-use Rattle.vol_tool.proofs.ReshardSteps.{copy_cut, copy_printed, copy_unprinted, reshard_complete, reshard_left, reshard_shown}
+use Rattle.vol_tool.proofs.ReshardSteps.{copied_back, copy_cut, copy_printed, copy_unprinted, reshard_complete, reshard_left, reshard_shown}
 use Rattle.vol_tool.specs.Seen.{outlets_of}
 use Rattle.vol_tool.proofs.top.run_reshard.Goals as goal
 
@@ -40,3 +40,7 @@ pub returns-in-Ok-print_written-clause-shows : goal.returns-in-Ok-print_written-
 returns-in-Ok-print_written-clause-shows g c =
     copy_printed c.in-Ok.written (g.S.Source.objects c.args.store.now) (g.S.Source.objects c.copy_stored.new.store) c.args.dataset.now c.args.key.now c.args.to_dataset.now c.args.to_key.now
     (outlets_of g.O.Outlet.written g.O.Outlet.faults g.E.Outlet.written g.E.Outlet.faults c.args.out.now c.print_written.new.out c.args.err.now c.args.err.now) c.in-Ok.ensures.copies c.in-Ok-print_written.ensures.prints
+
+pub returns-in-Ok-print_written-clause-back : goal.returns-in-Ok-print_written-clause-back
+returns-in-Ok-print_written-clause-back g c done =
+    copied_back c.in-Ok.written (g.S.Source.objects c.args.store.now) (g.S.Source.objects c.copy_stored.new.store) c.args.dataset.now c.args.key.now c.args.to_dataset.now c.args.to_key.now c.in-Ok.ensures.copies

@@ -1,6 +1,6 @@
 use Rattle.std.proofs.Common.{◌∙◌, Err, ap, refl}
 use Rattle.vol_spec.proofs.Told.{from_told, in_told}
-use Rattle.vol_shell.specs.Effects.{Gains}
+use Rattle.vol_base.specs.Gains.{Gains}
 use Rattle.vol_tool.proofs.VerifySteps.{cells_printed, report_cut, report_printed, report_unprinted, verify_complete, verify_left, verify_shown}
 use Rattle.vol_tool.specs.Seen.{outlets_of}
 use Rattle.vol_tool.proofs.top.run_verify.Goals as goal

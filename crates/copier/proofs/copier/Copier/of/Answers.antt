@@ -1,4 +1,4 @@
-use Rattle.std.proofs.Common.{◌≡◌, ◌≤◌, ◌^◌, IfSome, arith, length, map, subst, sym}
+use Rattle.std.proofs.Common.{◌≡◌, ◌≤◌, ◌^◌, IfSome, arith, length, subst, sym}
 use Rattle.std.specs.Prelude.{filter}
 use Rattle.vol_spec.specs.Copies.{AreOfOneVolume, copied_cells}
 use Rattle.vol_spec.specs.Grid.{cells_on, numbers_on}
@@ -8,7 +8,7 @@ use Rattle.chunk_laws.specs.Told.{is_listed}
 use Rattle.cutout.specs.Opened.{Opened}
 use Rattle.write_plan.specs.Jobs.{cells_in}
 use Rattle.write_plan.proofs.KeySteps.{distinct_cells}
-use Rattle.copier.specs.Held.{IsHeld}
+use Rattle.copier.specs.Held.{IsHeld, holding}
 use Rattle.copier.proofs.HeldSteps.{held_few, held_new, held_told}
 use Rattle.copier.proofs.copier.Copier.of.Goals as goal
 
@@ -23,13 +23,12 @@ of-requires-clause-distinct g c = distinct_cells c.args.to.now c.in-Ok-find_copi
 
 pub invariant_of-result : goal.invariant_of-result
 invariant_of-result g c =
-    subst (λ (r : Opened). IsHeld (record { dataset = r.dataset; from = r.scale; to = c.duplicate.result; cells = cells_in c.in-Ok-of.jobs; first = 0; count = 0; frames = map (λ f. f.items) c.in-Ok-reserve_frames.frames.items }) c.in-Ok-of.jobs)
-    (sym c.find_copied.ensures.same)
-    (subst (λ (s : Scale). IsHeld (record { dataset = c.in-Ok.reader.dataset; from = c.in-Ok.reader.scale; to = s; cells = cells_in c.in-Ok-of.jobs; first = 0; count = 0; frames = map (λ f. f.items) c.in-Ok-reserve_frames.frames.items }) c.in-Ok-of.jobs)
-    (sym c.duplicate.ensures)
-    (held_new c.in-Ok.reader.dataset c.in-Ok.reader.scale c.args.to.now c.in-Ok-find_copied.cells.items c.in-Ok-of.jobs c.in-Ok-reserve_frames.frames.items
+    let frames = c.in-Ok-reserve_frames.frames.items in
+    subst (λ (r : Opened). IsHeld (holding r.dataset r.scale c.duplicate.result c.in-Ok-of.jobs 0 0 frames) c.in-Ok-of.jobs frames) (sym c.find_copied.ensures.same)
+    (subst (λ (s : Scale). IsHeld (holding c.in-Ok.reader.dataset c.in-Ok.reader.scale s c.in-Ok-of.jobs 0 0 frames) c.in-Ok-of.jobs frames) (sym c.duplicate.ensures)
+    (held_new c.in-Ok.reader.dataset c.in-Ok.reader.scale c.args.to.now c.in-Ok-find_copied.cells.items c.in-Ok-of.jobs frames
     (subst (λ s. AreOfOneVolume s c.args.to.now) (sym c.in-Ok.ensures.scale) c.requires.volume) c.in-Ok-find_copied.ensures.order c.in-Ok-of.ensures.jobs
-    (omega (arith, c.in-Ok-reserve_frames.ensures.count, c.min.ensures, c.window.ensures, c.len.ensures)) c.in-Ok-reserve_frames.ensures.lens))
+    (omega (arith, c.in-Ok-reserve_frames.ensures.count, c.min.ensures, c.window.ensures, c.len.ensures)) c.in-Ok-reserve_frames.ensures.each))
 
 pub returns-clause-few : goal.returns-clause-few
 returns-clause-few g c =

@@ -1,23 +1,24 @@
 use Rattle.std.proofs.Common.{◌-◌, ◌∙◌, ap, arith, sym, refl, length, map, subst, Ok, Err}
+use Rattle.std.specs.Prelude.{All}
 use Rattle.std.specs.Vec.{with_items}
 use Rattle.std.proofs.lemmas.List.{length-map}
 use Rattle.cutout.specs.Opened.{Opened}
 use Rattle.write_plan.specs.Jobs.{cells_in, window_of}
-use Rattle.copier.specs.Held.{HasLens, Held, IsApart, IsHeld, cells_of, work_of}
+use Rattle.copier.specs.Held.{Held, Holds, IsApart, IsHeld, cells_of, holding, work_of}
 use Rattle.copier.proofs.HeldSteps.{all_cells, held_again, held_len, held_of, prepare_of, ready_held, ready_some, same_items}
 use Rattle.copier.proofs.copier.CopierChunks.prepare.Goals as goal
 
 pub read_jobs-requires-clause-cells : goal.read_jobs-requires-clause-cells
 read_jobs-requires-clause-cells g c =
-    let h : Held = record { dataset = c.self.inside.reader.dataset; from = c.self.inside.reader.scale; to = c.self.inside.to; cells = cells_in c.self.inside.jobs; first = c.self.inside.first; count = c.self.inside.count; frames = map (λ f. f.items) c.self.inside.frames.items } in
+    let h : Held = holding c.self.inside.reader.dataset c.self.inside.reader.scale c.self.inside.to c.self.inside.jobs c.self.inside.first c.self.inside.count c.self.inside.frames.items in
     all_cells h c.self.inside.jobs c.self.invariant.jobs_are
 
-pub read_jobs-requires-clause-lens : goal.read_jobs-requires-clause-lens
-read_jobs-requires-clause-lens g c = subst (λ fs. HasLens c.self.inside.to (map (λ f. f.items) fs)) (sym c.deref_mut.ensures.value) c.self.invariant.lens
+pub read_jobs-requires-clause-each : goal.read_jobs-requires-clause-each
+read_jobs-requires-clause-each g c = subst (All (Holds c.self.inside.to)) (sym c.deref_mut.ensures.value) c.self.invariant.each
 
 pub read_jobs-requires-clause-within : goal.read_jobs-requires-clause-within
 read_jobs-requires-clause-within g c =
-    let h : Held = record { dataset = c.self.inside.reader.dataset; from = c.self.inside.reader.scale; to = c.self.inside.to; cells = cells_in c.self.inside.jobs; first = c.self.inside.first; count = c.self.inside.count; frames = map (λ f. f.items) c.self.inside.frames.items } in
+    let h : Held = holding c.self.inside.reader.dataset c.self.inside.reader.scale c.self.inside.to c.self.inside.jobs c.self.inside.first c.self.inside.count c.self.inside.frames.items in
     let view = ap (λ x. length (cells_of x)) c.self.view_is in
     let len = held_len h c.self.inside.jobs c.self.invariant.jobs_are in
     omega (arith, view, len, c.requires.within, c.requires.order)
@@ -33,70 +34,65 @@ read_jobs-requires-clause-room g c =
 
 pub invariant_of-self : goal.invariant_of-self
 invariant_of-self g c =
-    let h : Held = record { dataset = c.self.inside.reader.dataset; from = c.self.inside.reader.scale; to = c.self.inside.to; cells = cells_in c.self.inside.jobs; first = c.self.inside.first; count = c.self.inside.count; frames = map (λ f. f.items) c.self.inside.frames.items } in
+    let h : Held = holding c.self.inside.reader.dataset c.self.inside.reader.scale c.self.inside.to c.self.inside.jobs c.self.inside.first c.self.inside.count c.self.inside.frames.items in
     let view = ap (λ x. length (cells_of x)) c.self.view_is in
     let window = ap (λ x. window_of x.to) c.self.view_is in
     let room = c.self.invariant.room in
     let all = length-map c.self.inside.frames.items (λ f. f.items) in
-    subst (λ (r : Opened). IsHeld (record { dataset = r.dataset; from = r.scale; to = c.self.inside.to; cells = cells_in c.self.inside.jobs; first = c.args.from; count = c.args.to - c.args.from; frames = map (λ v. v.items) (with_items c.self.inside.frames c.read_jobs.new.frames).items }) c.self.inside.jobs)
+    subst (λ (r : Opened). IsHeld (holding r.dataset r.scale c.self.inside.to c.self.inside.jobs c.args.from (c.args.to - c.args.from) (with_items c.self.inside.frames c.read_jobs.new.frames).items) c.self.inside.jobs (with_items c.self.inside.frames c.read_jobs.new.frames).items)
     (sym c.read_jobs.ensures.same)
-    (held_again h c.self.inside.jobs c.args.from (c.args.to - c.args.from) c.self.inside.frames c.read_jobs.new.frames c.self.invariant refl
+    (held_again h c.self.inside.jobs c.args.from (c.args.to - c.args.from) c.self.inside.frames.items c.self.inside.frames c.read_jobs.new.frames c.self.invariant refl
     (c.read_jobs.ensures.frames ∙ ap length c.deref_mut.ensures.value)
-    (omega (arith, view, window, room, all, c.requires.within, c.requires.window)) c.read_jobs.ensures.lens)
+    (omega (arith, view, window, room, all, c.requires.within, c.requires.window)) c.in-Ok.ensures.filled c.read_jobs.ensures.each)
 
 pub invariant_of-self-in-Err : goal.invariant_of-self-in-Err
 invariant_of-self-in-Err g c =
-    let h : Held = record { dataset = c.self.inside.reader.dataset; from = c.self.inside.reader.scale; to = c.self.inside.to; cells = cells_in c.self.inside.jobs; first = c.self.inside.first; count = c.self.inside.count; frames = map (λ f. f.items) c.self.inside.frames.items } in
-    subst (λ (r : Opened). IsHeld (record { dataset = r.dataset; from = r.scale; to = c.self.inside.to; cells = cells_in c.self.inside.jobs; first = c.self.inside.first; count = 0; frames = map (λ v. v.items) (with_items c.self.inside.frames c.read_jobs.new.frames).items }) c.self.inside.jobs)
+    let h : Held = holding c.self.inside.reader.dataset c.self.inside.reader.scale c.self.inside.to c.self.inside.jobs c.self.inside.first c.self.inside.count c.self.inside.frames.items in
+    subst (λ (r : Opened). IsHeld (holding r.dataset r.scale c.self.inside.to c.self.inside.jobs c.self.inside.first 0 (with_items c.self.inside.frames c.read_jobs.new.frames).items) c.self.inside.jobs (with_items c.self.inside.frames c.read_jobs.new.frames).items)
     (sym c.read_jobs.ensures.same)
-    (held_again h c.self.inside.jobs c.self.inside.first 0 c.self.inside.frames c.read_jobs.new.frames c.self.invariant refl
-    (c.read_jobs.ensures.frames ∙ ap length c.deref_mut.ensures.value) (omega arith) c.read_jobs.ensures.lens)
+    (held_again h c.self.inside.jobs c.self.inside.first 0 c.self.inside.frames.items c.self.inside.frames c.read_jobs.new.frames c.self.invariant refl
+    (c.read_jobs.ensures.frames ∙ ap length c.deref_mut.ensures.value) (omega arith) (λ k l. absurd (omega (arith, l))) c.read_jobs.ensures.each)
 
 pub returns-in-Err-clause-answer : goal.returns-in-Err-clause-answer
 returns-in-Err-clause-answer g c =
-    let h : Held = record { dataset = c.self.inside.reader.dataset; from = c.self.inside.reader.scale; to = c.self.inside.to; cells = cells_in c.self.inside.jobs; first = c.self.inside.first; count = c.self.inside.count; frames = map (λ f. f.items) c.self.inside.frames.items } in
+    let h : Held = holding c.self.inside.reader.dataset c.self.inside.reader.scale c.self.inside.to c.self.inside.jobs c.self.inside.first c.self.inside.count c.self.inside.frames.items in
     prepare_of _ (Err c.in-Err.fault) h c.args.self.now (cells_in c.self.inside.jobs) c.args.from (c.args.to - c.args.from) _ c.self.view_is (held_of h c.self.inside.jobs c.self.invariant.jobs_are) c.in-Err.ensures.read
 
 pub returns-in-Ok-clause-answer : goal.returns-in-Ok-clause-answer
 returns-in-Ok-clause-answer g c =
-    let h : Held = record { dataset = c.self.inside.reader.dataset; from = c.self.inside.reader.scale; to = c.self.inside.to; cells = cells_in c.self.inside.jobs; first = c.self.inside.first; count = c.self.inside.count; frames = map (λ f. f.items) c.self.inside.frames.items } in
+    let h : Held = holding c.self.inside.reader.dataset c.self.inside.reader.scale c.self.inside.to c.self.inside.jobs c.self.inside.first c.self.inside.count c.self.inside.frames.items in
     prepare_of _ (Ok tt) h c.args.self.now (cells_in c.self.inside.jobs) c.args.from (c.args.to - c.args.from) _ c.self.view_is (held_of h c.self.inside.jobs c.self.invariant.jobs_are) c.in-Ok.ensures.read
 
 pub returns-in-Ok-clause-prepared : goal.returns-in-Ok-clause-prepared
 returns-in-Ok-clause-prepared g c job low high =
-    let h : Held = record { dataset = c.self.inside.reader.dataset; from = c.self.inside.reader.scale; to = c.self.inside.to; cells = cells_in c.self.inside.jobs; first = c.self.inside.first; count = c.self.inside.count; frames = map (λ f. f.items) c.self.inside.frames.items } in
+    let h : Held = holding c.self.inside.reader.dataset c.self.inside.reader.scale c.self.inside.to c.self.inside.jobs c.self.inside.first c.self.inside.count c.self.inside.frames.items in
     ready_some h c.args.from c.args.to _ job low high
 
 pub returns-in-Ok-clause-ready : goal.returns-in-Ok-clause-ready
 returns-in-Ok-clause-ready g c =
-    let h : Held = record { dataset = c.self.inside.reader.dataset; from = c.self.inside.reader.scale; to = c.self.inside.to; cells = cells_in c.self.inside.jobs; first = c.self.inside.first; count = c.self.inside.count; frames = map (λ f. f.items) c.self.inside.frames.items } in
-    let view = ap (λ x. length (cells_of x)) c.self.view_is in
-    let window = ap (λ x. window_of x.to) c.self.view_is in
-    let room = c.self.invariant.room in
-    let items = length-map c.self.inside.frames.items (λ f. f.items) in
+    let h : Held = holding c.self.inside.reader.dataset c.self.inside.reader.scale c.self.inside.to c.self.inside.jobs c.self.inside.first c.self.inside.count c.self.inside.frames.items in
     let len = c.read_jobs.ensures.frames ∙ ap length c.deref_mut.ensures.value in
     ready_held _ h c.args.self.now (cells_in c.self.inside.jobs) c.args.from c.args.to (map (λ f. f.items) c.read_jobs.new.frames) _ c.self.view_is (held_of h c.self.inside.jobs c.self.invariant.jobs_are)
-    (ap (map (λ f. f.items)) (same_items c.self.inside.frames c.read_jobs.new.frames len)) c.read_jobs.ensures.lens
-    (omega (arith, view, window, room, c.requires.window, c.requires.within, items, len, length-map c.read_jobs.new.frames (λ f. f.items))) c.in-Ok.ensures.read
+    (ap (map (λ f. f.items)) (same_items c.self.inside.frames c.read_jobs.new.frames len)) c.in-Ok.ensures.filled c.in-Ok.ensures.read
 
 pub returns-in-Ok-clause-work : goal.returns-in-Ok-clause-work
 returns-in-Ok-clause-work g c =
-    ap (λ (r : Opened). work_of (record { dataset = r.dataset; from = r.scale; to = c.self.inside.to; cells = cells_in c.self.inside.jobs; first = c.self.inside.first; count = c.self.inside.count; frames = map (λ f. f.items) c.self.inside.frames.items })) c.read_jobs.ensures.same
+    ap (λ (r : Opened). work_of (holding r.dataset r.scale c.self.inside.to c.self.inside.jobs c.self.inside.first c.self.inside.count c.self.inside.frames.items)) c.read_jobs.ensures.same
     ∙ ap work_of c.self.view_is
 
 pub returns-in-Err-clause-work : goal.returns-in-Err-clause-work
 returns-in-Err-clause-work g c =
-    ap (λ (r : Opened). work_of (record { dataset = r.dataset; from = r.scale; to = c.self.inside.to; cells = cells_in c.self.inside.jobs; first = c.self.inside.first; count = c.self.inside.count; frames = map (λ f. f.items) c.self.inside.frames.items })) c.read_jobs.ensures.same
+    ap (λ (r : Opened). work_of (holding r.dataset r.scale c.self.inside.to c.self.inside.jobs c.self.inside.first c.self.inside.count c.self.inside.frames.items)) c.read_jobs.ensures.same
     ∙ ap work_of c.self.view_is
 
 pub returns-in-Ok-clause-apart : goal.returns-in-Ok-clause-apart
 returns-in-Ok-clause-apart g c dataset s apart =
-    subst (λ (r : Opened). IsApart (record { dataset = r.dataset; from = r.scale; to = c.self.inside.to; cells = cells_in c.self.inside.jobs; first = c.self.inside.first; count = c.self.inside.count; frames = map (λ f. f.items) c.self.inside.frames.items }) dataset s) (sym c.read_jobs.ensures.same)
+    subst (λ (r : Opened). IsApart (holding r.dataset r.scale c.self.inside.to c.self.inside.jobs c.self.inside.first c.self.inside.count c.self.inside.frames.items) dataset s) (sym c.read_jobs.ensures.same)
     (subst (λ h. IsApart h dataset s) (sym c.self.view_is) apart)
 
 pub returns-in-Err-clause-apart : goal.returns-in-Err-clause-apart
 returns-in-Err-clause-apart g c dataset s apart =
-    subst (λ (r : Opened). IsApart (record { dataset = r.dataset; from = r.scale; to = c.self.inside.to; cells = cells_in c.self.inside.jobs; first = c.self.inside.first; count = c.self.inside.count; frames = map (λ f. f.items) c.self.inside.frames.items }) dataset s) (sym c.read_jobs.ensures.same)
+    subst (λ (r : Opened). IsApart (holding r.dataset r.scale c.self.inside.to c.self.inside.jobs c.self.inside.first c.self.inside.count c.self.inside.frames.items) dataset s) (sym c.read_jobs.ensures.same)
     (subst (λ h. IsApart h dataset s) (sym c.self.view_is) apart)
 
 pub returns-in-Ok-clause-sure : goal.returns-in-Ok-clause-sure
