@@ -46,8 +46,8 @@ PIECE = 1 << 20
 SEGMENT = r"(?!\.\.?(?:/|$))[A-Za-z0-9_.-]+"
 NAME = re.compile(rf"(?!-){SEGMENT}(?:/{SEGMENT})*")
 
-# Statuses after which nothing is stored.
-REFUSALS = (1, 2, 3)
+# Statuses after which nothing is stored: the program's refusals, and that of bin/vol_tool where there is no program.
+REFUSALS = (1, 2, 3, 125)
 
 # A last axis of at most so many values, behind a longer first one, is one of channels rather than x.
 FEW_CHANNELS = 4
@@ -310,7 +310,12 @@ def put(words):
         write_info(path, volume)
     begin = scale.get("voxel_offset", [0, 0, 0])
     head = b"PVW1" + struct.pack("<I3q3Q", 1, *begin, *values.size)
-    tool = run_tool(["write", words.dataset, words.key, f"--workers={words.workers}"], stdin=subprocess.PIPE)
+    try:
+        tool = run_tool(["write", words.dataset, words.key, f"--workers={words.workers}"], stdin=subprocess.PIPE)
+    except OSError:
+        if not is_there:
+            put_back(path, before)
+        raise
     with contextlib.suppress(BrokenPipeError):
         with tool.stdin as stream:
             stream.write(head)

@@ -202,6 +202,18 @@ def refuses_names(program, _, folder):
 
 
 @in_folder
+def keeps_info_without_program(program, _, folder):
+    cube(folder / "in.npy", "|u1")
+    (folder / "none").write_text("#!/bin/sh\nexit 125\n")
+    (folder / "none").chmod(0o755)
+    for there, wanted in [(folder / "none", 125), (folder / "missing", 1)]:
+        status, _, _ = call(there, folder, "put", "in.npy", "d", "s")
+        if status != wanted or (folder / "d/info").exists():
+            return f"{there.name}: {status}"
+    return None
+
+
+@in_folder
 def keeps_info(program, _, folder):
     cube(folder / "in.npy", "|u1")
     (folder / "d/s").mkdir(parents=True)
@@ -285,6 +297,7 @@ def judge_all(program):
         (refuses_boxes, "boxes that aren't there"),
         (refuses_names, "names that the program takes as none"),
         (keeps_info, "an info after a refusal"),
+        (keeps_info_without_program, "an info where there is no program"),
         (keeps_lengths, "lengths of a voxel"),
         (takes_infos, "infos that others made"),
         (adds_layouts, "scales in other layouts"),
