@@ -14,5 +14,5 @@ pub use boxes::{cell_box, cell_of, grid, inside, whole};
 pub use layout::{byte_len, local_index};
 pub use listing::{cells, count_cells, tell_cells};
 pub use stored::tell_stored;
-pub use text::object_name;
+pub use text::{find_folder, object_name};
 pub use walk::CellWalk;

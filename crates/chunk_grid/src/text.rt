@@ -1,9 +1,9 @@
-//! The names of cells' objects.
+//! The names of cells' objects, and of the folder that they stand in.
 
 ghost use Rattle.std.specs.Prelude.{◌≡◌, ◌≤◌, ◌<◌, ◌+◌, ◌^◌, ◌++◌, ◌∷◌, [], ℕ, pos, neg_ℤ, ◌≤ℤ◌, length, take};
 ghost use Rattle.std.specs.Fmt.{decimal, signed_decimal};
 ghost use Rattle.vol_spec.specs.Grid.{IsCell};
-ghost use Rattle.vol_spec.specs.CellNames.{span_text, box_name, cell_name, joined};
+ghost use Rattle.vol_spec.specs.CellNames.{span_text, box_name, cell_name, folder_of, joined};
 ghost use Rattle.chunk_grid.specs.Axes.{IsSmallOn};
 
 use crate::cell_box;
@@ -104,6 +104,14 @@ fn put_folder(to: &mut [u8], dataset: &[u8], key: &[u8]) -> usize
     let at = put_byte(to, at, BETWEEN_NAMES);
     let at = put_piece(to, at, key);
     put_byte(to, at, BETWEEN_NAMES)
+}
+
+/// The folder of a scale: the data set and the scale's key.
+pub fn find_folder(dataset: &Name, scale: &Scale) -> Name
+    requires { length dataset.now ≤ 200 }
+    ensures { result ≡ folder_of dataset.now scale.now }
+{
+    dataset.join(&scale.key).unwrap()
 }
 
 /// The object of a cell of the grid: the data set, the scale's key and the cell's box

@@ -7,7 +7,7 @@ use std::alloc::Global;
 use std::marker::Model;
 use vol_base::OutOfMemory;
 
-/// A fixed number of bytes, of which those at the front are in use. A pool makes it.
+/// A fixed number of bytes, of which those at the front are in use. It stands alone, or in a pool.
 #[derive(Drop)]
 pub struct Frame {
     bytes: Vec<u8>,
@@ -23,12 +23,12 @@ impl Model for Frame {
 }
 
 impl Frame {
-    /// A frame of so many bytes, none of them in use.
-    pub(crate) fn reserve(alloc: Global, len: usize) -> Result<Frame, OutOfMemory>
+    /// A frame of so many bytes, none of them in use. It fails only where there is no memory.
+    pub fn alone(alloc: Global, len: u64) -> Result<Frame, OutOfMemory>
         ensures len { IfOk result (λ f. length f.bytes ≡ len) }
         ensures used { IfOk result (λ f. f.used ≡ 0) }
     {
-        match vec![in alloc; 0u8; len] {
+        match vec![in alloc; 0u8; len as usize] {
             Ok(bytes) => Ok(Frame { bytes, used: 0 }),
             Err(_) => Err(OutOfMemory),
         }

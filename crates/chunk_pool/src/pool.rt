@@ -42,7 +42,7 @@ fn reserve_frames(alloc: Global, count: u32, len: usize) -> Result<Vec<Frame>, O
         return Err(OutOfMemory);
     };
     for _ in 0..count {
-        let frame = Frame::reserve(alloc, len)?;
+        let frame = Frame::alone(alloc, len as u64)?;
         match frames.push(frame) {
             Ok(()) => {}
             Err(_) => return Err(OutOfMemory),

@@ -44,7 +44,7 @@ fn read_object<S: Source>(
 
 /// Reads the bytes of a cell's chunk into the front of a buffer: how many, None where it is absent. The
 /// buffer has room for one byte more than the chunk has at most, so that a longer object is told.
-pub(crate) fn read_stored<S: Source>(
+pub fn read_stored<S: Source>(
     shards: &mut ShardReader,
     store: &mut S,
     dataset: &Name,

@@ -13,6 +13,7 @@ mod stream;
 mod tests;
 mod values;
 
+pub use chunk::read_stored;
 pub use fault::{CutFault, StreamFault};
 pub use found::Found;
-pub use reader::Reader;
+pub use reader::{Reader, values_limit};

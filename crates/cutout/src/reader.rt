@@ -17,7 +17,7 @@ use crate::layers::layer_room;
 use crate::stream::{stream_channels, tell_bytes};
 use crate::{CutFault, Found, StreamFault};
 use chunk_grid::inside;
-use chunk_pool::{Frame, Pool};
+use chunk_pool::Frame;
 use shard_reader::{ShardReader, WINDOW_LEN};
 use std::alloc::Global;
 use std::marker::Model;
@@ -46,19 +46,8 @@ impl Model for Reader {
     ghost invariant = { λ r. IsReady (record { dataset = r.dataset; scale = r.scale }) r.chunk r.values };
 }
 
-// A frame of so many bytes.
-fn reserve_frame(alloc: Global, len: u64) -> Result<Frame, OutOfMemory>
-    ensures { IfOk result (λ frame. length frame.bytes ≡ len) }
-{
-    let mut pool = Pool::reserve(alloc, 1, len)?;
-    match pool.take() {
-        Some(frame) => Ok(frame),
-        None => unreachable!(),
-    }
-}
-
-// How many bytes of values are decoded at once: none where chunks have their values as they are.
-fn values_limit(scale: &Scale) -> u64
+/// How many bytes of values are decoded at once: none where chunks have their values as they are.
+pub fn values_limit(scale: &Scale) -> u64
     ensures { result ≡ values_room scale.now }
 {
     match scale.encoding {
@@ -74,9 +63,9 @@ impl Reader {
         ensures dataset { IfOk result (λ reader. reader.dataset ≡ dataset.now) }
         ensures scale { IfOk result (λ reader. reader.scale ≡ scale.now) }
     {
-        let chunk = reserve_frame(alloc, scale.chunk_limit() + 1)?;
-        let values = reserve_frame(alloc, values_limit(scale))?;
-        let window = reserve_frame(alloc, WINDOW_LEN)?;
+        let chunk = Frame::alone(alloc, scale.chunk_limit() + 1)?;
+        let values = Frame::alone(alloc, values_limit(scale))?;
+        let window = Frame::alone(alloc, WINDOW_LEN)?;
         Ok(Reader {
             dataset: dataset.duplicate(),
             scale: scale.duplicate(),
@@ -173,7 +162,7 @@ impl Reader {
         if !inside(&self.scale, part) {
             return Err(StreamFault::OutsideScale);
         }
-        let mut buffer = match reserve_frame(alloc, layer_room(&self.scale, part)) {
+        let mut buffer = match Frame::alone(alloc, layer_room(&self.scale, part)) {
             Ok(buffer) => buffer,
             Err(OutOfMemory) => return Err(StreamFault::OutOfMemory),
         };

@@ -8,7 +8,7 @@ use std::alloc::Global;
 use std::process::Abort;
 use std::test::Fail;
 use vol_base::{Box3, ChunkFault, Fault, MemoryOutlet, MemoryStore, Name, ShardFault};
-use vol_spec::{Encoding, HashKind, Scale, Sharding};
+use vol_spec::{ChunkSizes, Encoding, HashKind, Scale, Sharding};
 
 fn store_of(
     rt: &impl Abort,
@@ -53,6 +53,7 @@ fn sharded_scale(key: Name, sharding: Sharding) -> Scale
         chunk: [2, 1, 1],
         encoding: Encoding::Raw,
         sharding: Some(sharding),
+        more: ChunkSizes::none(),
     }
 }
 
@@ -342,6 +343,7 @@ fn segmented_scale(key: Name) -> Scale
         chunk: [2, 2, 1],
         encoding: Encoding::Seg { block: [2, 2, 1] },
         sharding: None,
+        more: ChunkSizes::none(),
     }
 }
 

@@ -82,10 +82,7 @@ fn put_raw(
     ensures took { OnOk result (Took scale.now cell part.now channels (Ok (Some bytes.now)) out.old out.new) }
 {
     let own = cell_box(scale, cell);
-    match check_len(bytes.len() as u64, &own, scale.channels, scale.width) {
-        Ok(()) => {}
-        Err(fault) => return Err(fault),
-    }
+    check_len(bytes.len() as u64, &own, scale.channels, scale.width)?;
     put_values(bytes, scale, cell, part, channels, out);
     Ok(())
 }
@@ -112,10 +109,7 @@ fn put_segmented(
 {
     let len = values_len(scale, cell) as usize;
     let values = &mut values[..len];
-    match decode_cell(bytes, scale, cell, block, values) {
-        Ok(()) => {}
-        Err(fault) => return Err(fault),
-    }
+    decode_cell(bytes, scale, cell, block, values)?;
     put_values(values, scale, cell, part, channels, out);
     Ok(())
 }

@@ -12,8 +12,8 @@ use Rattle.vol_spec.specs.Verdicts.{rows_wrong}
 use Rattle.vol_spec.specs.Verdicts.Wrong.{Damaged as DamagedBy}
 use Rattle.vol_spec.specs.declared.sharding.Sharding.{Sharding}
 use Rattle.shard_reader.specs.Reading.{OnIndex}
+use Rattle.shard_reader.specs.declared.span.IndexSpan.{IndexSpan}
 use Rattle.index_judge.specs.Judging.{IsOpened, Opens, Says, first_wrong_row, wrong_in}
-use Rattle.index_judge.specs.declared.entry.RowSpan.{RowSpan}
 use Rattle.index_judge.specs.declared.fault.JudgeFault.{JudgeFault}
 use Rattle.index_judge.specs.declared.fault.JudgeFault.TheVariants.{NotRead, Damaged, Misplaced}
 
@@ -28,7 +28,7 @@ by_entry object sharding shard m (Misplaced s k id) h = absurd h
 by_entry None sharding shard m (Damaged fault) h = absurd h
 by_entry (Some object) sharding shard m (Damaged fault) h = entry_wrong object sharding shard m fault (rows_in object sharding m) h
 
-pub entry_judged : (o : Option Objects) (name : List ℕ) (sharding : Sharding) (shard m : ℕ) (r : Result (Option RowSpan) JudgeFault) (fault : JudgeFault) → r ≡ Err fault → IfSome o (λ objects. Opens sharding m (map.get objects name) r)
+pub entry_judged : (o : Option Objects) (name : List ℕ) (sharding : Sharding) (shard m : ℕ) (r : Result (Option IndexSpan) JudgeFault) (fault : JudgeFault) → r ≡ Err fault → IfSome o (λ objects. Opens sharding m (map.get objects name) r)
     → IfSome o (λ objects. Says {A = ⊤} (wrong_in (map.get objects name) sharding shard m) (Err fault))
 entry_judged None name sharding shard m r fault is h = tt
 entry_judged (Some objects) name sharding shard m r fault is h = by_entry (map.get objects name) sharding shard m fault (subst (Opens sharding m (map.get objects name)) is h)
@@ -38,7 +38,7 @@ by_absence : (object : Option (List ℕ)) (sharding : Sharding) (shard m : ℕ) 
 by_absence None sharding shard m h = refl
 by_absence (Some object) sharding shard m h = absurd h
 
-pub absence_judged : (o : Option Objects) (name : List ℕ) (sharding : Sharding) (shard m : ℕ) (r : Result (Option RowSpan) JudgeFault) (span : Option RowSpan) → r ≡ Ok span → span ≡ None → IfSome o (λ objects. Opens sharding m (map.get objects name) r)
+pub absence_judged : (o : Option Objects) (name : List ℕ) (sharding : Sharding) (shard m : ℕ) (r : Result (Option IndexSpan) JudgeFault) (span : Option IndexSpan) → r ≡ Ok span → span ≡ None → IfSome o (λ objects. Opens sharding m (map.get objects name) r)
     → IfSome o (λ objects. wrong_in (map.get objects name) sharding shard m ≡ None)
 absence_judged None name sharding shard m r span is none h = tt
 absence_judged (Some objects) name sharding shard m r span is none h = by_absence (map.get objects name) sharding shard m (subst (Opens sharding m (map.get objects name)) (is ∙ ap Ok none) h)
@@ -49,14 +49,14 @@ wrong_by_rows : (object : List ℕ) (sharding : Sharding) (shard m at count : �
 wrong_by_rows object sharding shard m at count is =
     ap (rows_wrong object sharding shard m) is.rows ∙ ap (λ xs. first_wrong_row (columns_of xs) sharding shard m count) (sym is.bytes)
 
-by_rows : (found : Option (List ℕ)) (sharding : Sharding) (shard m : ℕ) (span : RowSpan) (answer : Result ⊤ JudgeFault) → Opens sharding m found (Ok (Some span))
+by_rows : (found : Option (List ℕ)) (sharding : Sharding) (shard m : ℕ) (span : IndexSpan) (answer : Result ⊤ JudgeFault) → Opens sharding m found (Ok (Some span))
     → ((object : List ℕ) → found ≡ Some object → span.at + 24 * span.rows ≤ length object → Says (first_wrong_row (columns_of (part object span.at (24 * span.rows))) sharding shard m span.rows) answer)
     → Says (wrong_in found sharding shard m) answer
 by_rows None sharding shard m span answer h says = absurd h
 by_rows (Some object) sharding shard m span answer h says =
     subst (λ wrong. Says wrong answer) (sym (wrong_by_rows object sharding shard m span.at span.rows h)) (says object refl h.fits)
 
-pub rows_judged : (o now : Option Objects) (name : List ℕ) (sharding : Sharding) (shard m : ℕ) (r : Result (Option RowSpan) JudgeFault) (found : Option RowSpan) (span : RowSpan) (answer : Result ⊤ JudgeFault) → r ≡ Ok found → found ≡ Some span → now ≡ o
+pub rows_judged : (o now : Option Objects) (name : List ℕ) (sharding : Sharding) (shard m : ℕ) (r : Result (Option IndexSpan) JudgeFault) (found : Option IndexSpan) (span : IndexSpan) (answer : Result ⊤ JudgeFault) → r ≡ Ok found → found ≡ Some span → now ≡ o
     → IfSome o (λ objects. Opens sharding m (map.get objects name) r)
     → OnIndex now name span.at span.rows (λ bytes. Says (first_wrong_row (columns_of bytes) sharding shard m span.rows) answer)
     → IfSome o (λ objects. Says (wrong_in (map.get objects name) sharding shard m) answer)

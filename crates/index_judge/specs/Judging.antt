@@ -11,9 +11,16 @@ use Rattle.vol_spec.specs.Verdicts.{Wrong, row_wrong, rows_wrong}
 use Rattle.vol_spec.specs.Verdicts.Wrong.{Damaged as DamagedBy, Misplaced as MisplacedAt}
 use Rattle.vol_spec.specs.declared.sharding.Sharding.{Sharding}
 use Rattle.minishard.specs.Walks.{Progress, IsWalked}
-use Rattle.index_judge.specs.declared.entry.RowSpan.{RowSpan}
+use Rattle.shard_reader.specs.declared.bytes.LookupFault.{LookupFault}
+use Rattle.shard_reader.specs.declared.bytes.LookupFault.TheVariants.{NotRead as Unread, Faulty}
+use Rattle.shard_reader.specs.declared.span.IndexSpan.{IndexSpan}
 use Rattle.index_judge.specs.declared.fault.JudgeFault.{JudgeFault}
 use Rattle.index_judge.specs.declared.fault.JudgeFault.TheVariants.{NotRead, Damaged, Misplaced}
+
+-- a fault on the way to a chunk, told by a judge
+abbrev pub judged_as : LookupFault → JudgeFault
+judged_as Unread = NotRead
+judged_as (Faulty fault) = Damaged fault
 
 -- what judging answers of what is wrong, where the store didn't fail
 abbrev pub Says : {A : Type 0} → Option Wrong → Result A JudgeFault → Type 0
@@ -21,6 +28,13 @@ Says wrong (Ok done) = wrong ≡ None
 Says wrong (Err (Damaged fault)) = wrong ≡ Some (DamagedBy fault)
 Says wrong (Err (Misplaced shard m id)) = wrong ≡ Some (MisplacedAt shard m id)
 Says wrong (Err NotRead) = Unit {0}
+
+-- an answer before any row is judged
+abbrev pub IsPlaced : {A : Type 0} → Result A JudgeFault → Type 0
+IsPlaced (Ok done) = Unit {0}
+IsPlaced (Err NotRead) = Unit {0}
+IsPlaced (Err (Damaged fault)) = Unit {0}
+IsPlaced (Err (Misplaced shard m id)) = ⊥
 
 -- what is wrong with the index of a minishard, in the object of its shard
 abbrev pub wrong_in : Option Bytes → Sharding → ℕ → ℕ → Option Wrong
@@ -49,7 +63,7 @@ pub record IsOpened (sharding : Sharding) (m : ℕ) (object : Bytes) (at count :
   pub fits : at + 24 * count ≤ length object
 
 -- an answer on the entry of a minishard of an object
-abbrev pub Opens : Sharding → ℕ → Option Bytes → Result (Option RowSpan) JudgeFault → Type 0
+abbrev pub Opens : Sharding → ℕ → Option Bytes → Result (Option IndexSpan) JudgeFault → Type 0
 Opens sharding m object (Err NotRead) = Unit {0}
 Opens sharding m object (Err (Misplaced shard n id)) = ⊥
 Opens sharding m None (Ok None) = Unit {0}

@@ -11,22 +11,11 @@ use crate::cache::{Judged, new_judged, note_judged, was_judged};
 use crate::entry::open_index;
 use crate::key::IndexKey;
 use crate::rows::{COLUMN_LEN, judge_rows};
-use chunk_pool::{Frame, Pool};
+use chunk_pool::Frame;
 use shard_index::{ShardPlace, shard_name};
 use std::alloc::Global;
 use vol_base::{Name, OutOfMemory, Source};
 use vol_spec::{Scale, Sharding};
-
-// Room for a column of 1,024 numbers.
-fn reserve_column(alloc: Global) -> Result<Frame, OutOfMemory>
-    ensures { IfOk result (λ frame. length frame.bytes ≡ 8192) }
-{
-    let mut pool = Pool::reserve(alloc, 1, COLUMN_LEN)?;
-    match pool.take() {
-        Some(frame) => Ok(frame),
-        None => unreachable!(),
-    }
-}
 
 // Judges the entry of a minishard, and all rows of its index.
 fn judge_index<S: Source>(
@@ -54,10 +43,7 @@ fn judge_index<S: Source>(
         Ok(None) => return Ok(()),
         Ok(Some(span)) => span,
     };
-    match judge_rows(store, name, &span, sharding, home, ids, starts, sizes) {
-        Ok(()) => Ok(()),
-        Err(fault) => Err(fault),
-    }
+    judge_rows(store, name, &span, sharding, home, ids, starts, sizes)
 }
 
 /// Judges whole indexes of the shards of a scale: the way to an index, and all its rows. It remembers the
@@ -82,9 +68,9 @@ impl IndexJudge {
     pub fn reserve(alloc: Global) -> Result<IndexJudge, OutOfMemory>
         ensures { IfOk result KnowsNothing }
     {
-        let ids = reserve_column(alloc)?;
-        let starts = reserve_column(alloc)?;
-        let sizes = reserve_column(alloc)?;
+        let ids = Frame::alone(alloc, COLUMN_LEN)?;
+        let starts = Frame::alone(alloc, COLUMN_LEN)?;
+        let sizes = Frame::alone(alloc, COLUMN_LEN)?;
         let judged = new_judged(alloc)?;
         Ok(IndexJudge {
             ids,
@@ -114,10 +100,7 @@ impl IndexJudge {
         let ids = self.ids.room();
         let starts = self.starts.room();
         let sizes = self.sizes.room();
-        match judge_index(store, name, sharding, home, ids, starts, sizes) {
-            Ok(()) => Ok(()),
-            Err(fault) => Err(fault),
-        }
+        judge_index(store, name, sharding, home, ids, starts, sizes)
     }
 
     /// Judges the index of a minishard of a shard: the faults on the way to it, then its rows in order. Of a

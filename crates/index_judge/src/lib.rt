@@ -1,7 +1,6 @@
 //! Whole minishard indexes, judged row by row over a source, each once as long as it is remembered.
 #![tactic(auto)]
 
-mod bytes;
 mod cache;
 mod entry;
 mod fault;
@@ -12,5 +11,9 @@ mod rows;
 #[cfg(test)]
 mod tests;
 
+pub use entry::open_index;
 pub use fault::JudgeFault;
 pub use judge::IndexJudge;
+pub use row::is_at_home;
+pub use rows::{COLUMN_LEN, count_next, read_rows};
+pub use shard_reader::IndexSpan;

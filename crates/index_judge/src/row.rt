@@ -11,8 +11,8 @@ use shard_index::{ShardPlace, place};
 use vol_base::Fault;
 use vol_spec::Sharding;
 
-// Whether an id belongs into an index.
-fn is_at_home(sharding: &Sharding, home: &ShardPlace, id: u64) -> bool
+/// Whether an id belongs into an index.
+pub fn is_at_home(sharding: &Sharding, home: &ShardPlace, id: u64) -> bool
     ensures { result ≡ belongs sharding.now home.now.shard home.now.minishard id }
 {
     let own = place(sharding, id);

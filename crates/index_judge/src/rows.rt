@@ -2,27 +2,17 @@
 ghost use Rattle.std.specs.Prelude.{◌≡◌, ◌≢◌, ◌+◌, ◌*◌, ◌<◌, ◌≤◌, ◌^◌, ℕ, length, Err, IfErr, OnOk};
 ghost use Rattle.vol_base.specs.Causes.{Rose};
 ghost use Rattle.vol_base.specs.Outside.{OnlyReads};
-ghost use Rattle.vol_spec.specs.Rows.{Columns, columns_of, number_at};
-ghost use Rattle.shard_reader.specs.Reading.{Holds, HoldsNumbers, OnIndex};
-ghost use Rattle.index_judge.specs.Judging.{IsPast, Passes, Says, first_wrong_row};
+ghost use Rattle.vol_spec.specs.Rows.{Columns, columns_of};
+ghost use Rattle.shard_reader.specs.Reading.{Holds, OnIndex};
+ghost use Rattle.index_judge.specs.Judging.{IsPast, IsPlaced, Passes, Says, first_wrong_row};
 
 use crate::JudgeFault;
-use crate::bytes::read_exact;
-use crate::entry::RowSpan;
 use crate::row::judge_row;
-use byteorder::{ByteOrder, LittleEndian};
-use minishard::Walk;
+use minishard::{Walk, read_number};
 use shard_index::ShardPlace;
-use vol_base::{Fault, Name, ShardFault, Source};
+use shard_reader::{IndexSpan, read_numbers};
+use vol_base::{Name, Source};
 use vol_spec::Sharding;
-
-#[tactic(auto, unfolding(vol_spec::specs::Rows::number_at))]
-fn read_number(bytes: &[u8], place: usize) -> u64
-    requires { 8 * place + 8 ≤ length bytes.now }
-    ensures { result ≡ number_at bytes.now place }
-{
-    LittleEndian::read_u64(&bytes[8 * place..])
-}
 
 // Judges the next rows of a walk, whose numbers stand in front of three columns.
 fn judge_columns(
@@ -57,40 +47,11 @@ fn judge_columns(
     Ok(())
 }
 
-// Reads `count` numbers of an index, from number `from` on, into the front of a buffer.
-fn read_numbers<S: Source>(
+/// Reads `count` rows of an index, from row `first` on, into the fronts of three columns.
+pub fn read_rows<S: Source>(
     store: &mut S,
     name: &Name,
-    span: &RowSpan,
-    from: u64,
-    count: usize,
-    out: &mut [u8],
-) -> Result<(), JudgeFault>
-    requires some { 0 < count }
-    requires within { from + count ≤ 3 * span.now.rows }
-    requires fits { span.now.at + 24 * span.now.rows < 2 ^ 64 }
-    requires room { 8 * count ≤ length out.old }
-    ensures read { OnOk result (OnIndex (S.objects store.old) name.now span.now.at span.now.rows
-        (HoldsNumbers from count out.new)) }
-    ensures whole { IfErr result (λ fault. OnIndex (S.objects store.old) name.now span.now.at span.now.rows
-        (λ _. fault ≡ JudgeFault.NotRead)) }
-    ensures kept { OnlyReads (S.objects store.old) (S.objects store.new) (S.draft store.old)
-        (S.draft store.new) }
-    ensures later { S.faults store.old ≤ S.faults store.new }
-    ensures fault { result ≡ Err JudgeFault.NotRead → Rose (S.faults store.old) (S.faults store.new) }
-{
-    match read_exact(store, name, span.at + 8 * from, &mut out[..8 * count]) {
-        Err(_) => Err(JudgeFault::NotRead),
-        Ok(true) => Ok(()),
-        Ok(false) => Err(JudgeFault::Damaged(Fault::Shard(ShardFault::ShortMinishard))),
-    }
-}
-
-// Reads `count` rows of an index, from row `first` on, into the fronts of three columns.
-fn read_rows<S: Source>(
-    store: &mut S,
-    name: &Name,
-    span: &RowSpan,
+    span: &IndexSpan,
     first: u64,
     count: usize,
     ids: &mut [u8],
@@ -107,33 +68,26 @@ fn read_rows<S: Source>(
         Holds (columns_of bytes) first count ids.new starts.new sizes.new)) }
     ensures whole { IfErr result (λ fault. OnIndex (S.objects store.old) name.now span.now.at span.now.rows
         (λ _. fault ≡ JudgeFault.NotRead)) }
+    ensures placed { IsPlaced result }
     ensures kept { OnlyReads (S.objects store.old) (S.objects store.new) (S.draft store.old)
         (S.draft store.new) }
     ensures later { S.faults store.old ≤ S.faults store.new }
     ensures fault { result ≡ Err JudgeFault.NotRead → Rose (S.faults store.old) (S.faults store.new) }
 {
-    match read_numbers(store, name, span, first, count, ids) {
-        Ok(()) => {}
-        Err(fault) => return Err(fault),
-    }
-    match read_numbers(store, name, span, span.rows + first, count, starts) {
-        Ok(()) => {}
-        Err(fault) => return Err(fault),
-    }
-    match read_numbers(store, name, span, 2 * span.rows + first, count, sizes) {
-        Ok(()) => Ok(()),
-        Err(fault) => Err(fault),
-    }
+    read_numbers(store, name, span, first, count, ids)?;
+    read_numbers(store, name, span, span.rows + first, count, starts)?;
+    read_numbers(store, name, span, 2 * span.rows + first, count, sizes)?;
+    Ok(())
 }
 
 // The most rows that are read at once, and the bytes of a column of so many.
 const MOST_ROWS: u64 = 1024;
 
 /// The bytes of 1,024 numbers.
-pub(crate) const COLUMN_LEN: u64 = 8 * MOST_ROWS;
+pub const COLUMN_LEN: u64 = 8 * MOST_ROWS;
 
-// How many rows are read next, behind the first ones.
-fn count_next(span: &RowSpan, first: u64) -> usize
+/// How many rows are read next, behind the first ones.
+pub fn count_next(span: &IndexSpan, first: u64) -> usize
     requires { first < span.now.rows }
     ensures some { 0 < result }
     ensures within { first + result ≤ span.now.rows }
@@ -148,7 +102,7 @@ fn count_next(span: &RowSpan, first: u64) -> usize
 pub(crate) fn judge_rows<S: Source>(
     store: &mut S,
     name: &Name,
-    span: &RowSpan,
+    span: &IndexSpan,
     sharding: &Sharding,
     home: &ShardPlace,
     ids: &mut [u8],

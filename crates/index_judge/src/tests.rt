@@ -10,7 +10,7 @@ use std::alloc::{AllocError, Global};
 use std::process::Abort;
 use std::test::Fail;
 use vol_base::{Fault, IndexFault, MemoryStore, Name};
-use vol_spec::{Encoding, HashKind, Scale, Sharding};
+use vol_spec::{ChunkSizes, Encoding, HashKind, Scale, Sharding};
 
 // Two shards of two minishards each, by the lowest bits of the ids.
 fn two_shards() -> Sharding
@@ -38,6 +38,7 @@ fn one_voxel(key: Name, sharding: Sharding) -> Scale
         chunk: [1; 3],
         encoding: Encoding::Raw,
         sharding: Some(sharding),
+        more: ChunkSizes::none(),
     }
 }
 

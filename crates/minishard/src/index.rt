@@ -7,8 +7,9 @@ use crate::{Row, Walk};
 use byteorder::{ByteOrder, LittleEndian};
 use vol_base::IndexFault;
 
+/// The number at a place of a column: 64 bits, the lowest byte first.
 #[tactic(auto, unfolding(vol_spec::specs::Rows::number_at))]
-fn read_number(bytes: &[u8], place: usize) -> u64
+pub fn read_number(bytes: &[u8], place: usize) -> u64
     requires { 8 * place + 8 ≤ length bytes.now }
     ensures { result ≡ number_at bytes.now place }
 {

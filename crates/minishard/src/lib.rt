@@ -10,6 +10,6 @@ mod tests;
 mod walk;
 
 pub use columns::write_rows;
-pub use index::find;
+pub use index::{find, read_number};
 pub use vol_spec::Row;
 pub use walk::Walk;

@@ -1,4 +1,4 @@
-mod WordSteps
+pub mod WordSteps
 mod ScanSteps
 mod WindowSteps
 mod OpenSteps

@@ -32,7 +32,7 @@ fn index_span(entry: &Entry, base: u64, len: u64, rows: u64) -> IndexSpan
 }
 
 /// Reads and judges the entry of a minishard; None where there is no such object.
-pub(crate) fn open_index<S: Source>(
+pub fn open_index<S: Source>(
     store: &mut S,
     name: &Name,
     sharding: &Sharding,

@@ -15,5 +15,8 @@ mod tests;
 mod window;
 
 pub use bytes::LookupFault;
+pub use entry::open_index;
+pub use opened::OpenedIndex;
 pub use reader::ShardReader;
-pub use window::WINDOW_LEN;
+pub use span::IndexSpan;
+pub use window::{WINDOW_LEN, read_numbers};

@@ -3,7 +3,7 @@ use crate::span::IndexSpan;
 
 /// The length of a shard's object, and the place of a minishard's index in it.
 #[derive(Clone, Copy, Debug, PartialEq, Eq)]
-pub(crate) struct OpenedIndex {
-    pub(crate) len: u64,
-    pub(crate) index: IndexSpan,
+pub struct OpenedIndex {
+    pub len: u64,
+    pub index: IndexSpan,
 }

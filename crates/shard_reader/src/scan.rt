@@ -4,8 +4,7 @@ ghost use Rattle.minishard.specs.Walks.{IsStored, IsWalked};
 ghost use Rattle.shard_reader.specs.Reading.{EndsSeen, Holds, IsAt, Sees};
 ghost use Rattle.vol_spec.specs.Rows.{Columns, judged_row, number_at};
 
-use byteorder::{ByteOrder, LittleEndian};
-use minishard::{Row, Walk};
+use minishard::{Row, Walk, read_number};
 use vol_base::IndexFault;
 
 /// What some rows say of a look-up: its answer, or nothing.
@@ -13,14 +12,6 @@ use vol_base::IndexFault;
 pub(crate) enum Seen {
     Answer(Option<Row>),
     Nothing,
-}
-
-#[tactic(auto, unfolding(vol_spec::specs::Rows::number_at))]
-fn read_number(bytes: &[u8], place: usize) -> u64
-    requires { 8 * place + 8 ≤ length bytes.now }
-    ensures { result ≡ number_at bytes.now place }
-{
-    LittleEndian::read_u64(&bytes[8 * place..])
 }
 
 // The next row of the walk, whose numbers are the i-th of three columns.

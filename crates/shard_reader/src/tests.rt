@@ -9,7 +9,7 @@ use std::alloc::{AllocError, Global};
 use std::process::Abort;
 use std::test::Fail;
 use vol_base::{Fault, IndexFault, MemoryStore, Name, ShardFault};
-use vol_spec::{ChunkSpan, Encoding, HashKind, Scale, Sharding};
+use vol_spec::{ChunkSizes, ChunkSpan, Encoding, HashKind, Scale, Sharding};
 
 fn name(rt: &impl Abort, text: &[u8]) -> Name
     ensures { length result ≤ 200 }
@@ -43,6 +43,7 @@ fn one_voxel(key: Name, sharding: Sharding) -> Scale
         chunk: [1; 3],
         encoding: Encoding::Raw,
         sharding: Some(sharding),
+        more: ChunkSizes::none(),
     }
 }
 

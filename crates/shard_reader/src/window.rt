@@ -13,8 +13,8 @@ use chunk_pool::Frame;
 use minishard::{Row, Walk};
 use vol_base::{Fault, Name, ShardFault, Source};
 
-// Reads `count` numbers of an index, from number `from` on, into the front of a buffer.
-fn read_numbers<S: Source>(
+/// Reads `count` numbers of an index, from number `from` on, into the front of a buffer.
+pub fn read_numbers<S: Source>(
     store: &mut S,
     name: &Name,
     index: &IndexSpan,

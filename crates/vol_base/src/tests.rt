@@ -1,4 +1,4 @@
-//! Each fault's text, and a box's.
+//! Each fault's text, written out and derived, and a box's.
 
 use crate::{Box3, ChunkFault, Fault, IndexFault, ShardFault};
 use std::test::Fail;
@@ -64,6 +64,12 @@ fn prints_faults(rt: HostRuntime) -> Result<(), Fail> {
     ] {
         let text = format!(in rt.alloc(); "{fault}")?;
         assert_eq!(rt; text.as_str(), wanted);
+        let derived = match fault {
+            Fault::Chunk(fault) => format!(in rt.alloc(); "{fault}")?,
+            Fault::Index(fault) => format!(in rt.alloc(); "{fault}")?,
+            Fault::Shard(fault) => format!(in rt.alloc(); "{fault}")?,
+        };
+        assert_eq!(rt; derived.as_str(), wanted);
     }
     Ok(())
 }

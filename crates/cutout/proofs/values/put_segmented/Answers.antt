@@ -25,4 +25,4 @@ put_values-requires-clause-values c =
 pub returns-clause-took : goal.returns-clause-took
 returns-clause-took c =
     took_values c.args.scale.now c.args.cell c.args.part.now c.args.channels c.args.bytes.now c.decode_cell.new.values c.args.out.now c.put_values.new.out
-    c.in-Ok.ensures.values c.requires.channels c.put_values.ensures
+    c.in_ok-decode_cell.ensures.values c.requires.channels c.put_values.ensures

@@ -1,4 +1,3 @@
-use Rattle.std.proofs.Common.{Ok, Err}
 use Rattle.index_judge.proofs.IndexSteps.{absence_judged, entry_judged, rows_judged}
 use Rattle.index_judge.proofs.judge.judge_index.Goals as goal
 
@@ -10,12 +9,7 @@ pub returns-in-Ok-None-clause-judged : goal.returns-in-Ok-None-clause-judged
 returns-in-Ok-None-clause-judged g c =
     absence_judged (g.S.Source.objects c.args.store.now) c.args.name.now c.args.sharding.now c.args.home.now.shard c.args.home.now.minishard c.open_index.result c.in-Ok-None.field-0 c.in-Ok-None.is c.in-Ok-None.field-0-is c.open_index.ensures.opened
 
-pub returns-in-Ok-clause-judged : goal.returns-in-Ok-clause-judged
-returns-in-Ok-clause-judged g c =
-    rows_judged (g.S.Source.objects c.args.store.now) _ c.args.name.now c.args.sharding.now c.args.home.now.shard c.args.home.now.minishard c.open_index.result c.in-Ok-Some.field-0 c.in-Ok-Some.span (Ok c.in-Ok.field-0) c.in-Ok-Some.is c.in-Ok-Some.field-0-is
-    c.open_index.ensures.kept.same_objects c.open_index.ensures.opened c.in-Ok.ensures.judged
-
-pub returns-in-Err-judge_rows-clause-judged : goal.returns-in-Err-judge_rows-clause-judged
-returns-in-Err-judge_rows-clause-judged g c =
-    rows_judged (g.S.Source.objects c.args.store.now) _ c.args.name.now c.args.sharding.now c.args.home.now.shard c.args.home.now.minishard c.open_index.result c.in-Ok-Some.field-0 c.in-Ok-Some.span (Err c.in-Err-judge_rows.fault) c.in-Ok-Some.is c.in-Ok-Some.field-0-is
-    c.open_index.ensures.kept.same_objects c.open_index.ensures.opened c.in-Err-judge_rows.ensures.judged
+pub returns-clause-judged : goal.returns-clause-judged
+returns-clause-judged g c =
+    rows_judged (g.S.Source.objects c.args.store.now) _ c.args.name.now c.args.sharding.now c.args.home.now.shard c.args.home.now.minishard c.open_index.result c.in-Ok-Some.field-0 c.in-Ok-Some.span c.judge_rows.result c.in-Ok-Some.is c.in-Ok-Some.field-0-is
+    c.open_index.ensures.kept.same_objects c.open_index.ensures.opened c.judge_rows.ensures.judged
