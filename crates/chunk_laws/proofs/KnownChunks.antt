@@ -41,6 +41,7 @@ use Rattle.vol_spec.specs.StoredLists.{cell_key, in_key_order, stored_list}
 use Rattle.vol_spec.specs.StoredShards.{objects_in}
 use Rattle.vol_spec.specs.Verdicts.{Wrong, damage, index_wrong, judge}
 use Rattle.vol_spec.specs.Verdicts.Wrong.{Damaged, Misplaced}
+use Rattle.vol_spec.specs.Views.{no_more}
 use Rattle.vol_spec.specs.declared.encoding.Encoding.{Encoding}
 use Rattle.vol_spec.specs.declared.encoding.Encoding.TheVariants.{Raw, Seg}
 use Rattle.vol_spec.specs.declared.scale.Scale.{Scale}
@@ -105,6 +106,7 @@ square = record {
   chunk = 2 ∷ 2 ∷ 1 ∷ [];
   encoding = Raw;
   sharding = None;
+  more = [];
   key_ok = lit≤ tt;
   width_ok = ∣ inl refl ∣₁;
   some_channels = lit≤ tt;
@@ -117,6 +119,8 @@ square = record {
   block_ok = λ block e. not_seg block e;
   padded_ok = lit≤ tt;
   codes_ok = λ x e. no_sharding x e;
+  more_ok = no_more _;
+  alone_ok = λ x e. refl;
 }
 
 -- two chunks of a voxel, in a shard of so many minishards
@@ -130,6 +134,7 @@ sharded_by sharding = record {
   chunk = ones;
   encoding = Raw;
   sharding = Some sharding;
+  more = [];
   key_ok = lit≤ tt;
   width_ok = ∣ inl refl ∣₁;
   some_channels = lit≤ tt;
@@ -142,6 +147,8 @@ sharded_by sharding = record {
   block_ok = λ block e. not_seg block e;
   padded_ok = lit≤ tt;
   codes_ok = λ x e. two_codes;
+  more_ok = no_more _;
+  alone_ok = λ x e. refl;
 }
 
 abbrev plain : Sharding
@@ -161,6 +168,7 @@ segments = record {
   chunk = ones;
   encoding = Seg ones;
   sharding = Some plain;
+  more = [];
   key_ok = lit≤ tt;
   width_ok = ∣ inr (inr (inl refl)) ∣₁;
   some_channels = lit≤ tt;
@@ -173,6 +181,8 @@ segments = record {
   block_ok = ones_blocks;
   padded_ok = lit≤ tt;
   codes_ok = λ x e. two_codes;
+  more_ok = no_more _;
+  alone_ok = λ x e. refl;
 }
 
 -- the cells
@@ -506,6 +516,7 @@ clipped sharding = record {
   chunk = 2 ∷ 1 ∷ 1 ∷ [];
   encoding = Raw;
   sharding = sharding;
+  more = [];
   key_ok = lit≤ tt;
   width_ok = ∣ inl refl ∣₁;
   some_channels = lit≤ tt;
@@ -518,6 +529,8 @@ clipped sharding = record {
   block_ok = λ block e. not_seg block e;
   padded_ok = lit≤ tt;
   codes_ok = λ x e. clipped_codes;
+  more_ok = no_more _;
+  alone_ok = λ x e. refl;
 }
 
 -- d/s/2-3_0-1_0-1
@@ -569,6 +582,7 @@ clipped_segments = record {
   chunk = 2 ∷ 2 ∷ 1 ∷ [];
   encoding = Seg (2 ∷ 2 ∷ 1 ∷ []);
   sharding = None;
+  more = [];
   key_ok = lit≤ tt;
   width_ok = ∣ inr (inr (inl refl)) ∣₁;
   some_channels = lit≤ tt;
@@ -581,6 +595,8 @@ clipped_segments = record {
   block_ok = square_blocks;
   padded_ok = lit≤ tt;
   codes_ok = λ x e. no_sharding x e;
+  more_ok = no_more _;
+  alone_ok = λ x e. refl;
 }
 
 -- 3 above 5, which is number 2 of its block: the words 1, 0x01000003, 2, 4, 3 and 5
@@ -610,6 +626,7 @@ fine_segments = record {
   chunk = 2 ∷ 2 ∷ 1 ∷ [];
   encoding = Seg ones;
   sharding = None;
+  more = [];
   key_ok = lit≤ tt;
   width_ok = ∣ inr (inr (inl refl)) ∣₁;
   some_channels = lit≤ tt;
@@ -622,6 +639,8 @@ fine_segments = record {
   block_ok = ones_blocks;
   padded_ok = lit≤ tt;
   codes_ok = λ x e. no_sharding x e;
+  more_ok = no_more _;
+  alone_ok = λ x e. refl;
 }
 
 first_limit : cell_limit fine_segments first ≡ 68

@@ -4,6 +4,5 @@ pub mod Laws
 mod Parts
 mod Saturated
 mod Reading
-pub mod SameScale
 pub mod SameSharding
 mod TreeSteps

@@ -17,7 +17,7 @@ use Rattle.info_doc.specs.Groups.{volume_fault, volume_in, shape_fault, shape_in
 use Rattle.info_doc.specs.Fits as fits
 use Rattle.info_doc.specs.Info.{optional, parts_in, sharding_in, judged_sharding, found_in, scale_at, steps, scale_from, judged_volume}
 use Rattle.info_doc.proofs.Judging.{judged_value, unless_none}
-use Rattle.info_doc.proofs.SameScale.{same_scale}
+use Rattle.vol_spec.proofs.SameScale.{same_scale}
 use Rattle.info_doc.proofs.SameSharding.{same_sharding}
 
 -- what was read of a volume up to the encoding of its scale
@@ -163,13 +163,13 @@ sharding_same a b is d = subst (λ m. (e : only_if (is_sharded m) (parts_fault m
 pub scale_made : (key : List ℕ) (volume : Data) (values : Volume) (scale : Data) (shape : Shape) (encoding : Encoding) (sharding : Option Sharding) → HasRead key volume values scale shape encoding
     → HasSharding (get (codes "sharding") scale) sharding → limit_fault values shape encoding (is_some sharding) ≡ None
     → (s : Scale) → s.key ≡ key → s.width ≡ values.width → s.channels ≡ values.channels → s.size ≡ shape.size → s.offset ≡ shape.offset → s.chunk ≡ shape.chunk
-    → s.encoding ≡ encoding → s.sharding ≡ sharding → Ok s ≡ judged_volume key volume
+    → s.encoding ≡ encoding → s.sharding ≡ sharding → s.more ≡ [] → Ok s ≡ judged_volume key volume
 unfolding judged_volume scale_from
-scale_made key volume values scale shape encoding sharding r h limits s k w c size o chunk e sh =
+scale_made key volume values scale shape encoding sharding r h limits s k w c size o chunk e sh alone =
     let same = some_sharding _ sharding h in
     let none = left_steps key volume values scale shape encoding r None None h.clear (ap (limit_fault values shape encoding) (sym same) ∙ limits) in
     let shape_same : shape ≡ shape_in (scale_at key volume) = r.shape_is ∙ ap shape_in r.scale_is in
     let encoding_same : encoding ≡ encoding_in (scale_at key volume) = r.encoding_is ∙ ap encoding_in r.scale_is in
     unless_none (first (steps key volume)) (scale_from key volume) s none
     (λ clear. same_scale s (scale_from key volume clear) k (w ∙ ap (λ v. v.width) r.values_are) (c ∙ ap (λ v. v.channels) r.values_are)
-    (size ∙ ap (λ x. x.size) shape_same) (o ∙ ap (λ x. x.offset) shape_same) (chunk ∙ ap (λ x. x.chunk) shape_same) (e ∙ encoding_same) (sh ∙ h.is ∙ sharding_same _ _ (ap (get (codes "sharding")) r.scale_is) h.clear _))
+    (size ∙ ap (λ x. x.size) shape_same) (o ∙ ap (λ x. x.offset) shape_same) (chunk ∙ ap (λ x. x.chunk) shape_same) (e ∙ encoding_same) (sh ∙ h.is ∙ sharding_same _ _ (ap (get (codes "sharding")) r.scale_is) h.clear _) alone)

@@ -3,6 +3,8 @@
 use Rattle.std.specs.Prelude.{◌≡◌, ℕ, ◌^◌, nat_lt, codes, Bool, true, false, List, [], ◌∷◌, length, Option, Some, None, unwrap_or, Result, Err, if◌then◌else◌, refl}
 use Rattle.serde_json.specs.Data.{Data, null}
 use Rattle.serde_json.specs.Find.{get}
+use Rattle.vol_spec.specs.Limits.{FitsChunk}
+use Rattle.vol_spec.specs.Views.{no_more}
 use Rattle.vol_spec.specs.declared.scale.Scale.{Scale}
 use Rattle.vol_spec.specs.declared.sharding.Sharding.{Sharding}
 use Rattle.info_doc.specs.declared.fault.InfoFault.{InfoFault}
@@ -128,6 +130,7 @@ scale_from key volume none =
       chunk = (shape_in scale).chunk;
       encoding = encoding_in scale;
       sharding = sharding_in sharding sharded;
+      more = [];
       key_ok = fits.key_fits key (list_in (get (codes "scales") volume)) found;
       width_ok = fits.volume_width volume here;
       some_channels = (fits.volume_channels volume here).0;
@@ -144,6 +147,9 @@ scale_from key volume none =
       codes_ok = λ parts is. fits.codes_fit (volume_in volume) (shape_in scale) (encoding_in scale)
           (is_sharded sharding) small (where_some (is_sharded sharding) _
           (parts_in sharding) sharded parts is);
+      more_ok = no_more (FitsChunk (volume_in volume).width (volume_in volume).channels (shape_in scale).size
+          (encoding_in scale));
+      alone_ok = λ parts is. refl;
     }
 
 -- the first fault of the steps, or the scale

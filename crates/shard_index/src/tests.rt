@@ -4,7 +4,7 @@ ghost use Rattle.std.specs.Prelude.{◌≡◌, ◌+◌, ◌≤◌, Some, length}
 use crate::{Entry, ShardPlace, base_len, judge_entry, place, read_entry, shard_name, write_entry};
 use std::process::Abort;
 use vol_base::{Name, ShardFault};
-use vol_spec::{Encoding, HashKind, Scale, Sharding};
+use vol_spec::{ChunkSizes, Encoding, HashKind, Scale, Sharding};
 
 fn unhashed(preshift: u32, minishard_bits: u32, shard_bits: u32) -> Sharding
     requires preshift { preshift ≤ 64 }
@@ -143,6 +143,7 @@ fn one_voxel(key: Name, sharding: Sharding) -> Scale
         chunk: [1, 1, 1],
         encoding: Encoding::Raw,
         sharding: Some(sharding),
+        more: ChunkSizes::none(),
     }
 }
 

@@ -1,12 +1,12 @@
 //! Raw scales without sharding.
 
-ghost use Rattle.std.specs.Prelude.{◌≡◌, ◌↔◌, IfSome, IsSome, None};
+ghost use Rattle.std.specs.Prelude.{◌≡◌, ◌↔◌, IfSome, IsSome, None, [], List, ℕ};
 ghost use Rattle.vol_spec.specs.declared.encoding.Encoding.TheVariants.{Raw};
 ghost use Rattle.small_scales.specs.RawScales.{AreParts};
 
 use crate::sizes::{are_offsets, are_sizes, is_small, is_width};
 use vol_base::Name;
-use vol_spec::{Encoding, Scale};
+use vol_spec::{ChunkSizes, Encoding, Scale};
 
 /// The raw scale without sharding of these parts. None exactly where they don't keep the limits of
 /// scales.
@@ -24,6 +24,7 @@ pub fn raw_scale(
     ensures shape { IfSome result (λ s. (s.size ≡ size) × (s.offset ≡ offset) × (s.chunk ≡ chunk)) }
     ensures raw { IfSome result (λ s. s.encoding ≡ Raw) }
     ensures unsharded { IfSome result (λ s. s.sharding ≡ None) }
+    ensures alone { IfSome result (λ s. s.more ≡ []) }
 {
     if key.as_bytes().len() > 200 || !is_width(width) || channels < 1 || channels > 1024 {
         return None;
@@ -43,5 +44,6 @@ pub fn raw_scale(
         chunk,
         encoding: Encoding::Raw,
         sharding: None,
+        more: ChunkSizes::none(),
     })
 }

@@ -7,6 +7,7 @@ use Rattle.vol_base.proofs.Axes.{by_axis}
 use Rattle.vol_base.specs.Grids.{AreSizes}
 use Rattle.vol_base.specs.declared.boxes.Box3.{Box3}
 use Rattle.vol_spec.specs.Limits.{AreOffsets, IsSeg}
+use Rattle.vol_spec.specs.Views.{no_more}
 use Rattle.vol_spec.specs.declared.encoding.Encoding.TheVariants.{Raw}
 use Rattle.vol_spec.specs.declared.scale.Scale.{Scale}
 use Rattle.vol_spec.specs.declared.sharding.Sharding.{Sharding}
@@ -49,6 +50,7 @@ doubled = record {
   chunk = 2 ∷ 2 ∷ 2 ∷ [];
   encoding = Raw;
   sharding = None;
+  more = [];
   key_ok = lit≤ tt;
   width_ok = ∣ inr (inl refl) ∣₁;
   some_channels = lit≤ tt;
@@ -61,6 +63,8 @@ doubled = record {
   block_ok = λ block e. not_seg block e;
   padded_ok = lit≤ tt;
   codes_ok = λ x e. no_sharding x e;
+  more_ok = no_more _;
+  alone_ok = λ x e. refl;
 }
 
 -- one channel of eight bytes
@@ -83,6 +87,7 @@ wide = record {
   chunk = 2 ∷ 2 ∷ 2 ∷ [];
   encoding = Raw;
   sharding = None;
+  more = [];
   key_ok = lit≤ tt;
   width_ok = ∣ inr (inr (inr refl)) ∣₁;
   some_channels = lit≤ tt;
@@ -95,6 +100,8 @@ wide = record {
   block_ok = λ block e. not_seg block e;
   padded_ok = lit≤ tt;
   codes_ok = λ x e. no_sharding x e;
+  more_ok = no_more _;
+  alone_ok = λ x e. refl;
 }
 
 -- larger than a box can be
@@ -117,6 +124,7 @@ long = record {
   chunk = 64 ∷ 64 ∷ 64 ∷ [];
   encoding = Raw;
   sharding = None;
+  more = [];
   key_ok = lit≤ tt;
   width_ok = ∣ inl refl ∣₁;
   some_channels = lit≤ tt;
@@ -129,6 +137,8 @@ long = record {
   block_ok = λ block e. not_seg block e;
   padded_ok = lit≤ tt;
   codes_ok = λ x e. no_sharding x e;
+  more_ok = no_more _;
+  alone_ok = λ x e. refl;
 }
 
 doubled_stream : stream_of (generated doubled 9 3)

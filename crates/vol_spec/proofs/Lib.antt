@@ -5,4 +5,5 @@ pub mod PlacedSteps
 pub mod Plain
 pub mod PutSteps
 pub mod RawSteps
+pub mod SameScale
 pub mod Told

@@ -30,4 +30,5 @@ pub mod StoredLists
 pub mod StoredShards
 pub mod Types
 pub mod Verdicts
+pub mod Views
 pub mod Writable

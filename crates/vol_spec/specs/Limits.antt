@@ -1,6 +1,7 @@
 -- The limits of a scale. Sizes, offsets and cells are lists over the axes, x first. All limits are this project's profile.
 use Rattle.std.specs.Prelude.{◌≡◌, ◌⊎◌, ℕ, ◌+◌, ◌-◌, ◌*◌, ◌/◌, ◌^◌, ◌<◌, ◌≤◌, min, ℤ, pos, neg_ℤ, ◌≤ℤ◌, List, slice_index, slice_index_or}
 use Rattle.vol_base.specs.Boxes.{on_axes}
+use Rattle.vol_base.specs.Grids.{AreSizes}
 use Rattle.vol_spec.specs.declared.encoding.Encoding.{Encoding}
 use Rattle.vol_spec.specs.declared.encoding.Encoding.TheVariants.{Raw, Seg}
 
@@ -54,3 +55,9 @@ padded_of (Seg block) channels size chunk = padded_voxels block channels size ch
 abbrev pub limit_of : Encoding → ℕ → ℕ → List ℕ → List ℕ → ℕ
 limit_of Raw width channels size chunk = first_bytes width channels size chunk
 limit_of (Seg block) width channels size chunk = 4 * channels + 16 * padded_voxels block channels size chunk
+
+-- a chunk size of a scale: 1 to 2^40 voxels on each axis, with at most 2^27 bytes in its first cell, and of a segmentation at most 2^24
+-- padded voxels times channels
+abbrev pub FitsChunk : ℕ → ℕ → List ℕ → Encoding → List ℕ → Type 0
+FitsChunk width channels size encoding chunk = AreSizes chunk × (first_bytes width channels size chunk ≤ 2 ^ 27)
+    × (padded_of encoding channels size chunk ≤ 2 ^ 24)

@@ -7,6 +7,7 @@ mod row;
 mod scale;
 mod seg_shape;
 mod sharding;
+mod sizes;
 mod span;
 
 pub use encoding::Encoding;
@@ -15,4 +16,5 @@ pub use row::Row;
 pub use scale::Scale;
 pub use seg_shape::SegShape;
 pub use sharding::{HashKind, ShardPlace, Sharding};
+pub use sizes::ChunkSizes;
 pub use span::ChunkSpan;

@@ -1,14 +1,15 @@
 //! A scale of a volume, with its limits.
-ghost use Rattle.std.specs.Prelude.{◌≡◌, ◌⊎◌, ℕ, List, ◌≤◌, ◌*◌, ◌+◌, ◌-◌, ◌/◌, ◌<◌, ◌^◌, length, min, nat_le, slice_index};
+ghost use Rattle.std.specs.Prelude.{◌≡◌, ◌⊎◌, ℕ, List, ◌≤◌, ◌*◌, ◌+◌, ◌-◌, ◌/◌, ◌<◌, ◌^◌, All, length, min, nat_le, slice_index};
 ghost use Rattle.std.specs.Option.{ForSome};
 ghost use Rattle.vol_base.specs.Grids.{AreSizes, pairs};
-ghost use Rattle.vol_spec.specs.Limits.{IsWidth, AreOffsets, IsSeg, AreBlocks, first_bytes, cell_counts, rounded, padded_of, limit_of};
+ghost use Rattle.vol_spec.specs.Limits.{IsWidth, AreOffsets, IsSeg, AreBlocks, FitsChunk, first_bytes, cell_counts, rounded, padded_of, limit_of};
 
-use crate::{Encoding, Sharding};
+use crate::{ChunkSizes, Encoding, Sharding};
 use vol_base::Name;
 
 /// One scale of a volume (precomputed volume format, info metadata). Sizes and offsets are counted
-/// in voxels, x first; `width` is the bytes of one value.
+/// in voxels, x first; `width` is the bytes of one value. An unsharded scale is stored once for `chunk` and once
+/// for each of `more`.
 #[derive(Debug, Drop)]
 pub struct Scale {
     pub key: Name,
@@ -19,6 +20,7 @@ pub struct Scale {
     pub chunk: [u64; 3],
     pub encoding: Encoding,
     pub sharding: Option<Sharding>,
+    pub more: ChunkSizes,
     pub ghost key_ok: { length key ≤ 200 },
     pub ghost width_ok: { ∥ IsWidth width ∥₁ },
     pub ghost some_channels: { 1 ≤ channels },
@@ -31,9 +33,13 @@ pub struct Scale {
     pub ghost block_ok: { (block : List ℕ) → IsSeg encoding block → AreBlocks block },
     pub ghost padded_ok: { padded_of encoding channels size chunk ≤ 2 ^ 24 },
     pub ghost codes_ok: { ForSome sharding (λ _. length (pairs (cell_counts size chunk)) ≤ 64) },
+    pub ghost more_ok: { All (FitsChunk width channels size encoding) more },
+    pub ghost alone_ok: { ForSome sharding (λ _. length more ≡ 0) },
 }
 
 impl Scale {
+    ghost use Rattle.vol_spec.specs.Views.{chunk_of, view};
+
     /// The same scale once more. It takes no memory.
     pub fn duplicate(&self) -> Scale
         ensures { result ≡ self.now }
@@ -47,6 +53,37 @@ impl Scale {
             chunk: self.chunk,
             encoding: self.encoding,
             sharding: self.sharding,
+            more: self.more.duplicate(),
+        }
+    }
+
+    // The chunk size of a view.
+    fn size_of_view(&self, k: u32) -> [u64; 3]
+        requires { k ≤ length self.now.more }
+        ensures { result ≡ chunk_of self.now k }
+    {
+        if k == 0 {
+            return self.chunk;
+        }
+        self.more.get(k - 1)
+    }
+
+    /// A view: the scale with the first of its chunk sizes alone for 0, and with the further ones after it. It takes
+    /// no memory.
+    pub fn view(&self, k: u32) -> Scale
+        requires { k ≤ length self.now.more }
+        ensures { result ≡ view self.now k }
+    {
+        Scale {
+            key: self.key.duplicate(),
+            width: self.width,
+            channels: self.channels,
+            size: self.size,
+            offset: self.offset,
+            chunk: self.size_of_view(k),
+            encoding: self.encoding,
+            sharding: self.sharding,
+            more: ChunkSizes::none(),
         }
     }
 
