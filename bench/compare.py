@@ -4,9 +4,9 @@
     bench/compare.py TRIES OURS PLAIN [INPUT [BEFORE]]
 
 OURS, PLAIN and BEFORE are each a command in one word; BEFORE is run before each of the others, and isn't timed. INPUT
-is the file that OURS and PLAIN read (/dev/null). It prints the best time and the largest peak memory of each, and the
-ratio of the times; a rate is that of the larger of input and output. The status is 1 where a command fails or their
-outputs differ.
+is the file that OURS and PLAIN read (/dev/null). It prints the best time, the least processor time and the largest peak
+memory of each, and the ratios of the times; a rate is that of the larger of input and output. Where other work takes the
+processors, the processor time tells more. The status is 1 where a command fails or their outputs differ.
 """
 import filecmp
 import os
@@ -18,7 +18,7 @@ import time
 
 
 def run(command, feed, path):
-    """The seconds that a command took and its peak memory in MiB. Its output is a new file."""
+    """The seconds that a command took, those of a processor, and its peak memory in MiB. Its output is a new file."""
     words = shlex.split(command)
     if os.path.exists(path):
         os.remove(path)
@@ -32,7 +32,7 @@ def run(command, feed, path):
     seconds = time.perf_counter() - begin
     if status != 0:
         sys.exit(f"{command}: status {os.waitstatus_to_exitcode(status)}")
-    return seconds, usage.ru_maxrss / 1024
+    return seconds, usage.ru_utime + usage.ru_stime, usage.ru_maxrss / 1024
 
 
 def main():
@@ -51,10 +51,12 @@ def main():
         size = max(map(os.path.getsize, (feed, paths[0]))) / 2**20
     best = []
     for name, kept in zip(("ours", "plain"), runs):
-        best.append(min(seconds for seconds, _ in kept))
-        peak = max(memory for _, memory in kept)
-        print(f"{name:5}  {best[-1] * 1000:7.1f} ms  {size / best[-1]:7.0f} MiB/s  peak {peak:6.1f} MiB")
-    print(f"ratio  {best[0] / best[1]:.2f}  ({size:.0f} MiB, best of {tries})")
+        seconds, busy, peak = (pick(column) for pick, column in zip((min, min, max), zip(*kept)))
+        best.append((seconds, busy))
+        print(f"{name:5}  {seconds * 1000:7.1f} ms  {size / seconds:7.0f} MiB/s  processor {busy * 1000:7.1f} ms"
+              f"  peak {peak:6.1f} MiB")
+    ratio, ratio_busy = (ours / plain for ours, plain in zip(*best))
+    print(f"ratio  {ratio:.2f}, of processor time {ratio_busy:.2f}  ({size:.0f} MiB, best of {tries})")
 
 
 if __name__ == "__main__":

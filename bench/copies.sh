@@ -41,6 +41,6 @@ compare() {
 ./plain_sharded bytes make source && cat source/s/* >/dev/null || exit
 compare bytes '[0:512,0:512,0:512]'
 
-./plain_segmentation labels stream >stream && ./plain_sharded labels info source || exit
+./plain_segmentation labels stream pieces >stream && ./plain_sharded labels info source || exit
 ./plain_sharded labels write source s <stream >/dev/null && rm stream && cat source/s/* >/dev/null || exit
 compare labels '[0:256,0:256,0:256]'

@@ -32,6 +32,9 @@ const LABELS: Layout = Layout { size: 256, chunk: 64, channels: 1, width: 8, blo
 /// A large segmentation of 64-bit labels: 8 GiB of them in 4,096 chunks, each of 512 blocks.
 const LARGE: Layout = Layout { size: 1024, chunk: 64, channels: 1, width: 8, block: Some(8) };
 
+/// A segmentation most of which is empty: up to 1.95 GiB of labels in 1,000 chunks, each of 512 blocks.
+const SPARSE: Layout = Layout { size: 640, chunk: 64, channels: 1, width: 8, block: Some(8) };
+
 /// The begin and the end of a box on each axis, x first.
 pub type Spans = [(usize, usize); 3];
 
@@ -48,6 +51,7 @@ impl Layout {
             "few" => Some(FEW),
             "labels" => Some(LABELS),
             "large" => Some(LARGE),
+            "sparse" => Some(SPARSE),
             _ => None,
         }
     }

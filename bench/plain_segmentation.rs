@@ -2,9 +2,13 @@
 //! layout.rs with blocks.
 //!
 //!     plain_segmentation LAYOUT info DATASET                writes the dataset's info
-//!     plain_segmentation LAYOUT stream                      writes a stream of the whole volume to standard output
+//!     plain_segmentation LAYOUT stream FORM                 writes a stream of labels to standard output
 //!     plain_segmentation LAYOUT write DATASET KEY           reads a stream from standard input and writes its objects
 //!     plain_segmentation LAYOUT cutout DATASET KEY BOX      writes the values of the box to standard output
+//!
+//! FORM is `pieces`: the whole volume in one write, in pieces of which several share a label; or `cells`: the whole volume
+//! as slabs of 32 layers, in cells of 300 seeds at random; or `boxes`: 9,000 cubes of 8 voxels a side at random, with a label
+//! each.
 //!
 //! A write reads the whole stream first. Each chunk is made in memory from the writes that meet it, encoded, written to a
 //! file that ends in .part, and renamed. A cutout reads each chunk as a whole, decodes it, and copies it by rows into the
@@ -120,28 +124,69 @@ fn label_of(seeds: &[([usize; 3], u64)], count: usize, voxel: [usize; 3]) -> u64
     best.1
 }
 
-/// One write of the whole volume, with labels of irregular pieces.
-fn write_stream(layout: &Layout) -> io::Result<()> {
+/// A stream of boxes, with a label for each voxel of each of them.
+fn write_boxes(parts: &[Spans], label: impl Fn(usize, [usize; 3]) -> u64) -> io::Result<()> {
+    let mut out = io::BufWriter::new(io::stdout().lock());
+    out.write_all(b"PVW1")?;
+    out.write_all(&(parts.len() as u32).to_le_bytes())?;
+    for (number, part) in parts.iter().enumerate() {
+        let [xs, ys, zs] = part.map(|(begin, end)| begin..end);
+        for (begin, _) in part {
+            out.write_all(&(*begin as u64).to_le_bytes())?;
+        }
+        for (begin, end) in part {
+            out.write_all(&((end - begin) as u64).to_le_bytes())?;
+        }
+        for z in zs {
+            for y in ys.clone() {
+                for x in xs.clone() {
+                    out.write_all(&label(number, [x, y, z]).to_le_bytes())?;
+                }
+            }
+        }
+    }
+    out.flush()
+}
+
+/// The whole volume, with labels of irregular pieces.
+fn write_pieces(layout: &Layout) -> io::Result<()> {
     let count = layout.size.div_ceil(SIDE);
     let cubes = |n: usize| [n % count, n / count % count, n / count / count];
     let seeds: Vec<_> = (0..count.pow(3)).map(|n| seed_of(cubes(n))).collect();
-    let mut out = io::BufWriter::new(io::stdout().lock());
-    out.write_all(b"PVW1\x01\0\0\0")?;
-    for number in [0, 0, 0, layout.size, layout.size, layout.size] {
-        out.write_all(&(number as u64).to_le_bytes())?;
-    }
+    write_boxes(&[[(0, layout.size); 3]], |_, voxel| label_of(&seeds, count, voxel))
+}
+
+/// A voxel at random below a limit on each axis, and a label.
+fn pick_place(number: usize, limit: usize) -> ([usize; 3], u64) {
+    ([0, 1, 2].map(|axis| mix([number; 3], axis) as usize % limit), mix([number; 3], 5) >> 1)
+}
+
+/// The whole volume by slabs, each voxel with the label of the nearest of 300 seeds.
+fn write_cells(layout: &Layout) -> io::Result<()> {
     let size = layout.size;
-    for n in 0..size.pow(3) {
-        let voxel = [n % size, n / size % size, n / size / size];
-        out.write_all(&label_of(&seeds, count, voxel).to_le_bytes())?;
-    }
-    out.flush()
+    let seeds: Vec<_> = (0..300).map(|number| pick_place(number, size)).collect();
+    let far = |place: &[usize; 3], voxel: [usize; 3]| -> usize {
+        [0, 1, 2].map(|axis| place[axis].abs_diff(voxel[axis]).pow(2)).iter().sum()
+    };
+    let slabs: Vec<Spans> =
+        (0..size).step_by(32).map(|z| [(0, size), (0, size), (z, size.min(z + 32))]).collect();
+    write_boxes(&slabs, |_, voxel| seeds.iter().min_by_key(|(place, _)| far(place, voxel)).unwrap().1)
+}
+
+/// Cubes of one label each.
+fn write_cubes(layout: &Layout) -> io::Result<()> {
+    let cubes: Vec<_> = (0..9_000).map(|number| pick_place(number, layout.size - 7)).collect();
+    let parts: Vec<Spans> =
+        cubes.iter().map(|(place, _)| place.map(|begin| (begin, begin + 8))).collect();
+    write_boxes(&parts, |number, _| cubes[number].1)
 }
 
 fn main() -> ExitCode {
     layout::run_with(|layout, words| match *words {
         ["info", dataset] => Some(layout.make_info(Path::new(dataset), "")),
-        ["stream"] => Some(write_stream(layout)),
+        ["stream", "pieces"] => Some(write_pieces(layout)),
+        ["stream", "cells"] => Some(write_cells(layout)),
+        ["stream", "boxes"] => Some(write_cubes(layout)),
         ["write", dataset, key] => Some(write(layout, &Path::new(dataset).join(key))),
         ["cutout", dataset, key, part] => {
             let part = layout.parse_box(part)?;

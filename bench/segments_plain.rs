@@ -11,9 +11,32 @@ fn mix(n: u64) -> u64 {
     n ^ n >> 31
 }
 
+// The label of the box that a voxel lies in, of nine; or 0.
+fn box_at(voxel: [u64; 3]) -> u64 {
+    let inside = |place: u64| {
+        let apart = |axis: usize| voxel[axis].wrapping_sub((place >> (16 * axis)) % 57);
+        (0..3).all(|axis| apart(axis) < 8)
+    };
+    (0..9).map(|i| mix(i + 77)).find(|place| inside(*place)).map_or(0, |place| mix(place) >> 1)
+}
+
+// The label of the nearest of forty seeds in a cube of 128 whose middle is the chunk.
+fn cell_at(voxel: [u64; 3]) -> u64 {
+    let far = |place: u64| -> u64 {
+        let apart = |axis: usize| (voxel[axis] + 32).abs_diff((place >> (16 * axis)) % 128);
+        (0..3).map(|axis| apart(axis).pow(2)).sum()
+    };
+    let nearest = (0..40).map(|i| mix(i + 99)).min_by_key(|place| far(*place)).unwrap();
+    mix(nearest) >> 1
+}
+
 fn value_at(kind: &str, n: u64) -> u64 {
     let [x, y, z] = [n % 64, n / 64 % 64, n / 4096];
-    if kind.ends_with("labels") {
+    if kind.ends_with("boxes") {
+        box_at([x, y, z])
+    } else if kind.ends_with("cells") {
+        cell_at([x, y, z])
+    } else if kind.ends_with("labels") {
         1000 + (x / 19 + y / 19 * 4 + z / 19 * 16) % 40
     } else if kind.ends_with("noise") {
         5000 + mix(n) % (2 + (x / 8 + y / 8 * 8 + z / 8 * 64) % 29)

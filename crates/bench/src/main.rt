@@ -2,8 +2,8 @@
 //! numbers behind it, and each kind's line has a sum of what was made, to be compared with a plain program's:
 //!
 //! - `codes COUNT X Y Z`: the codes of so many cells of a grid of this size; `hashes COUNT`: so many hashes;
-//! - `decode` or `encode` with `-labels` or `-noise` behind it, and a count: so often a chunk of 64 x 64 x 64 wide values
-//!   in blocks of 8 x 8 x 8 is read or written;
+//! - `decode` or `encode` with `-boxes`, `-cells`, `-labels` or `-noise` behind it, and a count: so often a chunk of
+//!   64 x 64 x 64 wide values in blocks of 8 x 8 x 8 is read or written;
 //! - `short` or `long`, and a count: so often a chunk of 2^16 or 2^20 blocks of one voxel is written, with almost as many
 //!   values as voxels; with `-again` behind it over a third of the values have come before, with `-labels` there are
 //!   some 40.

@@ -13,6 +13,10 @@ use vol_base::OutOfMemory;
 // What the values of a chunk are.
 #[derive(Clone, Copy)]
 enum Values {
+    // nine boxes of 8 x 8 x 8 with a label each, and 0 elsewhere
+    Boxes,
+    // cells of the nearest of forty seeds
+    Cells,
     // forty labels in pieces that cut the blocks
     Labels,
     // 2 to 30 labels in each block, at every voxel another
@@ -56,11 +60,48 @@ fn mix(n: u64) -> u64 {
     n ^ (n >> 31)
 }
 
+// The label of the box that a voxel lies in, of nine; or 0.
+fn box_at(x: u64, y: u64, z: u64) -> u64 {
+    for i in 0..9u64 {
+        let place = mix(i.wrapping_add(77));
+        let dx = x.wrapping_sub(place % 57);
+        let dy = y.wrapping_sub((place >> 16) % 57);
+        let dz = z.wrapping_sub((place >> 32) % 57);
+        if dx < 8 && dy < 8 && dz < 8 {
+            return mix(place) >> 1;
+        }
+    }
+    0
+}
+
+// The label of the nearest of forty seeds in a cube of 128 whose middle is the chunk.
+fn cell_at(x: u64, y: u64, z: u64) -> u64 {
+    let mut least = u64::MAX;
+    let mut label = 0;
+    for i in 0..40u64 {
+        let place = mix(i.wrapping_add(99));
+        let dx = x.wrapping_add(32).wrapping_sub(place % 128);
+        let dy = y.wrapping_add(32).wrapping_sub((place >> 16) % 128);
+        let dz = z.wrapping_add(32).wrapping_sub((place >> 32) % 128);
+        let far = dx
+            .wrapping_mul(dx)
+            .wrapping_add(dy.wrapping_mul(dy))
+            .wrapping_add(dz.wrapping_mul(dz));
+        if far < least {
+            least = far;
+            label = mix(place) >> 1;
+        }
+    }
+    label
+}
+
 fn value_at(values: Values, n: u64) -> u64 {
     let x = n % 64;
     let y = n / 64 % 64;
     let z = n / 4096;
     match values {
+        Values::Boxes => box_at(x, y, z),
+        Values::Cells => cell_at(x, y, z),
         Values::Labels => 1000 + (x / 19 + y / 19 * 4 + z / 19 * 16) % 40,
         Values::Noise => 5000 + mix(n) % (2 + (x / 8 + y / 8 * 8 + z / 8 * 64) % 29),
         Values::Below(bound) => mix(n) % bound.max(1),
@@ -177,8 +218,12 @@ fn sum_line(alloc: Global, len: u64, values: Values, count: u64) -> Result<u64, 
 /// The sum for a kind that was named.
 pub(crate) fn sum_chunks(alloc: Global, kind: &str, count: u64) -> Result<u64, OutOfMemory> {
     match kind {
+        "decode-boxes" => sum_decoded(alloc, Values::Boxes, count),
+        "decode-cells" => sum_decoded(alloc, Values::Cells, count),
         "decode-labels" => sum_decoded(alloc, Values::Labels, count),
         "decode-noise" => sum_decoded(alloc, Values::Noise, count),
+        "encode-boxes" => sum_encoded(alloc, &cube(), 2097152, 4194308, Values::Boxes, count),
+        "encode-cells" => sum_encoded(alloc, &cube(), 2097152, 4194308, Values::Cells, count),
         "encode-labels" => sum_encoded(alloc, &cube(), 2097152, 4194308, Values::Labels, count),
         "encode-noise" => sum_encoded(alloc, &cube(), 2097152, 4194308, Values::Noise, count),
         "short-labels" => sum_line(alloc, 1 << 16, Values::Labels, count),

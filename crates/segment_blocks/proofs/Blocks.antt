@@ -105,6 +105,17 @@ inside_from s c k b v h is i =
     let all : (v.z * block s 1 + v.y) * block s 0 + block s 0 ≤ (block s 2 * block s 1) * block s 0 = row_fits (v.z * block s 1 + v.y) (block s 0) (block s 2 * block s 1) (block s 0) (omega arith) (omega arith) in
     (n, record { below = omega arith; inside = tests_back (x_of s k n) (size s 0) (y_of s k n) (size s 1) (z_of s k n) (size s 2) (omega (arith, ex, i.0, is.count_x, is.x)) (omega (arith, ey, i.1, is.count_y, is.y)) (omega (arith, ez, i.2, is.count_z)) }, sym ex, sym ey, sym ez)
 
+-- and has its value at the same place
+pub inside_spot : (s : SegSizes) (c k : ℕ) (b : Block) (v : Voxel) → IsShape s → IsBlock s c k b → InPlanes b b.count_z v
+    → (n : ℕ) × InBlock s k n × (place s c k n ≡ spot b v)
+inside_spot s c k b v h is i =
+    let t = inside_from s c k b v h is i in
+    let same : spot b (voxel s t.0) ≡ spot b v =
+    ap (λ q. (b.x + q) + b.size_x * ((b.y + t.0 / block s 0 % block s 1) + b.size_y * (b.z + t.0 / block s 0 / block s 1))) (sym t.2)
+    ∙ ap (λ q. (b.x + v.x) + b.size_x * ((b.y + q) + b.size_y * (b.z + t.0 / block s 0 / block s 1))) (sym t.3)
+    ∙ ap (λ q. (b.x + v.x) + b.size_x * ((b.y + v.y) + b.size_y * (b.z + q))) (sym t.4) in
+    (t.0, t.1, voxel_spot s c k t.0 b is ∙ same)
+
 -- an entry that the table has, in words
 has_words : (wide : Bool) (len t i : ℕ) → len % 4 ≡ 0 → width_of wide * i + width_of wide ≤ len - 4 * t → t + (i + 1) * (if wide then 2 else 1) ≤ len / 4
 has_words true len t i m h = omega arith
@@ -161,13 +172,7 @@ pub block_filled : (bytes : List ℕ) (s : SegSizes) (c k : ℕ) (b : Block) (ol
 block_filled bytes s c k b old new h d =
     filled_via (InPlanes b b.count_z) (InBlock s k) (spot b) (place s c k) (want b (values_of bytes c k) (table_of bytes c k) (width s) (bits bytes c k)) (entry bytes s c k) (width s) old new d.filled
     (λ n i. (voxel s n, inside_to s c k n b h.shape h.is i, voxel_spot s c k n b h.is, ap (value (width s) (table_of bytes c k)) (index_is bytes s c k n b h) ∙ entry_is bytes s c k n))
-    (λ v i.
-    let t = inside_from s c k b v h.shape h.is i in
-    let same : spot b (voxel s t.0) ≡ spot b v =
-    ap (λ q. (b.x + q) + b.size_x * ((b.y + t.0 / block s 0 % block s 1) + b.size_y * (b.z + t.0 / block s 0 / block s 1))) (sym t.2)
-    ∙ ap (λ q. (b.x + v.x) + b.size_x * ((b.y + q) + b.size_y * (b.z + t.0 / block s 0 / block s 1))) (sym t.3)
-    ∙ ap (λ q. (b.x + v.x) + b.size_x * ((b.y + v.y) + b.size_y * (b.z + q))) (sym t.4) in
-    (t.0, t.1, voxel_spot s c k t.0 b h.is ∙ same))
+    (λ v i. inside_spot s c k b v h.shape h.is i)
 
 pub block_none : (bytes : List ℕ) (s : SegSizes) (c k : ℕ) (b : Block) (old new : List ℕ) → Sound bytes s c k b
     → Done (InPlanes b b.count_z) b (values_of bytes c k) (table_of bytes c k) (width s) (bits bytes c k) old new

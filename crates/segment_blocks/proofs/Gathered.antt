@@ -37,7 +37,8 @@ pub record Gathered (old cur : List ℕ) (i kept last : ℕ) : Type 0 where
 pub gathered_none : (old cur : List ℕ) → Gathered old cur 0 0 0
 gathered_none old cur = record { within = omega arith; from = λ v h. h; all = λ v h. h; before = λ j e. absurd (omega arith) }
 
-put_next : (xs : List ℕ) (k x : ℕ) → k < length xs → take (k + 1) (set xs k x) ≡ take k xs ++ x ∷ []
+-- a list with one item put behind its front
+pub put_next : (xs : List ℕ) (k x : ℕ) → k < length xs → take (k + 1) (set xs k x) ≡ take k xs ++ x ∷ []
 put_next xs k x h = grind (arith, common_steps)
 
 pub gathered_more : (new : Bool) (old cur cur' : List ℕ) (i kept kept' last x : ℕ) → i < length old → length old ≤ length cur → x ≡ slice_index old i → Gathered old cur i kept last
@@ -120,6 +121,21 @@ recent_more false old cur cur' recent i kept kept' spot x li len ex lp g en ec e
       all = λ v h. same v (⊎_elim (λ j. g.all v j) (λ (e : v ≡ x). subst (λ q. IsIn q (take kept cur)) (sym e) there) (in_append v (take i old) x (subst (IsIn v) more h)));
       seen = seen_more recent (take kept' cur') spot x within (same x there) (λ s l. same (slice_index recent s) (g.seen s l));
       spots = length-set recent spot x ∙ g.spots;
+    }
+
+-- a value that equals the one before
+pub recent_again : (old cur recent : List ℕ) (i kept x : ℕ) → i < length old → 0 < i → x ≡ slice_index old i → x ≡ slice_index old (i - 1) → Recent old cur recent i kept → Recent old cur recent (i + 1) kept
+recent_again old cur recent i kept x li pi ex ep g =
+    let more : take (i + 1) old ≡ take i old ++ x ∷ [] = next old i li ∙ ap (λ q. take i old ++ q ∷ []) (sym ex) in
+    let front : take (i - 1 + 1) old ≡ take (i - 1) old ++ x ∷ [] = next old (i - 1) (omega arith) ∙ ap (λ q. take (i - 1) old ++ q ∷ []) (sym ep) in
+    let back : i - 1 + 1 ≡ i = omega arith in
+    let there : IsIn x (take i old) = subst (λ q. IsIn x (take q old)) back (subst (IsIn x) (sym front) (append_in x (take (i - 1) old) x (inr refl))) in
+    record {
+      within = omega (arith, g.within);
+      from = λ v h. subst (IsIn v) (sym more) (append_in v (take i old) x (inl (g.from v h)));
+      all = λ v h. ⊎_elim (λ j. g.all v j) (λ (e : v ≡ x). subst (λ q. IsIn q (take kept cur)) (sym e) (g.all x there)) (in_append v (take i old) x (subst (IsIn v) more h));
+      seen = g.seen;
+      spots = g.spots;
     }
 
 pub whole_in : (v : ℕ) (xs : List ℕ) (n : ℕ) → length xs ≤ n → IsIn v (take n xs) → IsIn v xs

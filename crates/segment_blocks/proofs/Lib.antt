@@ -18,6 +18,7 @@ pub mod Lines
 pub mod Members
 pub mod Numbered
 pub mod Offsets
+pub mod Ones
 pub mod Packing
 pub mod Packs
 pub mod Places

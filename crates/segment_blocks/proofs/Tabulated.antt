@@ -19,6 +19,7 @@ use Rattle.segment_blocks.proofs.Blocks.{voxel, voxel_spot}
 use Rattle.segment_blocks.proofs.Gathered.{contains_in, distinct_same, in_contains}
 use Rattle.segment_blocks.proofs.Offsets.{first_inside, table_some}
 use Rattle.segment_blocks.proofs.Places.{IsRising, place_is}
+use Rattle.segment_blocks.proofs.Shapes.{some_voxels}
 use Rattle.segment_blocks.proofs.Tables.{IsIn, Rises, distinct_in, distinct_rises, in_distinct}
 use Rattle.segment_blocks.proofs.Values.{IsBytes, part_bytes}
 
@@ -79,7 +80,7 @@ range_in a (suc n) (suc i) h = let e : a + 1 + i ≡ a + suc i = omega arith in 
 below_in : (n i : ℕ) → i < n → IsIn i (range_with_len 0 n)
 below_in n i h = let e : 0 + i ≡ i = omega arith in subst (λ q. IsIn q (range_with_len 0 n)) e (range_in 0 n i h)
 
-voxel_in : (s : SegSizes) (raw : List ℕ) (c k p n : ℕ) → in_chunk s k n ≡ true → voxel_of s raw c k p n ≡ raw_value s raw c k n
+pub voxel_in : (s : SegSizes) (raw : List ℕ) (c k p n : ℕ) → in_chunk s k n ≡ true → voxel_of s raw c k p n ≡ raw_value s raw c k n
 voxel_in s raw c k p n e = rw e refl
 
 voxel_out : (s : SegSizes) (raw : List ℕ) (c k p n : ℕ) → in_chunk s k n ≡ false → voxel_of s raw c k p n ≡ p
@@ -105,6 +106,25 @@ table_is s raw c k p h lk pn ep =
     let t = in_map g v (voxels_in s k) i in
     let u = in_filter (in_chunk s k) t.0 (range_with_len 0 n) t.1 in
     subst (λ q. IsIn q (voxels_of s raw c k p)) (voxel_in s raw c k p t.0 u.1 ∙ sym t.2) (map_in f t.0 (range_with_len 0 n) u.0))
+
+-- a block whose voxels have one value has the table of that value
+pub table_one : (s : SegSizes) (raw : List ℕ) (c k v : ℕ) → IsShape s → k < block_count s → ((n : ℕ) → n < block_voxels s → IsTrue (in_chunk s k n) → raw_value s raw c k n ≡ v) → table s raw c k ≡ v ∷ []
+unfolding table
+table_one s raw c k v h lk each =
+    let n : ℕ = block_voxels s in
+    let g : ℕ → ℕ = raw_value s raw c k in
+    let pn : 0 < n = some_voxels s h in
+    let inside = first_inside s k h lk in
+    distinct_same (map g (voxels_in s k)) (v ∷ [])
+    (λ u i.
+    let t = in_map g u (voxels_in s k) i in
+    let f = in_filter (in_chunk s k) t.0 (range_with_len 0 n) t.1 in
+    let r = in_range 0 n t.0 f.0 in
+    inl (t.2 ∙ each t.0 (omega (arith, r.1)) f.1))
+    (λ u i. ⊎_elim
+    (λ (e : u ≡ v). subst (λ q. IsIn q (map g (voxels_in s k))) (each 0 pn inside ∙ sym e) (map_in g 0 (voxels_in s k) (filter_in (in_chunk s k) 0 (range_with_len 0 n) (below_in n 0 pn) inside)))
+    (λ (j : IsIn u []). absurd j)
+    i)
 
 -- each voxel's value stands in the table
 pub value_there : (s : SegSizes) (raw : List ℕ) (c k n : ℕ) → n < block_voxels s → IsTrue (in_chunk s k n) → IsIn (raw_value s raw c k n) (table s raw c k)

@@ -5,7 +5,7 @@ use Rattle.std.proofs.lemmas.Bool.{cases_lt}
 use Rattle.std.proofs.lemmas.Bool.Decides.{nat_tests}
 use Rattle.std.proofs.lemmas.Grind.{same_number_lists}
 use Rattle.std.proofs.lemmas.List.FromFn.{length-map-range_with_len, get_or-map-range_with_len}
-use Rattle.std.proofs.lemmas.Nat.{div-add-mod', div-mul-add, mod-mul-add}
+use Rattle.std.proofs.lemmas.Nat.{div-add-mod', div-mul-add, mod-mul-add, mod_below}
 use Rattle.std.proofs.Math.Nat.{mod-add-div, mul-le-mul_left, mul-le-mul_right}
 use Rattle.equal_values.proofs.Ranges.{either}
 use Rattle.vol_spec.specs.Raw.{digit}
@@ -22,6 +22,22 @@ use Rattle.segment_blocks.proofs.Blocks.{inside_from, inside_to, voxel, voxel_sp
 use Rattle.segment_blocks.proofs.Lines.{Room, room_of, width_le, width_some}
 use Rattle.segment_blocks.proofs.Rowwise.{mid_inside, mid_outside}
 use borrow.Rule.Slice.PartMut.{put_mid}
+
+-- the row behind one, in the same plane or the next
+pub line_more : (r y z rows : ℕ) → y ≡ r % rows → z ≡ r / rows → y + 1 < rows → (y + 1 ≡ (r + 1) % rows) × (z ≡ (r + 1) / rows)
+line_more r y z rows ey ez l =
+    let f = div-add-mod' r rows in
+    let same : z * rows ≡ r / rows * rows = ap (λ q. q * rows) ez in
+    let d : z * rows + (y + 1) ≡ r + 1 = omega (arith, f, same, ey) in
+    (sym (ap (λ q. q % rows) (sym d) ∙ mod-mul-add z rows (y + 1) l), sym (ap (λ q. q / rows) (sym d) ∙ div-mul-add z rows (y + 1) l))
+
+pub line_end : (r y z rows : ℕ) → 0 < rows → y ≡ r % rows → z ≡ r / rows → rows ≤ y + 1 → (0 ≡ (r + 1) % rows) × (z + 1 ≡ (r + 1) / rows)
+line_end r y z rows some ey ez h =
+    let f = div-add-mod' r rows in
+    let below : r % rows < rows = mod_below r rows some in
+    let same : z * rows ≡ r / rows * rows = ap (λ q. q * rows) ez in
+    let d : (z + 1) * rows + 0 ≡ r + 1 = omega (arith, f, same, ey, below, h) in
+    (sym (ap (λ q. q % rows) (sym d) ∙ mod-mul-add (z + 1) rows 0 some), sym (ap (λ q. q / rows) (sym d) ∙ div-mul-add (z + 1) rows 0 some))
 
 -- a row of so many places lies in them
 pub row_in : (len w r : ℕ) → r < len / w → r * w + w ≤ len
@@ -81,10 +97,10 @@ row_small s b len y z row l e =
     let room : Room (width s) (((b.z + z) * b.size_y + (b.y + y)) * b.size_x + b.x) b.count_x len = room_of b (width s) _ len y z (width_some s.wide) (width_le s.wide) l hy hz refl in
     omega (arith, room.few)))
 
-if_lt : (x count d p : ℕ) → x < count → (if nat_lt x count then d else p) ≡ d
+pub if_lt : (x count d p : ℕ) → x < count → (if nat_lt x count then d else p) ≡ d
 if_lt x count d p h = grind (arith, nat_tests)
 
-if_ge : (x count d p : ℕ) → count ≤ x → (if nat_lt x count then d else p) ≡ p
+pub if_ge : (x count d p : ℕ) → count ≤ x → (if nat_lt x count then d else p) ≡ p
 if_ge x count d p h = grind (arith, nat_tests)
 
 if_is : (t : Bool) (d p : ℕ) → t ≡ true → (if t then d else p) ≡ d

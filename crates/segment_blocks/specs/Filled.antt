@@ -3,6 +3,7 @@ use Rattle.std.specs.Prelude.{◌≡◌, ◌≢◌, ℕ, ◌+◌, ◌*◌, ◌<�
 use Rattle.segment_blocks.specs.declared.block.Block.{Block}
 use Rattle.segment_blocks.specs.Row.{index_in, Has}
 use Rattle.vol_base.specs.Boxes.{value}
+use Rattle.vol_spec.specs.Raw.{digit}
 
 -- each place of a set has the value that it is to have, and every other value is as before
 pub record Filled {A : Type 0} (P : A → Type 0) (spot : A → ℕ) (want : A →
@@ -40,6 +41,14 @@ InRows b y z v = (v.x < b.count_x) × (v.y < y) × (v.z ≡ z)
 
 abbrev pub InPlanes : Block → ℕ → Voxel → Type 0
 InPlanes b z v = (v.x < b.count_x) × (v.y < b.count_y) × (v.z < z)
+
+-- so many values from a place on are this one
+abbrev pub AreAll : List ℕ → ℕ → ℕ → ℕ → ℕ → Type 0
+AreAll raw w from count value = (n : ℕ) → from ≤ n → n < from + count → digit raw w n ≡ value
+
+-- each voxel of a set has this value in the raw bytes
+abbrev pub HaveOne : (Voxel → Type 0) → Block → List ℕ → ℕ → ℕ → Type 0
+HaveOne P b raw w value = (v : Voxel) → P v → digit raw w (spot b v) ≡ value
 
 -- a block that lies in so many raw values
 pub record Lies (b : Block) (values : ℕ) : Type 0 where

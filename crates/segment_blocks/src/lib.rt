@@ -8,6 +8,7 @@ mod hashes;
 mod header;
 mod known;
 mod locate;
+mod one;
 mod pack;
 mod reading;
 mod room;

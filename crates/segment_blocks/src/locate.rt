@@ -14,7 +14,8 @@ fn get_size(shape: &SegShape, axis: usize) -> usize
     shape.size[axis] as usize
 }
 
-fn get_block(shape: &SegShape, axis: usize) -> usize
+/// The size of a block on an axis.
+pub(crate) fn get_block(shape: &SegShape, axis: usize) -> usize
     requires { axis < 3 }
     ensures { result ≡ block (sizes_of shape.now) axis }
 {

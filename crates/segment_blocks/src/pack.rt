@@ -9,7 +9,7 @@ ghost use Rattle.std.specs.List.{Contains};
 ghost use Rattle.vol_spec.specs.BoxValues.{bytes_of};
 
 use crate::header::count_words;
-use crate::table::{find_place, find_spot};
+use crate::table::{find_index, find_spot};
 use byteorder::{ByteOrder, LittleEndian};
 
 /// The least allowed number of bits that can tell so many entries apart.
@@ -55,6 +55,26 @@ pub(crate) fn put_index(values: &mut [u8], bits: u32, n: usize, index: u32)
     LittleEndian::write_u32(&mut values[at..], word + more);
 }
 
+// The place of a value in an ascending table that has it; the last one at its spot is tried first.
+fn find_near(table: &[u64], x: u64, guesses: &mut [usize; 64]) -> usize
+    requires rises { (i j : ℕ) → i < j → j < length table.now →
+        slice_index table.now i < slice_index table.now j }
+    requires there { Contains table.now x }
+    requires guesses { (s : ℕ) → s < 64 → slice_index guesses.old s < length table.now }
+    ensures within { result < length table.now }
+    ensures is { result ≡ place_in table.now x }
+    ensures guesses { (s : ℕ) → s < 64 → slice_index guesses.new s < length table.now }
+{
+    let spot = find_spot(x);
+    let guess = guesses[spot];
+    if table[guess] == x {
+        return guess;
+    }
+    let place = find_index(table, x);
+    guesses[spot] = place;
+    place
+}
+
 /// Puts the places of the values in a table side by side into bytes that are 0.
 pub(crate) fn pack_places(voxels: &[u64], table: &[u64], bits: u32, values: &mut [u8])
     requires bits { IsTrue (is_allowed bits) }
@@ -70,10 +90,8 @@ pub(crate) fn pack_places(voxels: &[u64], table: &[u64], bits: u32, values: &mut
 {
     let mut guesses = [0usize; 64];
     for n in 0..voxels.len() {
-        let spot = find_spot(voxels[n]);
-        let place = find_place(table, voxels[n], guesses[spot]);
+        let place = find_near(table, voxels[n], &mut guesses);
         put_index(values, bits, n, place as u32);
-        guesses[spot] = place;
     }
 }
 

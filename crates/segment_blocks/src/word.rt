@@ -47,14 +47,16 @@ pub(crate) fn copy_value(from: &[u8], i: usize, to: &mut [u8], j: usize, wide: b
     }
 }
 
-fn read_narrow(bytes: &[u8], i: usize) -> u64
+/// The i-th value of four bytes.
+pub(crate) fn read_narrow(bytes: &[u8], i: usize) -> u64
     requires { 4 * i + 4 ≤ length bytes.now }
     ensures { result ≡ digit bytes.now 4 i }
 {
     read_word(bytes, i) as u64
 }
 
-fn read_wide(bytes: &[u8], i: usize) -> u64
+/// The i-th value of eight bytes.
+pub(crate) fn read_wide(bytes: &[u8], i: usize) -> u64
     requires { 8 * i + 8 ≤ length bytes.now }
     ensures { result ≡ digit bytes.now 8 i }
 {

@@ -1,5 +1,5 @@
 //! A chunk's bytes out of its values.
-ghost use Rattle.std.specs.Prelude.{◌≡◌, ◌+◌, ◌*◌, ◌/◌, ◌<◌, ◌≤◌, ◌^◌, ◌++◌, ℕ, length, slice_index, slice_set, take, drop, flat_map, None};
+ghost use Rattle.std.specs.Prelude.{◌≡◌, ◌+◌, ◌*◌, ◌/◌, ◌<◌, ◌≤◌, ◌^◌, ◌++◌, ℕ, length, slice_index, slice_set, take, drop, flat_map, ◌∷◌, [], None};
 ghost use Rattle.std.specs.List.{range_with_len};
 ghost use Rattle.vol_spec.specs.BoxValues.{bytes_of};
 ghost use Rattle.vol_spec.specs.Raw.{digit};
@@ -10,6 +10,7 @@ ghost use Rattle.vol_spec.specs.SegShapes.{sizes_of};
 ghost use Rattle.vol_spec.specs.SegSizes.{encoded_limit, padded_in, width_of};
 ghost use Rattle.vol_spec.specs.SegWritten as seg;
 ghost use Rattle.vol_spec.specs.SegWritten.{channel_bytes, channel_start, packed_bytes, packed_len, seg_bytes, table_place, values_place};
+ghost use Rattle.segment_blocks.specs.Located.{IsBlock};
 ghost use Rattle.segment_blocks.specs.Reserved.{sizes_for};
 ghost use Rattle.segment_blocks.specs.Rooms.{IsRoom, SameRoom, Serves};
 ghost use Rattle.segment_blocks.specs.Shape.{padded};
@@ -17,9 +18,11 @@ ghost use Rattle.segment_blocks.specs.Singles.{IsSingles, KnowsSpots, SameSingle
 ghost use Rattle.segment_blocks.specs.Stored.{Candidate, HasTables, IsBegun};
 
 use crate::append::{put_values, put_words};
+use crate::block::Block;
 use crate::hashes::hash_table;
 use crate::known::{Known, add_block, locate_table};
 use crate::locate::{count_blocks, find_block};
+use crate::one::find_one;
 use crate::pack::{find_bits, put_places};
 use crate::room::Room;
 use crate::scratch::Scratch;
@@ -34,6 +37,71 @@ use vol_spec::SegShape;
 pub(crate) struct Ends {
     pub indices: usize,
     pub entries: usize,
+}
+
+// The table of a block of one value, behind the first `at` bytes: such a block has no indices.
+fn write_one(
+    _raw: &[u8],
+    shape: &SegShape,
+    _c: u32,
+    _k: usize,
+    value: u64,
+    table: &mut [u64],
+    out: &mut [u8],
+    at: usize,
+) -> Ends
+    requires one { seg.table (sizes_of shape.now) _raw.now _c _k ≡ value ∷ [] }
+    requires table { 0 < length table.old }
+    requires room { at + width_of shape.now.wide ≤ length out.old }
+    ensures indices { result.indices ≡ at + 4 * packed_len (sizes_of shape.now) _raw.now _c _k }
+    ensures entries { result.entries ≡ length (seg.table (sizes_of shape.now) _raw.now _c _k) }
+    ensures table { take result.entries table.new ≡ seg.table (sizes_of shape.now) _raw.now _c _k }
+    ensures bytes { take (result.indices + width_of shape.now.wide * result.entries) out.new ≡ take at out.old
+        ++ packed_bytes (sizes_of shape.now) _raw.now _c _k
+        ++ flat_map (bytes_of (width_of shape.now.wide)) (seg.table (sizes_of shape.now) _raw.now _c _k) }
+{
+    table[0] = value;
+    put_values(out, at, &table[..1], shape.wide);
+    Ends {
+        indices: at,
+        entries: 1,
+    }
+}
+
+// The indices of a block behind the first `at` bytes, and its table behind them.
+fn write_many(
+    raw: &[u8],
+    shape: &SegShape,
+    c: u32,
+    k: usize,
+    b: &Block,
+    voxels: &mut [u64],
+    table: &mut [u64],
+    out: &mut [u8],
+    at: usize,
+) -> Ends
+    requires block { k < block_count (sizes_of shape.now) }
+    requires channel { c < shape.now.channels }
+    requires is { IsBlock (sizes_of shape.now) c k b.now }
+    requires raw { length raw.now ≡ raw_len (sizes_of shape.now) }
+    requires voxels { length voxels.old ≡ block_voxels (sizes_of shape.now) }
+    requires table { length table.old ≡ block_voxels (sizes_of shape.now) }
+    requires room { at + 4 * packed_len (sizes_of shape.now) raw.now c k
+        + width_of shape.now.wide * length (seg.table (sizes_of shape.now) raw.now c k) ≤ length out.old }
+    ensures indices { result.indices ≡ at + 4 * packed_len (sizes_of shape.now) raw.now c k }
+    ensures entries { result.entries ≡ length (seg.table (sizes_of shape.now) raw.now c k) }
+    ensures table { take result.entries table.new ≡ seg.table (sizes_of shape.now) raw.now c k }
+    ensures bytes { take (result.indices + width_of shape.now.wide * result.entries) out.new ≡ take at out.old
+        ++ packed_bytes (sizes_of shape.now) raw.now c k
+        ++ flat_map (bytes_of (width_of shape.now.wide)) (seg.table (sizes_of shape.now) raw.now c k) }
+{
+    let count = tabulate(raw, shape, c, k, b, voxels, table);
+    let indices = put_places(out, at, voxels, &table[..count], find_bits(count));
+    put_values(out, indices, &table[..count], shape.wide);
+    Ends {
+        indices,
+        entries: count,
+    }
 }
 
 // The indices of block k of channel c behind the first `at` bytes, and its table behind them.
@@ -62,12 +130,9 @@ fn write_block(
         ++ flat_map (bytes_of (width_of shape.now.wide)) (seg.table (sizes_of shape.now) raw.now c k) }
 {
     let b = find_block(shape, c as usize, k);
-    let count = tabulate(raw, shape, c, k, &b, voxels, table);
-    let indices = put_places(out, at, voxels, &table[..count], find_bits(count));
-    put_values(out, indices, &table[..count], shape.wide);
-    Ends {
-        indices,
-        entries: count,
+    match find_one(raw, shape, c, k, &b) {
+        Some(value) => write_one(raw, shape, c, k, value, table, out, at),
+        None => write_many(raw, shape, c, k, &b, voxels, table, out, at),
     }
 }
 

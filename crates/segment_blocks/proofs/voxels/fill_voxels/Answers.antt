@@ -1,7 +1,7 @@
-use Rattle.std.proofs.Common.{arith, rules, ℕ, List, ◌≡◌, ◌+◌, ◌-◌, ◌*◌, ◌/◌, ◌<◌, ◌≤◌, ◌∙◌, ap, sym, subst, length, drop, slice_index, length-take, length-drop}
+use Rattle.std.proofs.Common.{arith, rules, ℕ, List, ◌≡◌, ◌+◌, ◌-◌, ◌*◌, ◌/◌, ◌%◌, ◌<◌, ◌≤◌, ◌∙◌, ap, sym, subst, length, drop, slice_index, length-take, length-drop}
 use Rattle.vol_spec.specs.SegBlocks.{block, width}
 use Rattle.vol_spec.specs.SegShapes.{sizes_of}
-use Rattle.segment_blocks.specs.Voxels.{voxel_of}
+use Rattle.segment_blocks.specs.Voxels.{row_of, voxel_of}
 use Rattle.segment_blocks.proofs.Blocks.{lies}
 use Rattle.segment_blocks.proofs.Shapes.{facts, limits}
 use Rattle.segment_blocks.proofs.VoxelSteps.{row_in, row_more, row_small, row_within, rows_all}
@@ -66,12 +66,17 @@ loop-r-preserved c =
     let old : List ℕ = c.loop-r.voxels in
     let new : List ℕ = c.fill_row.new.row in
     let ln : length new ≡ w = c.fill_row.auto.row ∙ omega (arith, e, c.loop-r.auto.voxels, length-take (r * w + w - r * w) (drop (r * w) old), length-drop (r * w) old) in
+    let b = c.args.b.now in
+    let here : c.find_row-from.result ≡ row_of b (r % b.block_y) (r / b.block_y) = c.find_row-from.ensures ∙ ap (λ q. row_of b q c.loop-r.line.z) c.loop-r.invariant.1 ∙ ap (λ q. row_of b (r % b.block_y) q) c.loop-r.invariant.2 in
     let all : (n : ℕ) → n < (r + 1) * block s 0 → slice_index (put_mid (r * block s 0) w old new) n ≡ voxel_of s c.args.raw.now c.args.c c.args.k c.args.padding n =
-    row_more s c.args.raw.now c.args.c c.args.k c.args.b.now c.args.padding r w c.find_row-from.result old new (limits c.args.shape.now) c.requires.is c.find_row-from.ensures (c.loop-r.auto.voxels ∙ c.requires.voxels)
+    row_more s c.args.raw.now c.args.c c.args.k c.args.b.now c.args.padding r w c.find_row-from.result old new (limits c.args.shape.now) c.requires.is here (c.loop-r.auto.voxels ∙ c.requires.voxels)
     (subst (λ q. r < q / block s 0) c.requires.voxels (subst (λ q. r < length c.args.voxels.now / q) ew c.loop-r-test.true)) ew ln
-    (λ n l. c.loop-r.invariant n (subst (λ q. n < r * q) (sym ew) l))
-    (λ x lx. c.fill_row.ensures x (omega (arith, ln, c.fill_row.auto.row))) in
-    λ n ln2. ap (λ q. slice_index (put_mid (r * w) q old new) n) m ∙ ap (λ q. slice_index (put_mid (r * q) w old new) n) ew ∙ all n (subst (λ q. n < (r + 1) * q) ew ln2)
+    (λ n l. c.loop-r.invariant.0 n (subst (λ q. n < r * q) (sym ew) l))
+    (λ x lx. c.fill_row.ensures x (omega (arith, ln, c.fill_row.auto.row))) in (
+      λ n ln2. ap (λ q. slice_index (put_mid (r * w) q old new) n) m ∙ ap (λ q. slice_index (put_mid (r * q) w old new) n) ew ∙ all n (subst (λ q. n < (r + 1) * q) ew ln2),
+      c.find_next-line.ensures.y,
+      c.find_next-line.ensures.z,
+    )
 
 pub returns : goal.returns
 returns c =
@@ -79,4 +84,4 @@ returns c =
     let ew : c.args.b.now.block_x ≡ block s 0 = c.requires.is.block_x in
     rows_all s c.args.raw.now c.args.c c.args.k c.args.padding c.loop-r.r c.loop-r.voxels (limits c.args.shape.now) (c.loop-r.auto.voxels ∙ c.requires.voxels)
     (subst (λ q. q / block s 0 ≤ c.loop-r.r) c.requires.voxels (subst (λ q. length c.args.voxels.now / q ≤ c.loop-r.r) ew c.loop-r-test.false))
-    (λ n l. c.loop-r.invariant n (subst (λ q. n < c.loop-r.r * q) (sym ew) l))
+    (λ n l. c.loop-r.invariant.0 n (subst (λ q. n < c.loop-r.r * q) (sym ew) l))

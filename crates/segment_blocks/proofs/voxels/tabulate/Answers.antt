@@ -60,8 +60,8 @@ returns-clause-places c =
     let is = returns-clause-table c in
     let some = table_some s c.args.raw.now c.args.c c.args.k (limits c.args.shape.now) c.requires.block pn in
     let head : slice_index c.find_table-count.new.values 0 ≡ slice_index (table s c.args.raw.now c.args.c c.args.k) 0 = front_first c.find_table-count.new.values c.find_table-count.result (subst (λ q. 0 < length q) (sym is) some) ∙ ap (λ q. slice_index q 0) is in
-    ap (λ q. map (place_in q) c.fill_voxels-2.new.voxels) is
-    ∙ places_are s c.args.raw.now c.args.c c.args.k (slice_index c.find_table-count.new.values 0) c.fill_voxels-2.new.voxels (limits c.args.shape.now) c.requires.block pn head c.fill_voxels-2.ensures
+    ap (λ q. map (place_in q) c.refill.new.voxels) is
+    ∙ places_are s c.args.raw.now c.args.c c.args.k (slice_index c.find_table-count.new.values 0) c.refill.new.voxels (limits c.args.shape.now) c.requires.block pn head c.refill.ensures
 
 pub returns-clause-there : goal.returns-clause-there
 returns-clause-there c =
@@ -70,5 +70,5 @@ returns-clause-there c =
     let is = returns-clause-table c in
     let some = table_some s c.args.raw.now c.args.c c.args.k (limits c.args.shape.now) c.requires.block pn in
     let head : slice_index c.find_table-count.new.values 0 ≡ slice_index (table s c.args.raw.now c.args.c c.args.k) 0 = front_first c.find_table-count.new.values c.find_table-count.result (subst (λ q. 0 < length q) (sym is) some) ∙ ap (λ q. slice_index q 0) is in
-    subst (λ q. (n : ℕ) → n < length c.fill_voxels-2.new.voxels → Contains q (slice_index c.fill_voxels-2.new.voxels n)) (sym is)
-    (voxels_there s c.args.raw.now c.args.c c.args.k (slice_index c.find_table-count.new.values 0) c.fill_voxels-2.new.voxels (limits c.args.shape.now) c.requires.block head c.fill_voxels-2.ensures)
+    subst (λ q. (n : ℕ) → n < length c.refill.new.voxels → Contains q (slice_index c.refill.new.voxels n)) (sym is)
+    (voxels_there s c.args.raw.now c.args.c c.args.k (slice_index c.find_table-count.new.values 0) c.refill.new.voxels (limits c.args.shape.now) c.requires.block head c.refill.ensures)
