@@ -4,18 +4,19 @@ use Rattle.std.specs.Prelude.{All, Contains, ⊤, filter, slice_index_or, replic
 use Rattle.std.specs.Vec.{with_items}
 use Rattle.std.proofs.lemmas.Bool.Decides.{nat_tests}
 use Rattle.std.proofs.lemmas.List.{length-map, take-append-le, take_at}
-use Rattle.std.proofs.lemmas.List.Elements.{All-contains_itself, All-weaker}
+use Rattle.std.proofs.lemmas.List.Elements.{All-contains, filter_passes}
 use Rattle.vol_base.specs.Outside.{Objects}
 use Rattle.vol_spec.specs.Copies.{AreOfOneVolume, copied_cells, copied_raw}
 use Rattle.vol_spec.specs.Encodings.{raw_size}
 use Rattle.vol_spec.specs.Grid.{IsCell, cells_on, numbers_on}
 use Rattle.vol_spec.specs.StoredCells.{AreInOrder, cell_of}
-use Rattle.vol_spec.specs.StoredLists.{in_key_order}
+use Rattle.vol_spec.specs.StoredLists.{cell_key, in_key_order}
 use Rattle.vol_spec.specs.declared.scale.Scale.{Scale}
 use Rattle.chunk_grid.proofs.GridSteps.{cell_box-short}
-use Rattle.chunk_grid.proofs.OrderSteps.{cells_in_order}
+use Rattle.chunk_grid.proofs.ListingSteps.{Contains-filter, Contains-numbers_on}
+use Rattle.chunk_grid.proofs.OrderSteps.{AreInOrder-filter, AreInOrder-numbers_on}
 use Rattle.chunk_laws.specs.Told.{is_listed}
-use Rattle.write_plan.proofs.KeySteps.{cells_back, distinct_cells, from_key_order, length-in_key_order, to_key_order}
+use Rattle.write_plan.proofs.KeySteps.{cells_back, distinct_cells, from_key_order, in_order-alike, key_known, length-in_key_order, to_key_order}
 use Rattle.write_plan.specs.Jobs.{Prepares, cells_in, job_of, jobs_fault, jobs_of, window_of}
 use Rattle.write_plan.specs.declared.jobs.Job.{Job}
 use Rattle.write_plan.specs.declared.chunks.PrepareFault.{PrepareFault}
@@ -24,16 +25,25 @@ use Rattle.copier.specs.Held.{AreFilled, AreRead, Held, Holds, IsHeld, ReadsJobs
 use Rattle.copier.specs.HeldLaws.{held_jobs, length-front}
 use Rattle.copier.proofs.MarkSteps.{listed_at, listed_from}
 
+-- the same cells in the order of their keys
+same_cells : (s : Scale) (xs ys : List (List ℕ)) → ((c : List ℕ) → Contains xs c → Contains ys c) → ((c : List ℕ) → Contains ys c → Contains xs c)
+    → ((c d : List ℕ) → Contains xs c → Contains xs d → cell_key s c ≡ cell_key s d → c ≡ d) → in_key_order s xs ≡ in_key_order s ys
+unfolding in_key_order
+same_cells s xs ys to back known = ap (map (λ (e : List ℕ × List ℕ). e.1)) (in_order-alike s (λ c. c) xs ys to back known)
+
 -- the jobs of cells in the order of their keys are those that a copier of these jobs has
-pub held_cells : (to : Scale) (cells : List (List ℕ)) (jobs : List Job) → AreInOrder to cells → jobs ≡ jobs_of to (in_key_order to cells)
+pub held_cells : (to : Scale) (cells : List (List ℕ)) (jobs : List Job) → All (IsCell to) cells → jobs ≡ jobs_of to (in_key_order to cells)
     → in_key_order to (filter (is_listed (cells_in jobs)) (numbers_on (cells_on to))) ≡ in_key_order to cells
-held_cells to cells jobs order is =
+held_cells to cells jobs each is =
     let keyed : List (List ℕ) = in_key_order to cells in
     let here : cells_in jobs ≡ keyed = ap cells_in is ∙ cells_back to keyed in
+    let listed : List (List ℕ) = filter (is_listed keyed) (numbers_on (cells_on to)) in
+    let all : All (IsCell to) listed = (AreInOrder-filter to (is_listed keyed) (numbers_on (cells_on to)) (AreInOrder-numbers_on to)).each in
     ap (λ ks. in_key_order to (filter (is_listed ks) (numbers_on (cells_on to)))) here
-    ∙ ap (in_key_order to) (sym (cells_in_order to (is_listed keyed) cells order
-    (All-weaker (Contains cells) (λ cell. is_listed keyed cell ≡ true) (λ cell c. listed_at keyed cell (to_key_order to cells cell order.each c)) cells (All-contains_itself cells))
-    (λ cell in_grid e. from_key_order to cells cell (listed_from keyed cell e))))
+    ∙ same_cells to listed cells
+    (λ cell c. from_key_order to cells cell (listed_from keyed cell (All-contains (λ cell. is_listed keyed cell ≡ true) listed cell (filter_passes (is_listed keyed) (numbers_on (cells_on to))) c)))
+    (λ cell c. Contains-filter (is_listed keyed) (numbers_on (cells_on to)) cell (Contains-numbers_on to cell (All-contains (IsCell to) cells cell each c)) (listed_at keyed cell (to_key_order to cells cell each c)))
+    (λ a b ca cb. key_known to a b (All-contains (IsCell to) listed a all ca) (All-contains (IsCell to) listed b all cb))
 
 pub held_of : (h : Held) (jobs : List Job) → jobs ≡ jobs_of h.to (cells_of h) → cells_in jobs ≡ cells_of h
 held_of h jobs is = ap cells_in is ∙ cells_back h.to (cells_of h)
@@ -45,11 +55,11 @@ pub all_cells : (h : Held) (jobs : List Job) → jobs ≡ jobs_of h.to (cells_of
 all_cells h jobs is = subst (All (IsCell h.to)) (sym (held_of h jobs is)) (held_jobs h).each
 
 -- a copier that is new: of the jobs of these cells, none of which is prepared
-pub held_new : (dataset : List ℕ) (from to : Scale) (cells : List (List ℕ)) (jobs : List Job) (frames : List (Vec ℕ Global)) → AreOfOneVolume from to → AreInOrder to cells → jobs ≡ jobs_of to (in_key_order to cells)
+pub held_new : (dataset : List ℕ) (from to : Scale) (cells : List (List ℕ)) (jobs : List Job) (frames : List (Vec ℕ Global)) → AreOfOneVolume from to → All (IsCell to) cells → jobs ≡ jobs_of to (in_key_order to cells)
     → length frames ≡ min (window_of to) (length jobs) → All (Holds to) frames
     → IsHeld (holding dataset from to jobs 0 0 frames) jobs frames
-held_new dataset from to cells jobs frames volume order is count each =
-    let same = held_cells to cells jobs order is in
+held_new dataset from to cells jobs frames volume inside is count each =
+    let same = held_cells to cells jobs inside is in
     let len : length jobs ≡ length (in_key_order to cells) = ap length is ∙ length-map (in_key_order to cells) (job_of to) in
     let all : length (map (λ (f : Vec ℕ Global). f.items) frames) ≡ length frames = length-map frames (λ (f : Vec ℕ Global). f.items) in
     let held : length (in_key_order to (filter (is_listed (cells_in jobs)) (numbers_on (cells_on to)))) ≡ length (in_key_order to cells) = ap length same in
@@ -65,14 +75,14 @@ held_new dataset from to cells jobs frames volume order is count each =
 pub held_few : (to : Scale) (cells : List (List ℕ)) (jobs : List Job) → AreInOrder to cells → jobs ≡ jobs_of to (in_key_order to cells) → length cells ≤ 2 ^ 22
     → length (in_key_order to (filter (is_listed (cells_in jobs)) (numbers_on (cells_on to)))) ≤ 2 ^ 22
 held_few to cells jobs order is few =
-    let same = ap length (held_cells to cells jobs order is) in
+    let same = ap length (held_cells to cells jobs order.each is) in
     let len = length-in_key_order to cells order.each (distinct_cells to cells order) in
     omega (arith, same, len, few)
 
 pub held_told : (o : Option Objects) (dataset : List ℕ) (from to : Scale) (cells : List (List ℕ)) (jobs : List Job) → AreInOrder to cells → jobs ≡ jobs_of to (in_key_order to cells)
     → IfSome o (λ m. cells ≡ copied_cells m dataset from to) → IfSome o (λ m. in_key_order to (filter (is_listed (cells_in jobs)) (numbers_on (cells_on to))) ≡ in_key_order to (copied_cells m dataset from to))
 held_told None dataset from to cells jobs order is h = tt
-held_told (Some m) dataset from to cells jobs order is h = held_cells to cells jobs order is ∙ ap (in_key_order to) h
+held_told (Some m) dataset from to cells jobs order is h = held_cells to cells jobs order.each is ∙ ap (in_key_order to) h
 
 -- what reading jobs answers is what preparing them answers
 by_cells : (r : Result ⊤ PrepareFault) (m : Objects) (h : Held) (first count : ℕ) (frames : List (List ℕ)) → ReadsJobs r m h.dataset h.from h.to (cells_of h) first count frames

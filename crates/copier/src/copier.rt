@@ -1,8 +1,9 @@
 //! The copier.
-ghost use Rattle.std.specs.Prelude.{◌≡◌, ◌≤◌, ◌^◌, All, length, IfOk, IfSome};
+ghost use Rattle.std.specs.Prelude.{◌≡◌, ◌≢◌, ◌≤◌, ◌^◌, All, AllPairs, length, IfOk, IfSome};
 ghost use Rattle.vol_base.specs.Causes.{HasStoreCause};
 ghost use Rattle.vol_base.specs.Outside.{OnlyReads};
 ghost use Rattle.vol_spec.specs.Copies.{AreOfOneVolume, copied_cells};
+ghost use Rattle.vol_spec.specs.Grid.{IsCell};
 ghost use Rattle.vol_spec.specs.StoredLists.{in_key_order};
 ghost use Rattle.write_plan.specs.Pairs.{cell_count};
 ghost use Rattle.copier.specs.Held.{Holds, cells_of};
@@ -12,7 +13,7 @@ use crate::reading::read_jobs;
 use cutout::Reader;
 use std::alloc::{AllocError, Global};
 use std::marker::Model;
-use vol_base::{Name, Store, StoreRefusal};
+use vol_base::{Name, OutOfMemory, Store, StoreRefusal};
 use vol_spec::Scale;
 use write_plan::{Chunks, JobList, PrepareFault, window};
 
@@ -95,6 +96,46 @@ impl Copier {
         };
         let Ok(frames) = reserve_frames(alloc, to, window(to).min(jobs.len())) else {
             return Err(StoreRefusal::OutOfMemory);
+        };
+        Ok(Copier {
+            reader,
+            to: to.duplicate(),
+            jobs,
+            first: 0,
+            count: 0,
+            frames,
+        })
+    }
+
+    /// A copier of a scale of a data set into another scale of the same volume, with a job for each of some
+    /// distinct cells of it. All the memory that it needs is taken here, as by `of`.
+    ///
+    /// # Errors
+    /// `OutOfMemory`.
+    pub fn of_cells(
+        alloc: Global,
+        dataset: &Name,
+        from: &Scale,
+        to: &Scale,
+        cells: Vec<[u64; 3]>,
+    ) -> Result<Copier, OutOfMemory>
+        requires dataset { length dataset.now ≤ 200 }
+        requires volume { AreOfOneVolume from.now to.now }
+        requires each { All (IsCell to.now) cells.items }
+        requires distinct { AllPairs (λ a b. a ≢ b) cells.items }
+        ensures dataset { IfOk result (λ copier. copier.dataset ≡ dataset.now) }
+        ensures from { IfOk result (λ copier. copier.from ≡ from.now) }
+        ensures to { IfOk result (λ copier. copier.to ≡ to.now) }
+        ensures jobs { IfOk result (λ copier. cells_of copier ≡ in_key_order to.now cells.items) }
+    {
+        let Ok(reader) = Reader::open(alloc, dataset, from) else {
+            return Err(OutOfMemory);
+        };
+        let Ok(jobs) = JobList::of(alloc, to, cells) else {
+            return Err(OutOfMemory);
+        };
+        let Ok(frames) = reserve_frames(alloc, to, jobs.len().min(window(to))) else {
+            return Err(OutOfMemory);
         };
         Ok(Copier {
             reader,

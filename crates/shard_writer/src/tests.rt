@@ -4,6 +4,7 @@ ghost use Rattle.std.specs.Prelude.{◌≡◌, ◌≤◌, IfOk, length};
 
 use crate::{WriteFault, Written, write_scale};
 use chunk_grid::grid;
+use holding_gate::HoldingGate;
 use small_scales::{raw_scale, short_name};
 use std::alloc::{AllocError, Global};
 use std::process::Abort;
@@ -11,7 +12,7 @@ use std::sync::Wait;
 use std::test::Fail;
 use std::thread::Threads;
 use vol_base::{Box3, FreeGate, MemoryFeed, MemoryStore, Name};
-use vol_spec::{Encoding, HashKind, Scale, Sharding};
+use vol_spec::{ChunkSizes, Encoding, HashKind, Scale, Sharding};
 use write_plan::{Chunks, Plan, read_writes};
 
 // The stream of some writes.
@@ -219,6 +220,7 @@ fn in_shards(rt: &impl Abort, scale: &Scale, minishard_bits: u32, shard_bits: u3
             minishard_bits,
             shard_bits,
         }),
+        more: ChunkSizes::none(),
     }
 }
 
@@ -404,6 +406,7 @@ fn in_blocks(key: Name) -> Scale
         chunk: [2, 2, 1],
         encoding: Encoding::Seg { block: [2, 2, 1] },
         sharding: None,
+        more: ChunkSizes::none(),
     }
 }
 
@@ -469,6 +472,7 @@ fn in_single_blocks(key: Name) -> Scale
         chunk: [1, 1, 1],
         encoding: Encoding::Seg { block: [1, 1, 1] },
         sharding: None,
+        more: ChunkSizes::none(),
     }
 }
 
@@ -508,4 +512,44 @@ fn writes_segmentations_over_windows(rt: HostRuntime) -> Result<(), Fail> {
         bytes: 12_016,
     });
     check_scale(&rt, alloc, &single, &[all], 900, wanted, &one, 1)
+}
+
+// Both moments of a job were told with one seat, and its object has this value.
+fn check_job(
+    rt: &impl Abort,
+    gate: &HoldingGate,
+    store: &MemoryStore,
+    job: u64,
+    text: &[u8],
+    value: u8,
+) {
+    let seat = gate.claimed(job).expect(rt, "a claim");
+    assert!(rt; gate.deposited(job) == Some(seat));
+    let name = short_name(text).expect(rt, "a name");
+    assert!(rt; store.get(&name) == Some([value].as_slice()));
+}
+
+// While one seat is held with job 0, another deposits job 1; and the objects are those of one worker.
+#[test]
+fn two_workers(rt: HostRuntime) -> Result<(), Fail> {
+    let alloc = rt.alloc();
+    let key = short_name(b"s").expect(&rt, "a key");
+    let scale = raw_scale(key, 1, 1, [3, 1, 1], [0; 3], [1; 3]).expect(&rt, "a scale");
+    let all = (part([0; 3], [3, 1, 1]), [1, 2, 3].as_slice());
+    let mut plan = plan_of(alloc, &scale, &[all])?;
+    let mut store = MemoryStore::new(alloc, Vec::new(alloc));
+    let dataset = short_name(b"d").expect(&rt, "a data set");
+    assert!(rt; plan.jobs().len() <= 1 << 22);
+    assert!(rt; scale.can_encode());
+    let gate = HoldingGate::new();
+    let answer = write_scale(
+        &rt, alloc, &mut store, &dataset, &scale, &mut plan, 2, &gate,
+    );
+    assert_eq!(rt; answer, Ok(written(3, 3)));
+    assert!(rt; gate.was_passed());
+    assert!(rt; gate.claimed(0) != gate.claimed(1));
+    check_job(&rt, &gate, &store, 0, b"d/s/0-1_0-1_0-1", 1);
+    check_job(&rt, &gate, &store, 1, b"d/s/1-2_0-1_0-1", 2);
+    check_job(&rt, &gate, &store, 2, b"d/s/2-3_0-1_0-1", 3);
+    Ok(())
 }

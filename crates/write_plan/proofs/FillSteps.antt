@@ -9,8 +9,8 @@ use Rattle.vol_base.specs.declared.boxes.Box3.{Box3}
 use Rattle.vol_base.specs.Boxes.{num, value, IsSome, Within}
 use Rattle.vol_base.specs.Bytes.{AreBytes}
 use Rattle.vol_spec.specs.Grid.{cell_box, meets}
-use Rattle.vol_spec.specs.LastWrite.{covers, last, zeros}
-use Rattle.vol_spec.specs.Raw.{digit, number, raw_len}
+use Rattle.vol_spec.specs.LastWrite.{Before, covers, last, zeros}
+use Rattle.vol_spec.specs.Raw.{digit, number, raw_at, raw_len}
 use Rattle.vol_spec.specs.StoredCells.{written_raw}
 use Rattle.vol_spec.specs.declared.scale.Scale.{Scale}
 use Rattle.vol_spec.proofs.RawSteps.{is_written_raw, last-more}
@@ -38,13 +38,13 @@ chosen : (t : Bool) (a b x : ℕ) → (t ≡ true → x ≡ a) → (t ≡ false 
 chosen true a b x f g = f refl
 chosen false a b x f g = g refl
 
-pub shows_more : (cell : Box3) (channels width : ℕ) (ws : List BoxWrite) (w : BoxWrite) (old new : List ℕ) → Shows cell channels width ws old → Applied w cell channels width old new
-    → Shows cell channels width (ws ++ w ∷ []) new
-shows_more cell channels width ws w old new was h p c cov lc =
-    chosen (covers w.0 p) (digit w.1 width (num w.0 p c)) (last width zeros ws p c) (digit new width (num cell p c))
+pub shows_more : (cell : Box3) (channels width : ℕ) (before : Before) (ws : List BoxWrite) (w : BoxWrite) (old new : List ℕ) → Shows cell channels width before ws old → Applied w cell channels width old new
+    → Shows cell channels width before (ws ++ w ∷ []) new
+shows_more cell channels width before ws w old new was h p c cov lc =
+    chosen (covers w.0 p) (digit w.1 width (num w.0 p c)) (last width before ws p c) (digit new width (num cell p c))
     (λ t. h.taken p c cov (Covers-from w.0 p t) lc)
     (λ t. h.kept p c cov (λ in_write. let e = covers-true w.0 p in_write in cc (t, e)) lc ∙ was p c cov lc)
-    ∙ sym (last-more width zeros ws w p c)
+    ∙ sym (last-more width before ws w p c)
 
 pub run_more : (ws : List Write) (run : List Pair) (i : ℕ) (none : Pair) (w : Write) (d : BoxWrite) → i < length run → (get_or run i none).write < length ws → w ≡ get_or ws (get_or run i none).write w
     → writes_of_run (writes_in ws) d (take (i + 1) run) ≡ writes_of_run (writes_in ws) d (take i run) ++ write_in w ∷ []
@@ -66,15 +66,18 @@ zero_part raw w k i h =
     (λ (ge : w ≤ i). grind (arith, common_steps))
     (cases_lt i w)
 
-pub shows_none : (cell : Box3) (channels width : ℕ) (raw : List ℕ) → All (λ byte. byte ≡ 0) raw → Shows cell channels width [] raw
-shows_none cell channels width raw h p c cov lc = number-zero (value width raw (num cell p c)) (λ i. zero_part raw width (width * num cell p c) i h)
+pub cleared_zeros : (b : Box3) (width : ℕ) (raw : List ℕ) → All (λ byte. byte ≡ 0) raw → raw_at b width raw ≡ zeros
+cleared_zeros b width raw h = λ k p c. number-zero (value width raw (num b p c)) (λ i. zero_part raw width (width * num b p c) i h) k
+
+pub over_cleared : (s : Scale) (ws : List BoxWrite) (cell raw out : List ℕ) → All (λ byte. byte ≡ 0) raw → out ≡ written_raw s (raw_at (cell_box s cell) s.width raw) ws cell → out ≡ written_raw s zeros ws cell
+over_cleared s ws cell raw out h e = e ∙ ap (λ before. written_raw s before ws cell) (cleared_zeros (cell_box s cell) s.width raw h)
 
 -- what shows the writes that meet a cell is what all of them give it
-pub written_is : (s : Scale) (ws : List BoxWrite) (cell : List ℕ) (run : List BoxWrite) (out : List ℕ) → IsSome (cell_box s cell) → run ≡ filter (λ w. meets s w.0 cell) ws
-    → length out ≡ raw_len (cell_box s cell) s.channels s.width → AreBytes out → Shows (cell_box s cell) s.channels s.width run out → out ≡ written_raw s zeros ws cell
-written_is s ws cell run out some is len small shows =
-    is_written_raw s zeros ws cell out some len small
-    (λ p c cov lc. shows p c cov lc ∙ ap (λ vs. last s.width zeros vs p c) is ∙ last-met s zeros ws cell p c cov)
+pub written_is : (s : Scale) (before : Before) (ws : List BoxWrite) (cell : List ℕ) (run : List BoxWrite) (out : List ℕ) → IsSome (cell_box s cell) → run ≡ filter (λ w. meets s w.0 cell) ws
+    → length out ≡ raw_len (cell_box s cell) s.channels s.width → AreBytes out → Shows (cell_box s cell) s.channels s.width before run out → out ≡ written_raw s before ws cell
+written_is s before ws cell run out some is len small shows =
+    is_written_raw s before ws cell out some len small
+    (λ p c cov lc. shows p c cov lc ∙ ap (λ vs. last s.width before vs p c) is ∙ last-met s before ws cell p c cov)
 
 -- the cell's own bytes are all there are
 pub fits_values : (s : Scale) (ws : List BoxWrite) → All (IsWriteOf s) ws → total ws ≤ 2 ^ 30 → All (λ w. HoldsValues w.0 s.channels s.width (length w.1)) ws
@@ -98,5 +101,5 @@ holds_write ws i w channels width h l is =
     let long : i < length (writes_in ws) = omega (arith, l, length-map ws write_in) in
     subst (λ (v : BoxWrite). HoldsValues v.0 channels width (length v.1)) (get_or-map write_in ws i w (write_in w) l ∙ ap write_in (sym is)) (h i (write_in w) long)
 
-pub shows_along : (a b : Box3) (channels width : ℕ) (ws : List BoxWrite) (raw : List ℕ) → a ≡ b → Shows a channels width ws raw → Shows b channels width ws raw
-shows_along a b channels width ws raw e h = subst (λ (x : Box3). Shows x channels width ws raw) e h
+pub shows_along : (a b : Box3) (channels width : ℕ) (old : List ℕ) (ws : List BoxWrite) (raw : List ℕ) → a ≡ b → Shows a channels width (raw_at a width old) ws raw → Shows b channels width (raw_at b width old) ws raw
+shows_along a b channels width old ws raw e h = subst (λ (x : Box3). Shows x channels width (raw_at x width old) ws raw) e h

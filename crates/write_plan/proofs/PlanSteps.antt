@@ -1,6 +1,6 @@
 -- The jobs of a plan are the cells that its writes meet.
 use Rattle.std.proofs.Common.{◌≡◌, ℕ, ◌-◌, ◌^◌, ◌<◌, ◌≤◌, min, Some, None, IsSomeAnd, nat_lt, List, [], ◌∷◌, length, map, get_or, Bool, true, false, cond, refl, sym, ap, ◌∙◌, subst, arith}
-use Rattle.std.specs.Prelude.{◌==◌, ◌||◌, All, Contains, filter, if◌then◌else◌, slice_index_or}
+use Rattle.std.specs.Prelude.{not, ◌==◌, ◌||◌, All, Contains, filter, if◌then◌else◌, slice_index_or}
 use Rattle.std.specs.List.{list_any}
 use Rattle.std.proofs.lemmas.Bool.Decides.{nat_tests}
 use Rattle.std.proofs.lemmas.List.{get_or-map, length-map}
@@ -55,6 +55,25 @@ run_len s ws ps cell h is =
     let none : Box3 = record { begin = []; size = [] } in
     let d : BoxWrite = (none, []) in
     sym (length-map (run_of ps (cell_number s cell)) (λ (pair : Pair). slice_index_or ws pair.write d)) ∙ ap length (h.runs cell d is)
+
+-- some write meets a cell exactly where its run isn't empty
+pub met_by_run : (s : Scale) (ws : List BoxWrite) (ps run : List Pair) (cell : List ℕ) (empty : Bool) → ArePairs s ws ps → IsCell s cell → run ≡ run_of ps (cell_number s cell) → empty ≡ (length run == 0) → not empty ≡ met s ws cell
+met_by_run s ws ps run cell empty h is own e = by empty e (met s ws cell) refl
+  where
+    long : length run ≡ length (filter (λ (w : BoxWrite). meets s w.0 cell) ws)
+    long = ap length own ∙ run_len s ws ps cell h is
+
+    by : (b : Bool) → b ≡ (length run == 0) → (m : Bool) → met s ws cell ≡ m → not b ≡ m
+    by true e true f =
+        let some = any_kept (λ (w : BoxWrite). meets s w.0 cell) ws f in
+        let few : length run ≡ 0 = grind (arith, nat_tests) in
+        absurd (omega (arith, some, few, long))
+    by true e false f = refl
+    by false e true f = refl
+    by false e false f =
+        let some : 0 < length run = grind (arith, nat_tests) in
+        let any = kept_any (λ (w : BoxWrite). meets s w.0 cell) ws (omega (arith, some, long)) in
+        absurd (cc (sym f ∙ any))
 
 -- a cell has a pair exactly where some write meets it
 numbered_met : (s : Scale) (ws : List BoxWrite) (ps : List Pair) (cell : List ℕ) → ArePairs s ws ps → IsCell s cell → Contains (map (λ (pair : Pair). pair.number) ps) (cell_number s cell) → met s ws cell ≡ true

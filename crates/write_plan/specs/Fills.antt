@@ -2,7 +2,7 @@
 use Rattle.std.specs.Prelude.{◌≡◌, ℕ, ◌<◌, ◌≤◌, ◌^◌, ℤ, List}
 use Rattle.vol_base.specs.declared.boxes.Box3.{Box3}
 use Rattle.vol_base.specs.Boxes.{Covers, num}
-use Rattle.vol_spec.specs.LastWrite.{last, zeros}
+use Rattle.vol_spec.specs.LastWrite.{Before, last}
 use Rattle.vol_spec.specs.Raw.{digit, raw_len}
 use Rattle.write_plan.specs.WriteLists.{BoxWrite}
 
@@ -13,10 +13,10 @@ pub record Applied (w : BoxWrite) (cell : Box3) (channels width : ℕ) (old new 
   pub kept : (p : List ℤ) (c : ℕ) → Covers cell p → (Covers w.0 p → ⊥) → c < channels →
       digit new width (num cell p c) ≡ digit old width (num cell p c)
 
--- each value of a cell is that of the last of some writes that covers the voxel, else 0
-abbrev pub Shows : Box3 → ℕ → ℕ → List BoxWrite → List ℕ → Type 0
-Shows cell channels width writes raw = (p : List ℤ) (c : ℕ) → Covers cell p → c < channels →
-    digit raw width (num cell p c) ≡ last width zeros writes p c
+-- each value of a cell is that of the last of some writes that covers the voxel, else the one before
+abbrev pub Shows : Box3 → ℕ → ℕ → Before → List BoxWrite → List ℕ → Type 0
+Shows cell channels width before writes raw = (p : List ℤ) (c : ℕ) → Covers cell p → c < channels →
+    digit raw width (num cell p c) ≡ last width before writes p c
 
 -- the bytes of a box's values, at most 2^30
 pub record HoldsValues (b : Box3) (channels width n : ℕ) : Type 0 where

@@ -1,11 +1,15 @@
 //! Plans of overlapping writes.
-ghost use Rattle.std.specs.Prelude.{◌≡◌, ◌<◌, ◌^◌, ◌↔◌, ℕ, Err, All, IfOk};
+ghost use Rattle.std.specs.Prelude.{◌≡◌, ◌<◌, ◌^◌, ◌↔◌, ℕ, Err, All, IfOk, length};
+ghost use Rattle.vol_spec.specs.Encodings.{raw_size};
+ghost use Rattle.vol_spec.specs.Grid.{IsCell, cell_box};
+ghost use Rattle.vol_spec.specs.Raw.{raw_at};
+ghost use Rattle.vol_spec.specs.StoredCells.{met, written_raw};
 ghost use Rattle.vol_spec.specs.declared.scale.Scale.{Scale};
 ghost use Rattle.write_plan.specs.Plans.{pairs as count_of};
 ghost use Rattle.write_plan.specs.WriteLists.{IsWriteOf};
 
 use crate::chunks::{Chunks, PrepareFault};
-use crate::fills::fill_cell;
+use crate::fills::{fill_cell, is_met, overlay_cell};
 use crate::jobs::JobList;
 use crate::pairs::{Pair, count_pairs, find_cells, find_pairs};
 use crate::writes::Writes;
@@ -71,6 +75,32 @@ impl Plan {
             jobs,
             pairs,
         })
+    }
+
+    /// Puts the writes over the bytes of a cell's values: each voxel and channel that a write covers gets the
+    /// value of the last one, and the others stay. It takes no memory.
+    pub fn overlay(&self, cell: [u64; 3], raw: &mut [u8])
+        requires cell { IsCell self.now.scale cell }
+        requires len { length raw.old ≡ raw_size self.now.scale cell }
+        ensures { raw.new ≡ written_raw self.now.scale
+            (raw_at (cell_box self.now.scale cell) self.now.scale.width raw.old) self.now.writes cell }
+    {
+        overlay_cell(&self.scale, self.writes.list(), &self.pairs, cell, raw);
+    }
+
+    /// The writes, handed back.
+    pub fn into_writes(self) -> Writes
+        ensures { result ≡ self.writes }
+    {
+        self.writes
+    }
+
+    /// Whether some write meets a cell.
+    pub fn meets(&self, cell: [u64; 3]) -> bool
+        requires { IsCell self.now.scale cell }
+        ensures { result ≡ met self.now.scale self.now.writes cell }
+    {
+        is_met(&self.scale, &self.pairs, cell)
     }
 }
 

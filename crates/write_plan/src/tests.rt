@@ -10,7 +10,7 @@ use std::alloc::{AllocError, Global};
 use std::process::Abort;
 use std::test::Fail;
 use vol_base::{Box3, MemoryFeed, MemoryStore};
-use vol_spec::{HashKind, Scale, ShardPlace, Sharding};
+use vol_spec::{ChunkSizes, HashKind, Scale, ShardPlace, Sharding};
 
 // One write of the bytes 1 to 4 to the box [0:2,0:2,0:1].
 const STREAM: [u8; 60] = [
@@ -295,6 +295,7 @@ fn in_shards(rt: &impl Abort, scale: &Scale) -> Scale {
             minishard_bits: 1,
             shard_bits: 1,
         }),
+        more: ChunkSizes::none(),
     }
 }
 

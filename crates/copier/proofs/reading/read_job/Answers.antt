@@ -19,6 +19,9 @@ returns-in-Err-Damaged-clause-read g c =
     job_damaged (g.S.Source.objects c.args.store.now) c.args.reader.now.dataset c.args.reader.now.scale c.args.to.now c.args.cell c.in-Err-Damaged.cell c.cutout.new.out c.cell_box-part.result c.in-Err-Damaged.field-0
     c.in-Err-Damaged.fault c.cell_box-part.ensures.positions c.in-Err-Damaged.field-0-is c.in-Err-Damaged.ensures.cut
 
+pub returns-in-Ok-clause-cause : goal.returns-in-Ok-clause-cause
+returns-in-Ok-clause-cause g c = record { later = c.cutout.ensures.later; failed = λ told. absurd (cc told) }
+
 pub returns-in-Err-StoreFault-clause-cause : goal.returns-in-Err-StoreFault-clause-cause
 returns-in-Err-StoreFault-clause-cause g c = record {
   later = c.cutout.ensures.later;

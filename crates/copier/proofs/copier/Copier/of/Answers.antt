@@ -27,7 +27,7 @@ invariant_of-result g c =
     subst (λ (r : Opened). IsHeld (holding r.dataset r.scale c.duplicate.result c.in-Ok-of.jobs 0 0 frames) c.in-Ok-of.jobs frames) (sym c.find_copied.ensures.same)
     (subst (λ (s : Scale). IsHeld (holding c.in-Ok.reader.dataset c.in-Ok.reader.scale s c.in-Ok-of.jobs 0 0 frames) c.in-Ok-of.jobs frames) (sym c.duplicate.ensures)
     (held_new c.in-Ok.reader.dataset c.in-Ok.reader.scale c.args.to.now c.in-Ok-find_copied.cells.items c.in-Ok-of.jobs frames
-    (subst (λ s. AreOfOneVolume s c.args.to.now) (sym c.in-Ok.ensures.scale) c.requires.volume) c.in-Ok-find_copied.ensures.order c.in-Ok-of.ensures.jobs
+    (subst (λ s. AreOfOneVolume s c.args.to.now) (sym c.in-Ok.ensures.scale) c.requires.volume) c.in-Ok-find_copied.ensures.order.each c.in-Ok-of.ensures.jobs
     (omega (arith, c.in-Ok-reserve_frames.ensures.count, c.min.ensures, c.window.ensures, c.len.ensures)) c.in-Ok-reserve_frames.ensures.each))
 
 pub returns-clause-few : goal.returns-clause-few
@@ -41,3 +41,6 @@ returns-clause-jobs g c =
     (sym c.duplicate.ensures)
     (held_told (g.S.Source.objects c.args.store.now) c.args.dataset.now c.args.from.now c.args.to.now c.in-Ok-find_copied.cells.items c.in-Ok-of.jobs c.in-Ok-find_copied.ensures.order c.in-Ok-of.ensures.jobs
     (subst (λ name. IfSome (g.S.Source.objects c.args.store.now) (λ m. c.in-Ok-find_copied.cells.items ≡ copied_cells m name c.args.from.now c.args.to.now)) c.in-Ok.ensures.dataset c.in-Ok-find_copied.ensures.copied))
+
+pub returns-clause-cause : goal.returns-clause-cause
+returns-clause-cause g c = record { later = c.find_copied.ensures.cause.later; failed = λ told. absurd (cc told) }

@@ -1,0 +1,145 @@
+//! A round.
+ghost use Rattle.std.specs.Prelude.{◌≡◌, ◌≢◌, ◌<◌, ◌≤◌, ◌+◌, ◌++◌, ◌∷◌, [], ℕ, All, length, Some, None, IfSome, IfNone, IsSomeAnd, slice_get, slice_index_or, vec_capacity};
+ghost use Rattle.job_log.specs.Replay.{IsFinished, claim_of, claims_in, deposit_of, out_at, stage_in};
+ghost use Rattle.encode_round.specs.Held.{HasBytes, HasLen, used_of};
+
+use crate::names::Wanted;
+use chunk_pool::Frame;
+use job_log::{Event, Host, JobLog, Seat, Stage};
+use std::marker::{Model, PhantomData};
+use std::mem;
+
+/// A job that a seat has out, with its frame.
+#[derive(Drop)]
+pub struct Work<N: Wanted> {
+    pub job: u64,
+    pub frame: Frame,
+    pub(crate) of: PhantomData<N>,
+}
+
+/// Jobs with a frame each, of which seats claim one after the other, and deposit it with its bytes. It is seen as its log.
+#[derive(Drop)]
+pub struct Round<N: Wanted> {
+    jobs: JobLog<N>,
+    frames: Vec<Option<Frame>>,
+}
+
+impl<N: Wanted> Model for Round<N> {
+    ghost use Rattle.std.specs.Prelude.{List};
+    ghost use Rattle.job_log.specs.declared.stages.Event.{Event};
+    ghost use Rattle.encode_round.specs.Held.{IsRound};
+
+    ghost Value = { List Event };
+
+    ghost view = { λ r. r.jobs };
+
+    ghost invariant = { λ r. IsRound N.jobs N.room N.wanted N.frame_len r.jobs r.frames.items };
+}
+
+impl<N: Wanted> Round<N> {
+    /// Hands out the next job with its frame, or nothing where each was claimed.
+    pub fn claim(&mut self, seat: &mut Seat<N>) -> Option<Work<N>>
+        requires { seat.old.job ≡ None }
+        ensures number { seat.new.number ≡ seat.old.number }
+        ensures none { IfNone result ((self.new ≡ self.old) × (seat.new.job ≡ None)
+            × (claims_in self.old ≡ length N.wanted)) }
+        ensures some { IfSome result (λ w. (self.new ≡ self.old ++ claim_of seat.old.number w.job ∷ [])
+            × (seat.new.job ≡ Some w.job) × (w.job < length N.wanted)) }
+        ensures frame { IfSome result (λ w. length w.frame.bytes ≡ N.frame_len) }
+        ensures which { IfSome result (λ w. w.job ≡ claims_in self.old) }
+        ensures out { IfSome result (λ w. stage_in (length N.wanted) self.new w.job ≡ out_at seat.old.number) }
+    {
+        let Round { jobs, frames } = self;
+        let Some(job) = jobs.claim(seat) else {
+            return None;
+        };
+        let lent = mem::replace(&mut frames[job as usize], None);
+        let Some(frame) = lent else { unreachable!() };
+        Some(Work {
+            job,
+            frame,
+            of: PhantomData,
+        })
+    }
+
+    /// Takes a job's frame with its bytes. The work comes back exactly where the job is not out at this seat.
+    pub fn deposit(&mut self, seat: &mut Seat<N>, work: Work<N>) -> Option<Work<N>>
+        requires mine { seat.old.job ≡ Some work.job }
+        requires length { length work.frame.bytes ≡ N.frame_len }
+        requires wanted { slice_get N.wanted work.job ≡ Some (used_of work.frame) }
+        ensures number { seat.new.number ≡ seat.old.number }
+        ensures taken { IfNone result ((self.new ≡ self.old ++ deposit_of seat.old.number work.job ∷ [])
+            × (seat.new.job ≡ None)) }
+        ensures back { IfSome result (λ w. (self.new ≡ self.old) × (seat.new.job ≡ seat.old.job) × (w ≡ work)) }
+        ensures only { IfSome result (λ _. stage_in (length N.wanted) self.old work.job ≢ out_at seat.old.number) }
+    {
+        let Round { jobs, frames } = self;
+        if !jobs.deposit(seat, work.job) {
+            return Some(work);
+        }
+        let Work { job, frame, of: _ } = work;
+        frames[job as usize] = Some(frame);
+        None
+    }
+
+    /// A round in which each job is idle, and has a frame.
+    pub(crate) fn open(jobs: JobLog<N>, frames: Vec<Option<Frame>>) -> Round<N>
+        requires jobs { jobs ≡ [] }
+        requires named { N.jobs ≡ length N.wanted }
+        requires enough { N.jobs ≤ length frames.items }
+        requires all { length frames.items + length frames.items ≡ N.room }
+        requires frames { All (HasLen N.frame_len) frames.items }
+        ensures { result ≡ [] }
+    {
+        Round { jobs, frames }
+    }
+
+    /// The first job that is out, and its seat, where the host has taken all seats in.
+    pub(crate) fn find_out(&mut self, host: &mut Host<N>) -> Option<(u64, u32)>
+        requires { host.old.parts ≡ N.parts }
+        ensures log { self.new ≡ self.old }
+        ensures host { host.new ≡ host.old }
+        ensures none { IfNone result (host.old.outs ≡ 0) }
+        ensures some { IfSome result (λ found. (stage_in (length N.wanted) self.old found.0 ≡ out_at found.1)
+            × (found.0 < length N.wanted) × (0 < host.old.outs)) }
+    {
+        self.jobs.find_out(host)
+    }
+
+    /// Takes the frame of a job that is out with its bytes, for the seat that has it out.
+    pub(crate) fn deposit_for(&mut self, host: &mut Host<N>, job: u64, seat: u32, frame: Frame)
+        requires out { stage_in (length N.wanted) self.old job ≡ out_at seat }
+        requires job { job < length N.wanted }
+        requires outs { 0 < host.old.outs }
+        requires parts { 0 < host.old.parts }
+        requires length { length frame.bytes ≡ N.frame_len }
+        requires wanted { slice_get N.wanted job ≡ Some (used_of frame) }
+        ensures log { self.new ≡ self.old ++ deposit_of seat job ∷ [] }
+        ensures parts { host.new.parts ≡ host.old.parts }
+        ensures outs { host.new.outs + 1 ≡ host.old.outs }
+    {
+        let Round { jobs, frames } = self;
+        jobs.deposit_for(host, job, seat);
+        frames[job as usize] = Some(frame);
+    }
+
+    /// Ends a round whose host has taken all seats in, with nothing out and each job claimed. Its frames come back, those of the
+    /// jobs with their bytes.
+    pub(crate) fn close(self, host: Host<N>) -> (Vec<Stage>, Vec<Event>, Vec<Option<Frame>>)
+        requires whole { host.parts ≡ N.parts }
+        requires none { host.outs ≡ 0 }
+        requires all { claims_in self ≡ length N.wanted }
+        ensures finished { IsFinished N.jobs result.1.items }
+        ensures log { result.1.items ≡ self }
+        ensures stages { N.room ≤ vec_capacity result.0 }
+        ensures room { N.room ≤ vec_capacity result.1 }
+        ensures count { length result.2.items + length result.2.items ≡ N.room }
+        ensures frames { All (HasLen N.frame_len) result.2.items }
+        ensures chunks { (k : ℕ) (d : _) → k < length N.wanted →
+            HasBytes N.frame_len (slice_get N.wanted k) (slice_index_or result.2.items k d) }
+    {
+        let Round { jobs, frames } = self;
+        let (stages, log) = jobs.close(host);
+        (stages, log, frames)
+    }
+}

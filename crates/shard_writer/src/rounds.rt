@@ -1,0 +1,140 @@
+//! Rounds of a scale's jobs: their chunks are encoded by workers, and stored afterwards in the jobs' order.
+ghost use Rattle.std.specs.Prelude.{◌≡◌, ◌≢◌, ◌-◌, ◌*◌, ◌/◌, ◌≤◌, ◌<◌, ◌^◌, IfOk, max, min};
+ghost use Rattle.encode_round.specs.Serving.{ArePrepared};
+ghost use Rattle.shard_writer.specs.Serving.{HoldsJobs, ServesRounds, chunk_at, round_size};
+ghost use Rattle.vol_spec.specs.Limits.{first_bytes};
+ghost use Rattle.write_plan.specs.Jobs.{frame_len, window_of};
+
+use encode_round::{Bench, run_round};
+use std::alloc::Global;
+use std::sync::Wait;
+use std::thread::Threads;
+use vol_base::{Gate, OutOfMemory};
+use vol_spec::{Encoding, Scale};
+use write_plan::{Chunks, window};
+
+/// Who encodes: so many workers of a handle, and who is told of it.
+#[derive(Drop)]
+pub(crate) struct Crew<'a, R, G> {
+    pub rt: &'a R,
+    pub alloc: Global,
+    pub workers: u32,
+    pub gate: &'a G,
+}
+
+/// A bench, and the first job of the last round.
+#[derive(Drop)]
+pub(crate) struct Rounds {
+    pub bench: Bench,
+    pub first: u64,
+}
+
+// The longest raw chunks that more than one worker fills.
+const SMALL: u64 = 1 << 12;
+
+/// How many of some workers are of use for a scale's chunks. Of raw chunks it is one, but for small ones, of which two
+/// may be: storing them is what takes time, and not filling them.
+pub(crate) fn count_workers(scale: &Scale, workers: u32) -> u32
+    ensures large { scale.now.encoding ≡ Encoding.Raw → 2 ^ 12 < first_bytes scale.now.width scale.now.channels
+        scale.now.size scale.now.chunk → result ≡ 1 }
+    ensures small { scale.now.encoding ≡ Encoding.Raw → first_bytes scale.now.width scale.now.channels
+        scale.now.size scale.now.chunk ≤ 2 ^ 12 → result ≡ min workers 2 }
+    ensures coded { scale.now.encoding ≢ Encoding.Raw → result ≡ workers }
+{
+    match scale.encoding {
+        Encoding::Raw => {
+            if scale.raw_limit() > SMALL {
+                1
+            } else {
+                workers.min(2)
+            }
+        }
+        Encoding::Seg { .. } => workers,
+    }
+}
+
+// The bytes of the frames of several workers, where two frames for each do not have more.
+const ROOM: u64 = 1 << 26;
+
+// How many chunks of a scale have room in these bytes.
+fn count_in_room(scale: &Scale) -> u64
+    ensures { result ≡ 2 ^ 26 / frame_len scale.now }
+{
+    ROOM / scale.raw_limit().max(scale.chunk_limit())
+}
+
+// How many jobs of a scale a round has at most. Where several workers encode them it is as many as have 64 MiB of
+// frames, or two for each worker if that is more, but no more than a window; else one, so that all chunks are made in
+// the same memory.
+fn count_at_once(scale: &Scale, workers: u32) -> u64
+    ensures several { 1 < workers → result ≡ min (window_of scale.now)
+        (max (2 * workers) (2 ^ 26 / frame_len scale.now)) }
+    ensures one { workers ≤ 1 → result ≡ 1 }
+    ensures some { 0 < result }
+    ensures most { result ≤ window_of scale.now }
+{
+    if workers > 1 {
+        window(scale).min(count_in_room(scale).max(2 * workers as u64))
+    } else {
+        1
+    }
+}
+
+/// Takes all memory that the rounds of so many jobs take: for as many as a round has, and for a worker each,
+/// but no more than a round has jobs, and no more than 16.
+pub(crate) fn reserve_rounds<R, G>(
+    crew: &Crew<R, G>,
+    scale: &Scale,
+    count: u64,
+) -> Result<Rounds, OutOfMemory>
+    ensures serves { IfOk result (ServesRounds scale.now) }
+    ensures first { IfOk result (λ rounds. rounds.first ≡ 0) }
+{
+    let workers = crew.workers.min(16);
+    let size = count_at_once(scale, workers).min(count.max(1));
+    let seats = (workers as u64).min(size).max(1);
+    let bench = Bench::reserve(crew.alloc, scale, seats as u32, size)?;
+    Ok(Rounds { bench, first: 0 })
+}
+
+/// How many jobs a round has at most.
+pub(crate) fn size_of(rounds: &Rounds) -> u64
+    ensures { result ≡ round_size rounds.now }
+{
+    rounds.bench.size()
+}
+
+/// Encodes the chunks of the jobs from one number up to, not with, another, which are prepared, in one round.
+pub(crate) fn encode_jobs<R: Threads + Wait + Sync, C: Chunks + Sync, G: Gate + Sync>(
+    crew: &Crew<R, G>,
+    scale: &Scale,
+    chunks: &C,
+    from: u64,
+    to: u64,
+    rounds: &mut Rounds,
+)
+    requires rounds { ServesRounds scale.now rounds.old }
+    requires jobs { ArePrepared scale.now (C.work chunks.now) (C.ready chunks.now) from to }
+    requires size { to - from ≤ round_size rounds.old }
+    ensures rounds { ServesRounds scale.now rounds.new }
+    ensures held { HoldsJobs (C.work chunks.now) (C.ready chunks.now) from to rounds.new }
+{
+    run_round(
+        crew.rt,
+        chunks,
+        scale,
+        &mut rounds.bench,
+        from,
+        to,
+        crew.gate,
+    );
+    rounds.first = from;
+}
+
+/// The chunk of a job of the last round.
+pub(crate) fn find_chunk(rounds: &Rounds, job: u64) -> &[u8]
+    requires { rounds.now.first ≤ job }
+    ensures { result.now ≡ chunk_at rounds.now job }
+{
+    rounds.bench.done(job - rounds.first)
+}
