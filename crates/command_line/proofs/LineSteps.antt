@@ -1,7 +1,7 @@
 -- Lists of words that spell no command.
-use Rattle.std.proofs.Common.{◌≡◌, ◌<◌, ℕ, List, [], ◌∷◌, true, Option, Some, None, is_some, length, map, option_and_then, arith, refl}
+use Rattle.std.proofs.Common.{◌≡◌, ◌<◌, ℕ, List, [], ◌∷◌, false, Option, Some, None, length, map, option_and_then, arith, refl}
 use Rattle.std.specs.Borrow.{Bor}
-use Rattle.std.specs.Option.{option_map_or}
+use Rattle.command_line.specs.Parsers.{is_given}
 use Rattle.command_line.specs.Words.{cutout_line, generate_line, generate_of, numbered, reshard_line, reshard_of, targeted, verify_line, worker_count, workers, write_line, write_of}
 
 -- the texts behind references
@@ -42,11 +42,11 @@ too_many_options dataset key [] h = absurd (omega arith)
 too_many_options dataset key (a ∷ []) h = absurd (omega arith)
 too_many_options dataset key (a ∷ b ∷ rest) h = without_workers dataset key None refl
 
--- where a number is given, it counts
-pub with_value : (dataset key : Option (List ℕ)) (value : Option (List ℕ)) → is_some value ≡ true
-    → write_of dataset key (option_map_or worker_count value (Some 1)) ≡ write_of dataset key (option_and_then worker_count value)
-with_value dataset key None given = cc
-with_value dataset key (Some v) given = refl
+-- an option without a value is none
+pub without_value : (dataset key value : Option (List ℕ)) → is_given value ≡ false → None ≡ write_of dataset key (option_and_then worker_count value)
+without_value dataset key None h = without_workers dataset key None refl
+without_value dataset key (Some []) h = without_workers dataset key None refl
+without_value dataset key (Some (x ∷ v)) h = cc
 
 -- the same of `generate`
 pub no_generate : (plain others : List (Bor (List ℕ))) → (length plain ≡ 4 → ⊥) → None ≡ generate_line (texts plain) (texts others)

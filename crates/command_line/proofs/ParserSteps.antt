@@ -1,198 +1,168 @@
 -- What the commands of the line take, and what they find in it: one lemma for each shape of a line.
-use Rattle.std.proofs.Common.{◌≡◌, ◌∙◌, ℕ, List, [], ◌∷◌, ◌++◌, ◌==◌, Bool, true, false, IsTrue, Option, Some, None, is_some, length, drop, nat_le, not, codes, ap, cond, eqb, subst, sym, refl}
+use Rattle.std.proofs.Common.{◌≡◌, ◌∙◌, ◌<◌, ℕ, List, [], ◌∷◌, ◌++◌, ◌==◌, Bool, true, false, IsTrue, Some, None, is_some, length, drop, nat_le, not, codes, ap, cond, eqb, refl, subst, sym, arith, length-drop}
 use Rattle.std.specs.List.{starts_with}
 use Rattle.std.proofs.lemmas.Bool.{and_parts}
 use Rattle.std.proofs.lemmas.Bool.Decides.{Decides-eqb}
 use Rattle.std.proofs.lemmas.Slice.Eq.{starts_is}
-use Rattle.clap.specs.Words.{App, Row, Text, first_of, first_value, is_simple, matches_of, rows_of, takes}
+use Rattle.clap.specs.Words.{App, Row, Text, first_value, is_simple, matches_of, new_rule, rows_of, takes}
 use Rattle.clap.specs.Simple.{argument_words, built}
 use Rattle.clap.specs.Takes.{built_takes}
-use Rattle.clap.specs.Walk.{nothing_held}
+use Rattle.clap.specs.Walk.{nothing_held, reading_by}
 use Rattle.clap.specs.declared.parser.matches.Found.{Found}
+use Rattle.clap.specs.declared.parser.matches.ValueSource.TheVariants.{CommandLine}
 use Rattle.clap.proofs.OnLiterals.{clap_on_literals}
 use Rattle.clap.proofs.WalkLemmas.{first_value-rows}
-use Rattle.command_line.specs.Parsers.{cutout_app, write_app}
+use Rattle.command_line.specs.Parsers.{Three, all_three, cutout_app, is_given, serve_app, three_in, write_app}
 use Rattle.command_line.specs.Words.{is_plain, value_after}
 
--- a plain word has a first byte, and it isn't `-`
-module _ (x y z : ℕ) (v w u : List ℕ) (hx : (x == 45) ≡ false) (hy : (y == 45) ≡ false) where
-  abbrev two : List Text
-  two = codes "write" ∷ (x ∷ v) ∷ (y ∷ w) ∷ []
+-- what is found of an argument: its one value
+abbrev found_row : Text → Text → Row
+found_row id value = record { id = id; values = value ∷ []; count = None; source = Some CommandLine; reading = reading_by (new_rule id) }
 
-  abbrev two_and_none : List Text
-  two_and_none = codes "write" ∷ (x ∷ v) ∷ (y ∷ w) ∷ codes "--workers=" ∷ []
+-- a plain word has a first byte, and it isn't `-`; an option has a first byte of its value
+module _ (x y z : ℕ) (u v w : List ℕ) (hx : (x == 45) ≡ false) where
+  abbrev serve_words : List Text
+  serve_words = codes "serve" ∷ (x ∷ u) ∷ (codes "--port=" ++ y ∷ v) ∷ (codes "--connections=" ++ z ∷ w) ∷ []
 
-  abbrev two_and_some : List Text
-  two_and_some = codes "write" ∷ (x ∷ v) ∷ (y ∷ w) ∷ (codes "--workers=" ++ z ∷ u) ∷ []
-
-  takes_two : takes write_app two ≡ true
+  serve_takes : takes serve_app serve_words ≡ true
   unfolding clap_on_literals
-  takes_two = simp (hx, hy) refl
+  serve_takes = simp hx refl
 
-  takes_none : takes write_app two_and_none ≡ true
+  serve_rows : matches_of serve_app serve_words ≡ found_row (codes "dataset") (x ∷ u) ∷ found_row (codes "port") (y ∷ v) ∷ found_row (codes "connections") (z ∷ w) ∷ []
   unfolding clap_on_literals
-  takes_none = simp (hx, hy) refl
+  serve_rows = simp hx refl
 
-  takes_some : takes write_app two_and_some ≡ true
+module _ (x y z : ℕ) (u v w : List ℕ) (hx : (x == 45) ≡ false) (hy : (y == 45) ≡ false) where
+  abbrev write_words : List Text
+  write_words = codes "write" ∷ (x ∷ u) ∷ (y ∷ v) ∷ (codes "--workers=" ++ z ∷ w) ∷ []
+
+  write_takes : takes write_app write_words ≡ true
   unfolding clap_on_literals
-  takes_some = simp (hx, hy) refl
+  write_takes = simp (hx, hy) refl
 
-  dataset_two : first_of (codes "dataset") (matches_of write_app two) ≡ Some (x ∷ v)
+  write_rows : matches_of write_app write_words ≡ found_row (codes "dataset") (x ∷ u) ∷ found_row (codes "key") (y ∷ v) ∷ found_row (codes "workers") (z ∷ w) ∷ []
   unfolding clap_on_literals
-  dataset_two = simp (hx, hy) refl
+  write_rows = simp (hx, hy) refl
 
-  key_two : first_of (codes "key") (matches_of write_app two) ≡ Some (y ∷ w)
+module _ (x y z : ℕ) (u v w : List ℕ) (hx : (x == 45) ≡ false) (hy : (y == 45) ≡ false) (hz : (z == 45) ≡ false) where
+  abbrev cutout_words : List Text
+  cutout_words = codes "cutout" ∷ (x ∷ u) ∷ (y ∷ v) ∷ (z ∷ w) ∷ []
+
+  cutout_takes : takes cutout_app cutout_words ≡ true
   unfolding clap_on_literals
-  key_two = simp (hx, hy) refl
+  cutout_takes = simp (hx, hy, hz) refl
 
-  workers_two : first_of (codes "workers") (matches_of write_app two) ≡ None
+  cutout_rows : matches_of cutout_app cutout_words ≡ found_row (codes "dataset") (x ∷ u) ∷ found_row (codes "key") (y ∷ v) ∷ found_row (codes "box") (z ∷ w) ∷ []
   unfolding clap_on_literals
-  workers_two = simp (hx, hy) refl
+  cutout_rows = simp (hx, hy, hz) refl
 
-  dataset_none : first_of (codes "dataset") (matches_of write_app two_and_none) ≡ Some (x ∷ v)
-  unfolding clap_on_literals
-  dataset_none = simp (hx, hy) refl
-
-  key_none : first_of (codes "key") (matches_of write_app two_and_none) ≡ Some (y ∷ w)
-  unfolding clap_on_literals
-  key_none = simp (hx, hy) refl
-
-  workers_none : first_of (codes "workers") (matches_of write_app two_and_none) ≡ Some []
-  unfolding clap_on_literals
-  workers_none = simp (hx, hy) refl
-
-  dataset_some : first_of (codes "dataset") (matches_of write_app two_and_some) ≡ Some (x ∷ v)
-  unfolding clap_on_literals
-  dataset_some = simp (hx, hy) refl
-
-  key_some : first_of (codes "key") (matches_of write_app two_and_some) ≡ Some (y ∷ w)
-  unfolding clap_on_literals
-  key_some = simp (hx, hy) refl
-
-  workers_some : first_of (codes "workers") (matches_of write_app two_and_some) ≡ Some (z ∷ u)
-  unfolding clap_on_literals
-  workers_some = simp (hx, hy) refl
-
-module _ (x y z : ℕ) (v w u : List ℕ) (hx : (x == 45) ≡ false) (hy : (y == 45) ≡ false) (hz : (z == 45) ≡ false) where
-  abbrev three : List Text
-  three = codes "cutout" ∷ (x ∷ v) ∷ (y ∷ w) ∷ (z ∷ u) ∷ []
-
-  takes_three : takes cutout_app three ≡ true
-  unfolding clap_on_literals
-  takes_three = simp (hx, hy, hz) refl
-
-  dataset_three : first_of (codes "dataset") (matches_of cutout_app three) ≡ Some (x ∷ v)
-  unfolding clap_on_literals
-  dataset_three = simp (hx, hy, hz) refl
-
-  key_three : first_of (codes "key") (matches_of cutout_app three) ≡ Some (y ∷ w)
-  unfolding clap_on_literals
-  key_three = simp (hx, hy, hz) refl
-
-  box_three : first_of (codes "box") (matches_of cutout_app three) ≡ Some (z ∷ u)
-  unfolding clap_on_literals
-  box_three = simp (hx, hy, hz) refl
-
-pub no_dash : (x : ℕ) (v : List ℕ) → IsTrue (is_plain (x ∷ v)) → (x == 45) ≡ false
+no_dash : (x : ℕ) (v : List ℕ) → IsTrue (is_plain (x ∷ v)) → (x == 45) ≡ false
 no_dash x v h = not_true (x == 45) (and_parts (nat_le 1 (length (x ∷ v))) _ h).1
   where
     not_true : (b : Bool) → not b ≡ true → b ≡ false
     not_true false e = refl
     not_true true e = cc
 
-pub write_takes_two : (dataset key : Text) → IsTrue (is_plain dataset) → IsTrue (is_plain key) → takes write_app (codes "write" ∷ dataset ∷ key ∷ []) ≡ true
-write_takes_two [] key hd hk = cc
-write_takes_two (x ∷ v) [] hd hk = cc
-write_takes_two (x ∷ v) (y ∷ w) hd hk = takes_two x y 0 v w [] (no_dash x v hd) (no_dash y w hk)
+-- the command takes the words, and finds the values
+pub record Finds (app : App) (words : List Text) (a b c : Text) (values : Three) : Type 0 where
+  pub takes_words : takes app words ≡ true
+  pub values_are : three_in app words a b c ≡ Some values
 
-pub write_takes_option : (dataset key value : Text) → IsTrue (is_plain dataset) → IsTrue (is_plain key) → takes write_app (codes "write" ∷ dataset ∷ key ∷ (codes "--workers=" ++ value) ∷ []) ≡ true
-write_takes_option [] key value hd hk = cc
-write_takes_option (x ∷ v) [] value hd hk = cc
-write_takes_option (x ∷ v) (y ∷ w) [] hd hk = takes_none x y 0 v w [] (no_dash x v hd) (no_dash y w hk)
-write_takes_option (x ∷ v) (y ∷ w) (z ∷ u) hd hk = takes_some x y z v w u (no_dash x v hd) (no_dash y w hk)
-
-pub cutout_takes : (dataset key part : Text) → IsTrue (is_plain dataset) → IsTrue (is_plain key) → IsTrue (is_plain part) → takes cutout_app (codes "cutout" ∷ dataset ∷ key ∷ part ∷ []) ≡ true
-cutout_takes [] key part hd hk hp = cc
-cutout_takes (x ∷ v) [] part hd hk hp = cc
-cutout_takes (x ∷ v) (y ∷ w) [] hd hk hp = cc
-cutout_takes (x ∷ v) (y ∷ w) (z ∷ u) hd hk hp = takes_three x y z v w u (no_dash x v hd) (no_dash y w hk) (no_dash z u hp)
-
--- what is found: two plain words, and a third value
-pub record Finds (rows : List Row) (dataset key id : Text) (last : Option Text) : Type 0 where
-  pub dataset_is : first_of (codes "dataset") rows ≡ Some dataset
-  pub key_is : first_of (codes "key") rows ≡ Some key
-  pub last_is : first_of id rows ≡ last
-
-pub write_finds_two : (dataset key : Text) → IsTrue (is_plain dataset) → IsTrue (is_plain key)
-    → Finds (matches_of write_app (codes "write" ∷ dataset ∷ key ∷ [])) dataset key (codes "workers") None
-write_finds_two [] key hd hk = cc
-write_finds_two (x ∷ v) [] hd hk = cc
-write_finds_two (x ∷ v) (y ∷ w) hd hk =
-    let hx = no_dash x v hd in
-    let hy = no_dash y w hk in
-    record { dataset_is = dataset_two x y 0 v w [] hx hy; key_is = key_two x y 0 v w [] hx hy; last_is = workers_two x y 0 v w [] hx hy }
-
-pub write_finds_option : (dataset key value : Text) → IsTrue (is_plain dataset) → IsTrue (is_plain key)
-    → Finds (matches_of write_app (codes "write" ∷ dataset ∷ key ∷ (codes "--workers=" ++ value) ∷ [])) dataset key (codes "workers") (Some value)
-write_finds_option [] key value hd hk = cc
-write_finds_option (x ∷ v) [] value hd hk = cc
-write_finds_option (x ∷ v) (y ∷ w) [] hd hk =
-    let hx = no_dash x v hd in
-    let hy = no_dash y w hk in
-    record { dataset_is = dataset_none x y 0 v w [] hx hy; key_is = key_none x y 0 v w [] hx hy; last_is = workers_none x y 0 v w [] hx hy }
-write_finds_option (x ∷ v) (y ∷ w) (z ∷ u) hd hk =
-    let hx = no_dash x v hd in
-    let hy = no_dash y w hk in
-    record { dataset_is = dataset_some x y z v w u hx hy; key_is = key_some x y z v w u hx hy; last_is = workers_some x y z v w u hx hy }
+-- what a word has behind an option that is given
+pub value_behind : (option word : Text) → is_given (value_after option word) ≡ true → value_after option word ≡ Some (drop (length option) word)
+value_behind option word given = go (starts_with eqb word option) given
+  where
+    go : (b : Bool) → is_given (cond b (Some (drop (length option) word)) None) ≡ true → cond b (Some (drop (length option) word)) None ≡ Some (drop (length option) word)
+    go true given = refl
+    go false given = cc
 
 pub cutout_finds : (dataset key part : Text) → IsTrue (is_plain dataset) → IsTrue (is_plain key) → IsTrue (is_plain part)
-    → Finds (matches_of cutout_app (codes "cutout" ∷ dataset ∷ key ∷ part ∷ [])) dataset key (codes "box") (Some part)
+    → Finds cutout_app (codes "cutout" ∷ dataset ∷ key ∷ part ∷ []) (codes "dataset") (codes "key") (codes "box") (dataset, key, part)
 cutout_finds [] key part hd hk hp = cc
-cutout_finds (x ∷ v) [] part hd hk hp = cc
-cutout_finds (x ∷ v) (y ∷ w) [] hd hk hp = cc
-cutout_finds (x ∷ v) (y ∷ w) (z ∷ u) hd hk hp =
-    let hx = no_dash x v hd in
-    let hy = no_dash y w hk in
-    let hz = no_dash z u hp in
-    record { dataset_is = dataset_three x y z v w u hx hy hz; key_is = key_three x y z v w u hx hy hz; last_is = box_three x y z v w u hx hy hz }
+cutout_finds (x ∷ u) [] part hd hk hp = cc
+cutout_finds (x ∷ u) (y ∷ v) [] hd hk hp = cc
+cutout_finds (x ∷ u) (y ∷ v) (z ∷ w) hd hk hp =
+    let hx = no_dash x u hd in
+    let hy = no_dash y v hk in
+    let hz = no_dash z w hp in
+    record { takes_words = cutout_takes x y z u v w hx hy hz; values_are = rw (cutout_rows x y z u v w hx hy hz) refl }
 
--- a value that the matches give, by their rows
-pub value_found : (found : Found) (rows : List Row) (id : Text) (value : Option Text) → rows_of found ≡ rows → first_of id rows ≡ value → first_value found id ≡ value
-value_found found rows id value is gives = first_value-rows found id ∙ ap (first_of id) is ∙ gives
+write_finds : (dataset key : Text) (z : ℕ) (w : List ℕ) → IsTrue (is_plain dataset) → IsTrue (is_plain key)
+    → Finds write_app (codes "write" ∷ dataset ∷ key ∷ (codes "--workers=" ++ z ∷ w) ∷ []) (codes "dataset") (codes "key") (codes "workers") (dataset, key, z ∷ w)
+write_finds [] key z w hd hk = cc
+write_finds (x ∷ u) [] z w hd hk = cc
+write_finds (x ∷ u) (y ∷ v) z w hd hk =
+    let hx = no_dash x u hd in
+    let hy = no_dash y v hk in
+    record { takes_words = write_takes x y z u v w hx hy; values_are = rw (write_rows x y z u v w hx hy) refl }
 
--- an option is its beginning and its value
-pub option_parts : (option word : Text) → is_some (value_after option word) ≡ true → (word ≡ option ++ drop (length option) word) × (value_after option word ≡ Some (drop (length option) word))
-option_parts option word given = go (starts_with eqb word option) refl given
+serve_finds : (dataset : Text) (y z : ℕ) (v w : List ℕ) → IsTrue (is_plain dataset)
+    → Finds serve_app (codes "serve" ∷ dataset ∷ (codes "--port=" ++ y ∷ v) ∷ (codes "--connections=" ++ z ∷ w) ∷ []) (codes "dataset") (codes "port") (codes "connections") (dataset, y ∷ v, z ∷ w)
+serve_finds [] y z v w hd = cc
+serve_finds (x ∷ u) y z v w hd =
+    let hx = no_dash x u hd in
+    record { takes_words = serve_takes x y z u v w hx; values_are = rw (serve_rows x y z u v w hx) refl }
+
+-- an option that is given is its beginning and a value, which isn't empty
+pub record IsOption (option word value : Text) : Type 0 where
+  pub word_is : word ≡ option ++ value
+  pub given : is_given (Some value) ≡ true
+
+pub begins_with : (option word : Text) → is_some (value_after option word) ≡ true → word ≡ option ++ drop (length option) word
+begins_with option word given = go (starts_with eqb word option) refl given
   where
-    go : (b : Bool) → starts_with eqb word option ≡ b → is_some (cond b (Some (drop (length option) word)) None) ≡ true
-        → (word ≡ option ++ drop (length option) word) × (cond b (Some (drop (length option) word)) None ≡ Some (drop (length option) word))
-    go true e given = ((starts_is Decides-eqb word option true (sym e)).0 refl, refl)
+    go : (b : Bool) → starts_with eqb word option ≡ b → is_some (cond b (Some (drop (length option) word)) None) ≡ true → word ≡ option ++ drop (length option) word
+    go true e given = (starts_is Decides-eqb word option true (sym e)).0 refl
     go false e given = cc
 
-pub takes_simple : (app : App) (words : List Text) → takes app words ≡ true → is_simple app ≡ true
-takes_simple app words e = (and_parts (is_simple app) (built_takes (built app) nothing_held (argument_words app words)) e).0
+option_parts : (option word : Text) → is_given (value_after option word) ≡ true → IsOption option word (drop (length option) word)
+option_parts option word given = go (starts_with eqb word option) refl given
+  where
+    go : (b : Bool) → starts_with eqb word option ≡ b → is_given (cond b (Some (drop (length option) word)) None) ≡ true → IsOption option word (drop (length option) word)
+    go true e given = record { word_is = (starts_is Decides-eqb word option true (sym e)).0 refl; given = given }
+    go false e given = cc
 
--- the same command, by equal parsers
-pub takes_as : (parser app : App) (words : List Text) → parser ≡ app → takes app words ≡ true → takes parser words ≡ true
-takes_as parser app words is e = ap (λ a. takes a words) is ∙ e
+-- a word that is longer is one where it begins so
+left_over : (rest : Text) → 0 < length rest → true ≡ is_given (Some rest)
+left_over [] h = absurd (omega arith)
+left_over (x ∷ rest) h = refl
 
--- the values that were found, by what a parse ensures
-pub values_found : (found : Found) (parser app : App) (words : List Text) (dataset key id : Text) (last : Option Text) → parser ≡ app
-    → rows_of found ≡ matches_of parser words → Finds (matches_of app words) dataset key id last
-    → (first_value found (codes "dataset") ≡ Some dataset) × (first_value found (codes "key") ≡ Some key) × (first_value found id ≡ last)
-values_found found parser app words dataset key id last is rows finds =
-    let found_rows : rows_of found ≡ matches_of app words = rows ∙ ap (λ a. matches_of a words) is in
-    (value_found found _ (codes "dataset") _ found_rows finds.dataset_is, value_found found _ (codes "key") _ found_rows finds.key_is, value_found found _ id _ found_rows finds.last_is)
+pub given_is : (option word : Text) → length option < length word → starts_with eqb word option ≡ is_given (value_after option word)
+given_is option word longer = go (starts_with eqb word option)
+  where
+    go : (b : Bool) → b ≡ is_given (cond b (Some (drop (length option) word)) None)
+    go true = left_over (drop (length option) word) (omega (arith, length-drop (length option) word))
+    go false = refl
 
-pub write_takes_word : (dataset key word : Text) → IsTrue (is_plain dataset) → IsTrue (is_plain key) → is_some (value_after (codes "--workers=") word) ≡ true
-    → takes write_app (codes "write" ∷ dataset ∷ key ∷ word ∷ []) ≡ true
-write_takes_word dataset key word hd hk given =
-    ap (λ w. takes write_app (codes "write" ∷ dataset ∷ key ∷ w ∷ [])) (option_parts (codes "--workers=") word given).0 ∙ write_takes_option dataset key (drop 10 word) hd hk
+-- the words of `write`, of which the last is an option that is given
+pub write_finds_word : (dataset key word : Text) → IsTrue (is_plain dataset) → IsTrue (is_plain key) → is_given (value_after (codes "--workers=") word) ≡ true
+    → Finds write_app (codes "write" ∷ dataset ∷ key ∷ word ∷ []) (codes "dataset") (codes "key") (codes "workers") (dataset, key, drop 10 word)
+write_finds_word dataset key word hd hk given = by_value (drop 10 word) (option_parts (codes "--workers=") word given)
+  where
+    by_value : (value : Text) → IsOption (codes "--workers=") word value → Finds write_app (codes "write" ∷ dataset ∷ key ∷ word ∷ []) (codes "dataset") (codes "key") (codes "workers") (dataset, key, value)
+    by_value [] parts = cc parts.given
+    by_value (z ∷ w) parts =
+        subst (λ word. Finds write_app (codes "write" ∷ dataset ∷ key ∷ word ∷ []) (codes "dataset") (codes "key") (codes "workers") (dataset, key, z ∷ w)) (sym parts.word_is) (write_finds dataset key z w hd hk)
 
-pub write_finds_word : (dataset key word : Text) → IsTrue (is_plain dataset) → IsTrue (is_plain key) → is_some (value_after (codes "--workers=") word) ≡ true
-    → Finds (matches_of write_app (codes "write" ∷ dataset ∷ key ∷ word ∷ [])) dataset key (codes "workers") (value_after (codes "--workers=") word)
-write_finds_word dataset key word hd hk given =
-    let parts = option_parts (codes "--workers=") word given in
-    let P : Text → Type 0 = λ w. Finds (matches_of write_app (codes "write" ∷ dataset ∷ key ∷ w ∷ [])) dataset key (codes "workers") (Some (drop 10 word)) in
-    let found = subst P (sym parts.0) (write_finds_option dataset key (drop 10 word) hd hk) in
-    record { dataset_is = found.dataset_is; key_is = found.key_is; last_is = found.last_is ∙ sym parts.1 }
+-- the words of `serve`, of which the last two are options that are given
+pub serve_finds_words : (dataset port count : Text) → IsTrue (is_plain dataset) → is_given (value_after (codes "--port=") port) ≡ true → is_given (value_after (codes "--connections=") count) ≡ true
+    → Finds serve_app (codes "serve" ∷ dataset ∷ port ∷ count ∷ []) (codes "dataset") (codes "port") (codes "connections") (dataset, drop 7 port, drop 14 count)
+serve_finds_words dataset port count hd hp hc = by_values (drop 7 port) (drop 14 count) (option_parts (codes "--port=") port hp) (option_parts (codes "--connections=") count hc)
+  where
+    F : Text → Text → Text → Text → Type 0
+    F p n v w = Finds serve_app (codes "serve" ∷ dataset ∷ p ∷ n ∷ []) (codes "dataset") (codes "port") (codes "connections") (dataset, v, w)
+
+    by_values : (v w : Text) → IsOption (codes "--port=") port v → IsOption (codes "--connections=") count w → F port count v w
+    by_values [] w p n = cc p.given
+    by_values (y ∷ v) [] p n = cc n.given
+    by_values (y ∷ v) (z ∷ w) p n =
+        subst (λ text. F text count (y ∷ v) (z ∷ w)) (sym p.word_is) (subst (λ text. F (codes "--port=" ++ y ∷ v) text (y ∷ v) (z ∷ w)) (sym n.word_is) (serve_finds dataset y z v w hd))
+
+-- what an equal command takes, and finds
+module _ (parser app : App) (words : List Text) (is : parser ≡ app) (takes_words : takes app words ≡ true) where
+  pub parser_simple : is_simple parser ≡ true
+  parser_simple = (and_parts (is_simple parser) (built_takes (built parser) nothing_held (argument_words parser words)) (ap (λ p. takes p words) is ∙ takes_words)).0
+
+  pub values_in : (found : Found) (a b c : Text) → rows_of found ≡ matches_of parser words
+      → all_three (first_value found a) (first_value found b) (first_value found c) ≡ three_in app words a b c
+  values_in found a b c rows = rw (first_value-rows found a, first_value-rows found b, first_value-rows found c, rows) (ap (λ p. three_in p words a b c) is)

@@ -2,7 +2,7 @@
 use vol_base::{Box3, Name};
 
 /// A command and its arguments. Names have at most 200 bytes.
-#[derive(Debug, Drop)]
+#[derive(Drop)]
 pub enum Command {
     /// `cutout DATASET KEY BOX`: the values of a box.
     Cutout {

@@ -5,6 +5,8 @@ mod commands;
 mod parsers;
 mod resharding;
 mod serving;
+#[cfg(test)]
+mod tests;
 mod verifying;
 mod words;
 

@@ -1,13 +1,12 @@
 //! The words of `serve`.
-ghost use Rattle.std.specs.Prelude.{◌≡◌, IfOk, IsTrue, map, is_some, codes, option_and_then};
+ghost use Rattle.std.specs.Prelude.{◌≡◌, IfOk, IsTrue, map, codes, option_and_then, option_map};
 ghost use Rattle.std.specs.List.{list_all};
-ghost use Rattle.clap.specs.Words.{first_value, found_of};
+ghost use Rattle.command_line.specs.Parsers.{serve_by};
 ghost use Rattle.command_line.specs.Words.{connection_count, is_plain, port_number, serve_line, serve_of, serve_options, short_name, value_after};
 
 use crate::commands::Command;
-use crate::parsers::{parse, serve_parser};
-use crate::words::{read_name, read_number};
-use clap::ArgMatches;
+use crate::parsers::find_values;
+use crate::words::{is_option, read_name, read_number};
 use std::alloc::{AllocError, Global};
 
 // P of `--port=P`.
@@ -31,10 +30,10 @@ fn read_connection_count(value: &str) -> Option<u32>
 }
 
 // The arguments of `serve`.
-fn take_serve(dataset: &str, port: &str, connections: &str) -> Option<Command>
-    ensures { result ≡ serve_of (short_name dataset.now) (port_number port.now)
-        (connection_count connections.now) }
+fn take_serve(values: Option<(&str, &str, &str)>) -> Option<Command>
+    ensures { result ≡ serve_by (option_map (λ values. (values.0.now, values.1.now, values.2.now)) values.entry) }
 {
+    let (dataset, port, connections) = values?;
     Some(Command::Serve {
         dataset: read_name(dataset)?,
         port: read_port(port)?,
@@ -42,21 +41,7 @@ fn take_serve(dataset: &str, port: &str, connections: &str) -> Option<Command>
     })
 }
 
-// The arguments that were found for `serve`.
-fn take_serve_found(found: &ArgMatches<'_>) -> Option<Command>
-    ensures { result ≡ serve_of (option_and_then short_name
-        (first_value (found_of found.now) (codes "dataset")))
-        (option_and_then port_number (first_value (found_of found.now) (codes "port")))
-        (option_and_then connection_count (first_value (found_of found.now) (codes "connections"))) }
-{
-    take_serve(
-        found.get_str("dataset")?,
-        found.get_str("port")?,
-        found.get_str("connections")?,
-    )
-}
-
-// The command of a plain word and both options, the port first.
+// The command of a plain word and two others, the port first.
 fn read_serve_words(
     alloc: Global,
     dataset: &str,
@@ -64,31 +49,20 @@ fn read_serve_words(
     connections: &str,
 ) -> Result<Option<Command>, AllocError>
     requires dataset { IsTrue (is_plain dataset.now) }
-    requires port { IsTrue (is_some (value_after (codes "--port=") port.now)) }
-    requires connections { IsTrue (is_some (value_after (codes "--connections=") connections.now)) }
     ensures { IfOk result (λ command. command ≡ serve_of (short_name dataset.now)
         (option_and_then port_number (value_after (codes "--port=") port.now))
         (option_and_then connection_count (value_after (codes "--connections=") connections.now))) }
 {
-    let words = ["serve", dataset, port, connections];
-    match parse(serve_parser(alloc)?, &words)? {
-        Some(found) => Ok(take_serve_found(&found)),
-        None => Ok(None),
+    if !is_option(port, "--port=") {
+        return Ok(None);
     }
-}
-
-// Whether a word is `--port=P`, whatever stands in the place of P,
-fn is_port_option(word: &str) -> bool
-    ensures { result ≡ is_some (value_after (codes "--port=") word.now) }
-{
-    word.as_bytes().starts_with(b"--port=")
-}
-
-// or `--connections=N`.
-fn is_connections_option(word: &str) -> bool
-    ensures { result ≡ is_some (value_after (codes "--connections=") word.now) }
-{
-    word.as_bytes().starts_with(b"--connections=")
+    if !is_option(connections, "--connections=") {
+        return Ok(None);
+    }
+    let words = ["serve", dataset, port, connections];
+    let arguments = ("dataset", "port", "connections");
+    let values = find_values(alloc, "serve", arguments, 2, &words)?;
+    Ok(take_serve(values))
 }
 
 // The command of a plain word and two others, in whatever order.
@@ -101,13 +75,11 @@ fn read_serve_options(
     requires dataset { IsTrue (is_plain dataset.now) }
     ensures { IfOk result (λ command. command ≡ serve_options dataset.now first.now second.now) }
 {
-    if is_port_option(first) && is_connections_option(second) {
-        return read_serve_words(alloc, dataset, first, second);
+    if is_option(first, "--port=") {
+        read_serve_words(alloc, dataset, first, second)
+    } else {
+        read_serve_words(alloc, dataset, second, first)
     }
-    if is_port_option(second) && is_connections_option(first) {
-        return read_serve_words(alloc, dataset, second, first);
-    }
-    Ok(None)
 }
 
 /// `serve DATASET --port=P --connections=N`, by its plain words and all others.

@@ -2,16 +2,14 @@
 ghost use Rattle.std.specs.Prelude.{◌≡◌, ◌≤◌, ◌&&◌, ◌||◌, ◌==◌, ◌∷◌, IfOk, IsTrue, Some, length, nat_le, slice_index, is_some, map, not, string_bytes, codes, option_and_then, option_map};
 ghost use Rattle.std.specs.Char.{is_ascii_digit};
 ghost use Rattle.std.specs.List.{list_all};
-ghost use Rattle.std.specs.Option.{option_map_or};
-ghost use Rattle.clap.specs.Words.{first_value, found_of};
+ghost use Rattle.command_line.specs.Parsers.{cutout_by, is_given, write_by};
 ghost use Rattle.command_line.specs.Words.{KeepsLimits, box_of, is_number, is_plain, cutout_line, cutout_of, generate_line, generate_of, line, number, numbered, other_words, plain_words, seed, short_name, value_after, worker_count, workers, write_count, write_line, write_of};
 
 use crate::commands::Command;
-use crate::parsers::{cutout_parser, parse, write_parser};
+use crate::parsers::find_values;
 use crate::resharding::read_reshard;
 use crate::serving::read_serve;
 use crate::verifying::read_verify;
-use clap::ArgMatches;
 use std::alloc::{AllocError, Global};
 use vol_base::{Box3, Name, OutOfMemory};
 
@@ -113,28 +111,15 @@ fn read_worker_count(value: &str) -> Option<u32>
 }
 
 // The arguments of `cutout`.
-fn take_cutout(dataset: &str, key: &str, part: &str) -> Option<Command>
-    ensures { result ≡ cutout_of (short_name dataset.now) (short_name key.now) (box_of part.now) }
+fn take_cutout(values: Option<(&str, &str, &str)>) -> Option<Command>
+    ensures { result ≡ cutout_by (option_map (λ values. (values.0.now, values.1.now, values.2.now)) values.entry) }
 {
+    let (dataset, key, part) = values?;
     Some(Command::Cutout {
         dataset: read_name(dataset)?,
         key: read_name(key)?,
         part: read_box(part)?,
     })
-}
-
-// The arguments that were found for `cutout`.
-fn take_cutout_found(found: &ArgMatches<'_>) -> Option<Command>
-    ensures { result ≡ cutout_of (option_and_then short_name
-        (first_value (found_of found.now) (codes "dataset")))
-        (option_and_then short_name (first_value (found_of found.now) (codes "key")))
-        (option_and_then box_of (first_value (found_of found.now) (codes "box"))) }
-{
-    take_cutout(
-        found.get_str("dataset")?,
-        found.get_str("key")?,
-        found.get_str("box")?,
-    )
 }
 
 // The command of three plain words.
@@ -151,10 +136,8 @@ fn read_cutout_words(
         (box_of part.now)) }
 {
     let words = ["cutout", dataset, key, part];
-    match parse(cutout_parser(alloc)?, &words)? {
-        Some(found) => Ok(take_cutout_found(&found)),
-        None => Ok(None),
-    }
+    let values = find_values(alloc, "cutout", ("dataset", "key", "box"), 0, &words)?;
+    Ok(take_cutout(values))
 }
 
 // `cutout DATASET KEY BOX`.
@@ -173,83 +156,43 @@ fn read_cutout(
     }
 }
 
-// N of `--workers=N`, or 1.
-fn take_workers(value: Option<&str>) -> Option<u32>
-    ensures { result ≡ option_map_or worker_count (option_map (λ word. word.now) value.entry) (Some 1) }
-{
-    match value {
-        Some(value) => read_worker_count(value),
-        None => Some(1),
-    }
-}
-
 // The arguments of `write`.
-fn take_write(dataset: &str, key: &str, workers: Option<&str>) -> Option<Command>
-    ensures { result ≡ write_of (short_name dataset.now) (short_name key.now)
-        (option_map_or worker_count (option_map (λ word. word.now) workers.entry) (Some 1)) }
+fn take_write(values: Option<(&str, &str, &str)>) -> Option<Command>
+    ensures { result ≡ write_by (option_map (λ values. (values.0.now, values.1.now, values.2.now)) values.entry) }
 {
+    let (dataset, key, workers) = values?;
     Some(Command::Write {
         dataset: read_name(dataset)?,
         key: read_name(key)?,
-        workers: take_workers(workers)?,
+        workers: read_worker_count(workers)?,
     })
 }
 
-// The arguments that were found for `write`.
-fn take_write_found(found: &ArgMatches<'_>) -> Option<Command>
-    ensures { result ≡ write_of (option_and_then short_name
-        (first_value (found_of found.now) (codes "dataset")))
-        (option_and_then short_name (first_value (found_of found.now) (codes "key")))
-        (option_map_or worker_count (first_value (found_of found.now) (codes "workers")) (Some 1)) }
+/// Whether a word is an option with a value: `--name=` with something behind it.
+pub(crate) fn is_option(word: &str, option: &str) -> bool
+    ensures { result ≡ is_given (value_after option.now word.now) }
 {
-    take_write(
-        found.get_str("dataset")?,
-        found.get_str("key")?,
-        found.get_str("workers"),
-    )
-}
-
-// The command of two plain words.
-fn read_write_words(alloc: Global, dataset: &str, key: &str) -> Result<Option<Command>, AllocError>
-    requires dataset { IsTrue (is_plain dataset.now) }
-    requires key { IsTrue (is_plain key.now) }
-    ensures { IfOk result (λ command. command ≡ write_of (short_name dataset.now) (short_name key.now)
-        (Some 1)) }
-{
-    let words = ["write", dataset, key];
-    match parse(write_parser(alloc)?, &words)? {
-        Some(found) => Ok(take_write_found(&found)),
-        None => Ok(None),
-    }
-}
-
-// Whether a word is `--workers=N`, whatever stands in the place of N.
-fn is_workers_option(word: &str) -> bool
-    ensures { result ≡ is_some (value_after (codes "--workers=") word.now) }
-{
-    word.as_bytes().starts_with(b"--workers=")
+    option.len() < word.len() && word.as_bytes().starts_with(option.as_bytes())
 }
 
 // The command of two plain words and another word.
-fn read_write_option(
+fn read_write_words(
     alloc: Global,
     dataset: &str,
     key: &str,
-    option: &str,
+    workers: &str,
 ) -> Result<Option<Command>, AllocError>
     requires dataset { IsTrue (is_plain dataset.now) }
     requires key { IsTrue (is_plain key.now) }
     ensures { IfOk result (λ command. command ≡ write_of (short_name dataset.now) (short_name key.now)
-        (option_and_then worker_count (value_after (codes "--workers=") option.now))) }
+        (option_and_then worker_count (value_after (codes "--workers=") workers.now))) }
 {
-    if !is_workers_option(option) {
+    if !is_option(workers, "--workers=") {
         return Ok(None);
     }
-    let words = ["write", dataset, key, option];
-    match parse(write_parser(alloc)?, &words)? {
-        Some(found) => Ok(take_write_found(&found)),
-        None => Ok(None),
-    }
+    let words = ["write", dataset, key, workers];
+    let values = find_values(alloc, "write", ("dataset", "key", "workers"), 1, &words)?;
+    Ok(take_write(values))
 }
 
 /// The command of two plain words and of all others.
@@ -266,8 +209,8 @@ pub(crate) fn read_write_others(
         (workers (map (λ word. word.now) others.now))) }
 {
     match others {
-        [] => read_write_words(alloc, dataset, key),
-        [option] => read_write_option(alloc, dataset, key, option),
+        [] => read_write_words(alloc, dataset, key, "--workers=1"),
+        [workers] => read_write_words(alloc, dataset, key, workers),
         [_, _, ..] => Ok(None),
     }
 }
@@ -407,164 +350,5 @@ pub fn read_words(alloc: Global, words: &[String]) -> Result<Option<Command>, Ou
             Ok(found)
         }
         Err(_) => Err(OutOfMemory),
-    }
-}
-
-#[cfg(test)]
-mod tests {
-    use super::*;
-    use std::test::Fail;
-
-    #[derive(Clone, Copy, Debug, PartialEq, Eq)]
-    enum Spelled {
-        Nothing,
-        Cutout,
-        Write(u32),
-        Generate(u32, u32, u32),
-        Verify(bool),
-        Reshard(u32),
-        Serve(u16, u32),
-    }
-
-    // What a line spells, whose words stand apart by one blank each.
-    fn meaning_of(alloc: Global, text: &str) -> Result<Spelled, Fail> {
-        let mut words = Vec::new(alloc);
-        for word in text.split(' ') {
-            words.push(String::from_str(alloc, word)?)?;
-        }
-        match read_words(alloc, &words)? {
-            None => Ok(Spelled::Nothing),
-            Some(Command::Cutout { .. }) => Ok(Spelled::Cutout),
-            Some(Command::Write { workers, .. }) => Ok(Spelled::Write(workers)),
-            Some(
-                Command::Generate {
-                    number,
-                    writes,
-                    workers,
-                    ..
-                },
-            ) => Ok(Spelled::Generate(number, writes, workers)),
-            Some(Command::Reshard { workers, .. }) => Ok(Spelled::Reshard(workers)),
-            Some(Command::Verify { part, .. }) => Ok(Spelled::Verify(part.is_some())),
-            Some(
-                Command::Serve {
-                    port,
-                    connections,
-                    ..
-                },
-            ) => Ok(Spelled::Serve(port, connections)),
-        }
-    }
-
-    #[test]
-    fn reads_the_lines_of_the_usage(rt: HostRuntime) -> Result<(), Fail> {
-        let alloc = rt.alloc();
-        for (text, wanted) in [
-            ("cutout d s [0:4,0:4,0:4]", Spelled::Cutout),
-            ("cutout a/b.c-d_1 8_8_40 [-3:1,0:1,0:1]", Spelled::Cutout),
-            ("cutout d s [0:1,0:1]", Spelled::Nothing),
-            ("cutout d ../s [0:1,0:1,0:1]", Spelled::Nothing),
-            ("cutout d s [0:1,0:1,0:1] x", Spelled::Nothing),
-            ("cutout d s [0:1,0:1,0:1] --workers=1", Spelled::Nothing),
-            ("cutout -d s [0:1,0:1,0:1]", Spelled::Nothing),
-            ("cutout d s", Spelled::Nothing),
-            ("write d s", Spelled::Write(1)),
-            ("write d s --workers=16", Spelled::Write(16)),
-            ("write --workers=2 d s", Spelled::Write(2)),
-            ("write d --workers=9 s", Spelled::Write(9)),
-            ("write d s --workers=0", Spelled::Nothing),
-            ("write d s --workers=17", Spelled::Nothing),
-            ("write d s --workers=01", Spelled::Nothing),
-            ("write d s --workers=+1", Spelled::Nothing),
-            ("write d s --workers=11111111111", Spelled::Nothing),
-            ("write d s --workers=1 --workers=1", Spelled::Nothing),
-            ("write d s --workers=", Spelled::Nothing),
-            ("write d s --workers", Spelled::Nothing),
-            ("write d s --workers 1", Spelled::Nothing),
-            ("write d s --port=1", Spelled::Nothing),
-            ("write d s --help", Spelled::Nothing),
-            ("write d s -h", Spelled::Nothing),
-            ("write d s --", Spelled::Nothing),
-            ("write -- d s", Spelled::Nothing),
-            ("write d s -", Spelled::Nothing),
-            ("write d s x", Spelled::Nothing),
-            ("write d  s", Spelled::Nothing),
-            ("write d", Spelled::Nothing),
-            ("generate d s 7 200", Spelled::Generate(7, 200, 1)),
-            ("generate d s 0 0", Spelled::Generate(0, 0, 1)),
-            (
-                "generate d s 2147483647 4096 --workers=3",
-                Spelled::Generate(2147483647, 4096, 3),
-            ),
-            (
-                "generate --workers=16 d s 7 200",
-                Spelled::Generate(7, 200, 16),
-            ),
-            ("generate d s 2147483648 1", Spelled::Nothing),
-            ("generate d s 1 4097", Spelled::Nothing),
-            ("generate d s 01 1", Spelled::Nothing),
-            ("generate d s 1 -1", Spelled::Nothing),
-            ("generate d s 1", Spelled::Nothing),
-            ("generate d s 1 2 3", Spelled::Nothing),
-            ("generate d ../s 1 2", Spelled::Nothing),
-            ("generate d s 1 2 --workers=17", Spelled::Nothing),
-            ("generate d s 1 2 --port=1", Spelled::Nothing),
-            ("generate d s 1 2 --workers=1 --workers=1", Spelled::Nothing),
-            ("reshard d s e t", Spelled::Reshard(1)),
-            ("reshard d s d t --workers=4", Spelled::Reshard(4)),
-            ("reshard d s e", Spelled::Nothing),
-            ("reshard d s e t u", Spelled::Nothing),
-            ("reshard d s e ../t", Spelled::Nothing),
-            ("reshard d s ../e t", Spelled::Nothing),
-            ("reshard d s e t --workers=0", Spelled::Nothing),
-            ("verify d s", Spelled::Verify(false)),
-            ("verify d s [0:4,0:4,0:4]", Spelled::Verify(true)),
-            ("verify d s [0:4,0:4]", Spelled::Nothing),
-            ("verify d s [0:4,0:4,0:4] x", Spelled::Nothing),
-            ("verify d", Spelled::Nothing),
-            ("verify d ../s", Spelled::Nothing),
-            ("verify d s --workers=1", Spelled::Nothing),
-            ("verify d s [0:4,0:4,0:4] --workers=1", Spelled::Nothing),
-            ("serve d --port=80 --connections=1", Spelled::Serve(80, 1)),
-            (
-                "serve --connections=65536 d --port=0",
-                Spelled::Serve(0, 65536),
-            ),
-            (
-                "serve d --port=65535 --connections=2",
-                Spelled::Serve(65535, 2),
-            ),
-            ("serve d --port=65536 --connections=2", Spelled::Nothing),
-            ("serve d --port=1 --connections=0", Spelled::Nothing),
-            ("serve d --port=1 --connections=65537", Spelled::Nothing),
-            ("serve d --port=1", Spelled::Nothing),
-            ("serve d --connections=1", Spelled::Nothing),
-            ("serve d --port=1 --port=1", Spelled::Nothing),
-            ("serve d --connections=1 --connections=1", Spelled::Nothing),
-            ("serve d --port= --connections=1", Spelled::Nothing),
-            ("serve d --port=1 --connections=", Spelled::Nothing),
-            (
-                "serve d --port=1 --connections=1 --port=1",
-                Spelled::Nothing,
-            ),
-            (
-                "serve d --port=1 --connections=1 --workers=1",
-                Spelled::Nothing,
-            ),
-            ("serve d s --port=1 --connections=1", Spelled::Nothing),
-            ("serve --port=1 --connections=1", Spelled::Nothing),
-            ("serve d --Port=1 --connections=1", Spelled::Nothing),
-            ("help", Spelled::Nothing),
-            ("--workers=1 write d s", Spelled::Nothing),
-            ("", Spelled::Nothing),
-        ] {
-            assert_eq!(rt; meaning_of(alloc, text)?, wanted, "at {text}");
-        }
-        assert!(rt; read_words(alloc, &[])?.is_none());
-        for (len, wanted) in [(200, Spelled::Write(1)), (201, Spelled::Nothing)] {
-            let name = format!(in alloc; "write {:0>len$} s", "d")?;
-            assert_eq!(rt; meaning_of(alloc, name.as_str())?, wanted, "at {len} bytes");
-        }
-        Ok(())
     }
 }

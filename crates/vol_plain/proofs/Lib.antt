@@ -1,9 +1,3 @@
-pub mod Bounds
-pub mod CellSteps
-pub mod ObjectSteps
-pub mod PackedSteps
-pub mod PartSteps
-pub mod SpotSteps
-pub mod SumSteps
-pub mod ValueSteps
-pub mod WrittenSteps
+mod Bounds
+mod KnownScales
+mod ValueSteps

@@ -1,4 +1,1 @@
-pub mod CellParts
 pub mod Objects
-pub mod ShardParts
-pub mod StoredParts

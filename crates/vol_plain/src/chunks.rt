@@ -1,7 +1,7 @@
 //! What the bytes of a cell's chunk are, by the scale's encoding.
-ghost use Rattle.std.specs.Prelude.{◌≡◌, ◌<◌, ◌≤◌, ◌^◌, None, IfOk};
+ghost use Rattle.std.specs.Prelude.{◌≡◌, ◌<◌, ◌≤◌, ◌^◌, None};
 ghost use Rattle.vol_base.specs.Boxes.{Covers, from_begin};
-ghost use Rattle.vol_spec.specs.Encodings.{cell_limit, chunk_fault, encoded, sizes_in, value_at};
+ghost use Rattle.vol_spec.specs.Encodings.{cell_limit, chunk_fault, sizes_in, value_at};
 ghost use Rattle.vol_spec.specs.Grid.{IsCell, cell_box};
 ghost use Rattle.vol_spec.specs.Limits.{rounded};
 ghost use Rattle.vol_spec.specs.SegShapes.{sizes_of};
@@ -10,10 +10,8 @@ ghost use Rattle.vol_spec.specs.declared.encoding.Encoding.TheVariants.{Seg};
 
 use crate::raw::{raw_fault, raw_value};
 use crate::segments::{seg_fault, seg_value};
-use crate::written::seg_bytes;
 use chunk_grid::cell_box;
 use segment_cells::shape_of;
-use std::alloc::{AllocError, Global};
 use vol_base::{Box3, ChunkFault};
 use vol_spec::{Encoding, Scale};
 
@@ -54,21 +52,5 @@ pub(crate) fn find_value(bytes: &[u8], scale: &Scale, cell: [u64; 3], p: [i64; 3
             let z = place_on(&part, p, 2);
             seg_value(bytes, &shape_of(scale, cell, block), x, y, z, c)
         }
-    }
-}
-
-/// The bytes that the values of a cell are stored as: raw chunks as they are.
-pub(crate) fn encode(
-    alloc: Global,
-    scale: &Scale,
-    cell: [u64; 3],
-    raw: &[u8],
-) -> Result<Vec<u8>, AllocError>
-    requires { IsCell scale.now cell }
-    ensures { IfOk result (λ bytes. bytes.items ≡ encoded scale.now cell raw.now) }
-{
-    match scale.encoding {
-        Encoding::Raw => Vec::from_slice(alloc, raw),
-        Encoding::Seg { block } => seg_bytes(alloc, raw, &shape_of(scale, cell, block)),
     }
 }

@@ -80,7 +80,7 @@ fn span_of(
 /// fault on the way to it: of the entry, the index, its rows up to the wanted one, and the chunk,
 /// which has at most `limit` bytes.
 #[tactic(auto, unfolding(vol_spec::specs::FoundChunks::found))]
-pub fn plain_found(
+pub(crate) fn plain_found(
     object: &[u8],
     sharding: &Sharding,
     limit: u64,

@@ -8,8 +8,8 @@ use crate::numbers::read_number;
 use chunk_grid::{byte_len, local_index};
 use vol_base::{Box3, ChunkFault};
 
-/// How many bytes the values of a box have.
-pub(crate) fn raw_len(part: &Box3, channels: u32, width: u32) -> u64
+// How many bytes the values of a box have.
+fn raw_len(part: &Box3, channels: u32, width: u32) -> u64
     requires { IsSmall part.now channels width }
     ensures { result ≡ raw_len part.now channels width }
 {

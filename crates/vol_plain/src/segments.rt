@@ -66,8 +66,8 @@ fn read_bits(bytes: &[u8], a: u64, b: u64, n: u64) -> u64
     index
 }
 
-/// The chunk's size on an axis, in voxels.
-pub(crate) fn get_size(shape: &SegShape, axis: usize) -> u64
+// The chunk's size on an axis, in voxels.
+fn get_size(shape: &SegShape, axis: usize) -> u64
     requires { axis < 3 }
     ensures { result ≡ size (sizes_of shape.now) axis }
 {
@@ -90,8 +90,8 @@ fn count_on(shape: &SegShape, axis: usize) -> u64
     (size + block - 1) / block
 }
 
-/// How many blocks a channel of the chunk has.
-pub(crate) fn count_blocks(shape: &SegShape) -> u64
+// How many blocks a channel of the chunk has.
+fn count_blocks(shape: &SegShape) -> u64
     ensures blocks { result ≡ block_count (sizes_of shape.now) }
     ensures small { result ≤ 2 ^ 24 }
 {
@@ -101,8 +101,8 @@ pub(crate) fn count_blocks(shape: &SegShape) -> u64
     x * y * z
 }
 
-/// How many voxels a block has, padding included.
-pub(crate) fn count_voxels(shape: &SegShape) -> u64
+// How many voxels a block has, padding included.
+fn count_voxels(shape: &SegShape) -> u64
     ensures voxels { result ≡ block_voxels (sizes_of shape.now) }
     ensures small { result ≤ 2 ^ 24 }
 {
@@ -112,8 +112,8 @@ pub(crate) fn count_voxels(shape: &SegShape) -> u64
     x * y * z
 }
 
-/// How many words of four bytes a value has, and so an entry of a table.
-pub(crate) fn count_entry(shape: &SegShape) -> u64
+// How many words of four bytes a value has, and so an entry of a table.
+fn count_entry(shape: &SegShape) -> u64
     ensures { result ≡ entry_words (sizes_of shape.now) }
 {
     if shape.wide { 2 } else { 1 }
@@ -170,8 +170,8 @@ fn find_index(bytes: &[u8], c: u32, k: u64, n: u64) -> u64
     read_bits(bytes, values, bits, n)
 }
 
-/// Where voxel n of block k lies on the axis x, in voxels from the chunk's begin.
-pub(crate) fn find_x(shape: &SegShape, k: u64, n: u64) -> u64
+// Where voxel n of block k lies on the axis x, in voxels from the chunk's begin.
+fn find_x(shape: &SegShape, k: u64, n: u64) -> u64
     requires block { k < block_count (sizes_of shape.now) }
     requires voxel { n < block_voxels (sizes_of shape.now) }
     ensures { result ≡ x_of (sizes_of shape.now) k n }
@@ -180,8 +180,8 @@ pub(crate) fn find_x(shape: &SegShape, k: u64, n: u64) -> u64
     k % count_on(shape, 0) * block + n % block
 }
 
-/// Where voxel n of block k lies on the axis y, in voxels from the chunk's begin.
-pub(crate) fn find_y(shape: &SegShape, k: u64, n: u64) -> u64
+// Where voxel n of block k lies on the axis y, in voxels from the chunk's begin.
+fn find_y(shape: &SegShape, k: u64, n: u64) -> u64
     requires block { k < block_count (sizes_of shape.now) }
     requires voxel { n < block_voxels (sizes_of shape.now) }
     ensures { result ≡ y_of (sizes_of shape.now) k n }
@@ -190,8 +190,8 @@ pub(crate) fn find_y(shape: &SegShape, k: u64, n: u64) -> u64
     k / count_on(shape, 0) % count_on(shape, 1) * block + n / get_block(shape, 0) % block
 }
 
-/// Where voxel n of block k lies on the axis z, in voxels from the chunk's begin.
-pub(crate) fn find_z(shape: &SegShape, k: u64, n: u64) -> u64
+// Where voxel n of block k lies on the axis z, in voxels from the chunk's begin.
+fn find_z(shape: &SegShape, k: u64, n: u64) -> u64
     requires block { k < block_count (sizes_of shape.now) }
     requires voxel { n < block_voxels (sizes_of shape.now) }
     ensures { result ≡ z_of (sizes_of shape.now) k n }
@@ -201,9 +201,9 @@ pub(crate) fn find_z(shape: &SegShape, k: u64, n: u64) -> u64
         + n / get_block(shape, 0) / get_block(shape, 1)
 }
 
-/// Whether voxel n of block k lies in the chunk, and so isn't padding.
+// Whether voxel n of block k lies in the chunk, and so isn't padding.
 #[tactic(auto, unfolding(vol_spec::specs::SegBlocks::in_chunk))]
-pub(crate) fn is_inside(shape: &SegShape, k: u64, n: u64) -> bool
+fn is_inside(shape: &SegShape, k: u64, n: u64) -> bool
     requires block { k < block_count (sizes_of shape.now) }
     requires voxel { n < block_voxels (sizes_of shape.now) }
     ensures { result ≡ in_chunk (sizes_of shape.now) k n }
@@ -356,8 +356,8 @@ fn number_voxel(shape: &SegShape, x: u64, y: u64, z: u64) -> u64
     x % block_x + block_x * (y % block_y + block_y * (z % get_block(shape, 2)))
 }
 
-/// The value of a table's entry that begins at a word.
-pub(crate) fn read_entry(bytes: &[u8], shape: &SegShape, at: u64) -> u64
+// The value of a table's entry that begins at a word.
+fn read_entry(bytes: &[u8], shape: &SegShape, at: u64) -> u64
     requires { at < 2 ^ 36 }
     ensures { result ≡ number (take (width (sizes_of shape.now)) (drop (4 * at) bytes.now)) }
 {

@@ -7,7 +7,7 @@ ghost use Rattle.vol_spec.specs.Grid.{IsCell, cell_box, whole};
 ghost use Rattle.vol_spec.specs.StoredBytes.{held_by, object_of};
 
 use crate::chunks::{find_fault, find_value};
-use crate::plain_found;
+use crate::found::plain_found;
 use chunk_grid::{cell_of, grid, object_name};
 use morton_code::code;
 use segment_cells::chunk_limit;

@@ -1,16 +1,23 @@
-use Rattle.std.proofs.Common.{◌≡◌, ◌∙◌, ◌∷◌, [], None, codes, refl, rules}
-use Rattle.clap.specs.Words.{app_of, found_of, matches_of, rows_of}
-use Rattle.command_line.specs.Parsers.{write_app}
-use Rattle.command_line.proofs.ParserSteps.{takes_as, values_found, write_finds_two, write_takes_two}
+use Rattle.std.proofs.Common.{◌≡◌, ◌∙◌, true, false, ap, codes, option_and_then, sym, rules}
+use Rattle.command_line.specs.Parsers.{is_given, write_by}
+use Rattle.command_line.specs.Words.{short_name, value_after, worker_count, write_of}
+use Rattle.command_line.proofs.LineSteps.{without_value}
+use Rattle.command_line.proofs.ParserSteps.{value_behind, write_finds_word}
 use Rattle.command_line.proofs.words.read_write_words.Goals as goal
 
-pub parse-requires : goal.parse-requires
-parse-requires c = takes_as (app_of c.in_ok-write_parser.field-0) write_app _ c.in_ok-write_parser.ensures (write_takes_two c.args.dataset.now c.args.key.now c.requires.dataset c.requires.key)
+pub returns-then-not-is_option : goal.returns-then-not-is_option
+returns-then-not-is_option c =
+    let no : is_given (value_after (codes "--workers=") c.args.workers.now) ≡ false = search rules in
+    without_value (short_name c.args.dataset.now) (short_name c.args.key.now) (value_after (codes "--workers=") c.args.workers.now) no
 
-pub returns-in-Some : goal.returns-in-Some
-returns-in-Some c =
-    let words = codes "write" ∷ c.args.dataset.now ∷ c.args.key.now ∷ [] in
-    let rows : rows_of (found_of c.in-Some.found) ≡ matches_of (app_of c.in_ok-write_parser.field-0) words = search rules in
-    let values = values_found (found_of c.in-Some.found) (app_of c.in_ok-write_parser.field-0) write_app words c.args.dataset.now c.args.key.now (codes "workers") None c.in_ok-write_parser.ensures rows
-    (write_finds_two c.args.dataset.now c.args.key.now c.requires.dataset c.requires.key) in
-    c.take_write_found.ensures ∙ rw (values.0, values.1, values.2) refl
+pub find_values-requires : goal.find_values-requires
+find_values-requires c =
+    let given : is_given (value_after (codes "--workers=") c.args.workers.now) ≡ true = search rules in
+    (write_finds_word c.args.dataset.now c.args.key.now c.args.workers.now c.requires.dataset c.requires.key given).takes_words
+
+pub returns : goal.returns
+returns c =
+    let given : is_given (value_after (codes "--workers=") c.args.workers.now) ≡ true = search rules in
+    c.take_write.ensures ∙
+    ap write_by (c.in_ok-values.ensures ∙ (write_finds_word c.args.dataset.now c.args.key.now c.args.workers.now c.requires.dataset c.requires.key given).values_are) ∙
+    ap (λ value. write_of (short_name c.args.dataset.now) (short_name c.args.key.now) (option_and_then worker_count value)) (sym (value_behind (codes "--workers=") c.args.workers.now given))
