@@ -1,9 +1,9 @@
 -- The ends of a door, one after the other.
-use Rattle.std.proofs.Common.{◌≡◌, ◌∙◌, ℕ, ◌+◌, ◌<◌, ◌≤◌, List, [], ◌∷◌, ◌++◌, length, length-append, append_assoc, append-nil, Option, Some, None, IfSome, IsSome, option_map, Result, Ok, Err, IfErr, OnOk, inl, inr, ap, sym, refl, subst, arith}
-use Rattle.vol_base.specs.Outside.{Ended, Notes, Objects}
+use Rattle.std.proofs.Common.{◌≡◌, ◌∙◌, ℕ, ◌+◌, ◌<◌, ◌≤◌, List, [], ◌∷◌, ◌++◌, length, length-append, append_assoc, append-nil, Option, Some, None, IfSome, IsSome, is_some, option_map, Result, Ok, Err, IfErr, OnOk, inl, inr, ap, sym, refl, subst, arith}
+use Rattle.vol_base.specs.Outside.{Ended, IsCourse, Notes, Objects}
 use Rattle.range_server.specs.Bodies.{HasServeCause, WhereTold}
 use Rattle.range_server.specs.Replies.{Gained, Served, Stopped}
-use Rattle.range_server.specs.Serving.{AddsBy, AddsEnd, AddsServed, EndServed, EndsBy, EndsServed, GaveBefore}
+use Rattle.range_server.specs.Serving.{AddsBy, AddsEnd, AddsServed, EndServed, EndsBy, EndsServed, GaveBefore, NotesGiven}
 use Rattle.range_server.specs.declared.fault.DoorRefusal.{DoorRefusal}
 use Rattle.range_server.specs.declared.fault.DoorRefusal.TheVariants as refusal
 use Rattle.range_server.specs.declared.fault.ServeFault.{ServeFault}
@@ -35,6 +35,31 @@ module _ (list : List Ended) (given accepted : ℕ) (served after new : Option (
     where
       known : IsSome (Some list)
       known = refl
+
+module _ (list : List Ended) (given accepted accepted_now : ℕ) (served after new : Option (List Ended)) (f : ℕ) (stream stream_now left_now sent_now : Option (List ℕ))
+    (few : IfSome served (λ l. length l ≤ given)) (more : accepted ≡ given + 1) (stands : accepted_now ≡ accepted) (same : after ≡ served) (told : IsSome served → IsSome stream) (stays : stream_now ≡ stream)
+    (course : IsCourse stream_now left_now sent_now) (notes : Notes after accepted stream_now sent_now f new) where
+  -- an end that was closed is noted, whatever was sent to it
+  pub noted_one : served ≡ Some list → (ends : List Ended) × (new ≡ Some (list ++ ends)) × (accepted_now ≡ given + length ends)
+  noted_one is =
+      let some = told_some stream (told (subst IsSome (sym is) known)) in
+      let sent = told_some sent_now (course.sent_told ∙ ap is_some (stays ∙ some.1)) in
+      let least : length list ≤ given = subst (λ o. IfSome o (λ l. length l ≤ given)) is few in
+      let below : length list < accepted = omega (arith, least, more) in
+      ((some.0, sent.0, f) ∷ [], noted list accepted f some.0 sent.0 after new stream_now sent_now (same ∙ is) below (stays ∙ some.1) sent.1 notes, omega (arith, more, stands))
+    where
+      known : IsSome (Some list)
+      known = refl
+
+pub noted_none : (served : Option (List Ended)) (given : ℕ) → NotesGiven served served given given
+noted_none served given = λ list is. ([], is ∙ ap Some (sym (append-nil list)), omega arith)
+
+-- the ends of two calls, one after the other
+pub noted_more : (served mid now : Option (List Ended)) (given given_mid given_now : ℕ) → NotesGiven served mid given given_mid → NotesGiven mid now given_mid given_now → NotesGiven served now given given_now
+noted_more served mid now given given_mid given_now first second = λ list is.
+    let a = first list is in
+    let b = second (list ++ a.0) a.1 in
+    (a.0 ++ b.0, b.1 ∙ ap Some (append_assoc list a.0 b.0), omega (arith, a.2, b.2, length-append a.0 b.0))
 
 module _ (m : Objects) (dataset : List ℕ) (before now : ℕ) (objects : Option Objects) (left sent sent_now : Option (List ℕ)) (told : objects ≡ Some m) (s : List ℕ) (is : left ≡ Some s) where
   -- an end amid which memory ran out

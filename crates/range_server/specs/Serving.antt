@@ -2,6 +2,7 @@
 use Rattle.std.specs.Prelude.{◌≡◌, ◌<◌, ◌≤◌, ◌⊎◌, ◌+◌, ℕ, List, [], ◌∷◌, ◌++◌, length, Option, Some}
 use Rattle.vol_base.specs.Causes.{Rose}
 use Rattle.vol_base.specs.Outside.{Ended, Objects}
+use Rattle.range_server.specs.Bodies.{WhereTold}
 use Rattle.range_server.specs.Replies.{AreReplies, Served, Stopped}
 use Rattle.range_server.specs.declared.fault.DoorRefusal.{DoorRefusal}
 use Rattle.range_server.specs.declared.fault.DoorRefusal.TheVariants as refusal
@@ -43,6 +44,11 @@ module _ (objects : Objects) (dataset : List ℕ) where
 -- a door noted one end more
 abbrev pub AddsEnd : List Ended → Option (List Ended) → (Ended → Type 0) → Type 0
 AddsEnd list served Is = (end : Ended) × (served ≡ Some (list ++ end ∷ [])) × Is end
+
+-- a door noted as many ends as it gave
+abbrev pub NotesGiven : Option (List Ended) → Option (List Ended) → ℕ → ℕ → Type 0
+NotesGiven served now given given_now = WhereTold served (λ list. (ends : List Ended) ×
+    (now ≡ Some (list ++ ends)) × (given_now ≡ given + length ends))
 
 -- how many ends a door gave in a call that ended with a refusal, which at OutOfMemory came amid the last of them
 abbrev pub GaveBefore : DoorRefusal → ℕ → ℕ → ℕ → Type 0

@@ -3,7 +3,7 @@ ghost use Rattle.std.specs.Prelude.{◌≡◌, ◌≢◌, ◌+◌, ◌≤◌, �
 ghost use Rattle.vol_base.specs.Causes.{Rose};
 ghost use Rattle.vol_base.specs.Outside.{Ended, OnlyReads};
 ghost use Rattle.range_server.specs.Bodies.{WhereTold};
-ghost use Rattle.range_server.specs.Serving.{AddsBy, AddsEnd, AddsServed, EndServed, EndsBy, GaveBefore};
+ghost use Rattle.range_server.specs.Serving.{AddsBy, AddsEnd, AddsServed, EndServed, EndsBy, GaveBefore, NotesGiven};
 ghost use Rattle.range_server.specs.declared.fault.DoorRefusal.TheVariants.{DoorFault};
 ghost use Rattle.range_server.specs.declared.fault.ServeFault.TheVariants.{OutOfMemory};
 
@@ -39,6 +39,8 @@ fn serve_end<D: Door, S: Source>(
     ensures accepted { OnOk result (D.accepted door.new ≡ D.accepted door.old + 1) }
     ensures refused { IfErr result (λ refusal. GaveBefore refusal 1 (D.accepted door.old)
         (D.accepted door.new)) }
+    ensures noted { NotesGiven (D.served door.old) (D.served door.new) (D.accepted door.old)
+        (D.accepted door.new) }
     ensures bound { D.bound door.new ≡ D.bound door.old }
     ensures kept { OnlyReads (S.objects store.old) (S.objects store.new) (S.draft store.old)
         (S.draft store.new) }
@@ -80,6 +82,8 @@ pub fn serve_ends<D: Door, S: Source>(
     ensures accepted { OnOk result (D.accepted door.new ≡ D.accepted door.old + connections) }
     ensures refused { IfErr result (λ refusal. GaveBefore refusal connections (D.accepted door.old)
         (D.accepted door.new)) }
+    ensures noted { NotesGiven (D.served door.old) (D.served door.new) (D.accepted door.old)
+        (D.accepted door.new) }
     ensures bound { D.bound door.new ≡ D.bound door.old }
     ensures kept { OnlyReads (S.objects store.old) (S.objects store.new) (S.draft store.old)
         (S.draft store.new) }

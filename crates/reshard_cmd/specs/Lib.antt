@@ -1,2 +1,5 @@
+pub mod Copying
 pub mod Judging
+pub mod Lines
+pub mod Refusals
 pub mod Resharding

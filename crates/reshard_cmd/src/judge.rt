@@ -2,13 +2,12 @@
 ghost use Rattle.std.specs.Prelude.{◌≡◌, ◌≤◌, ◌↔◌, IfErr, IfSome, IsTrue, MatchOption, Err, length};
 ghost use Rattle.vol_base.specs.Causes.{Rose};
 ghost use Rattle.vol_base.specs.Outside.{HaveBytes, OnlyReads};
-ghost use Rattle.vol_spec.specs.CellNames.{folder_of};
 ghost use Rattle.vol_spec.specs.Copies.{AreOfOneVolume};
 ghost use Rattle.write_plan.specs.Pairs.{cell_count};
 ghost use Rattle.reshard_cmd.specs.Judging.{DiffersFirst, IsOfFolder, IsOfScales, Judges, JudgesFolder, too_many};
 
 use crate::ReshardFault;
-use chunk_grid::{count_cells, whole};
+use chunk_grid::{count_cells, find_folder, whole};
 use info_doc::Item;
 use vol_base::{Name, Store};
 use vol_spec::Scale;
@@ -85,14 +84,6 @@ pub(crate) fn judge_scales(from: &Scale, to: &Scale) -> Result<(), ReshardFault>
     }
 }
 
-// The folder of a scale.
-fn find_folder(dataset: &Name, scale: &Scale) -> Name
-    requires { length dataset.now ≤ 200 }
-    ensures { result ≡ folder_of dataset.now scale.now }
-{
-    dataset.join(&scale.key).unwrap()
-}
-
 /// Refuses a scale in whose folder some object is.
 pub(crate) fn judge_folder<S: Store>(
     store: &mut S,
@@ -108,8 +99,7 @@ pub(crate) fn judge_folder<S: Store>(
     ensures later { S.faults store.old ≤ S.faults store.new }
     ensures fault { result ≡ Err ReshardFault.StoreFault → Rose (S.faults store.old) (S.faults store.new) }
 {
-    let folder = find_folder(dataset, scale);
-    match store.any_under(&folder) {
+    match store.any_under(&find_folder(dataset, scale)) {
         Ok(false) => Ok(()),
         Ok(true) => Err(ReshardFault::NotEmpty),
         Err(_) => Err(ReshardFault::StoreFault),

@@ -1,11 +1,17 @@
-//! The copy of a scale into another layout.
+//! The copy of a scale into another layout, and the command `reshard` over it.
 #![tactic(auto)]
 
+mod command;
 mod copying;
 mod fault;
 mod judge;
+mod lines;
+mod refusal;
+mod report;
 #[cfg(test)]
 mod tests;
 
+pub use command::run_reshard;
 pub use copying::reshard;
 pub use fault::ReshardFault;
+pub use refusal::ReshardRefusal;

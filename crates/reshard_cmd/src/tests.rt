@@ -1,8 +1,9 @@
-//! A small copy, worked out by hand, and what is refused.
+//! A small copy, worked out by hand.
 ghost use Rattle.std.specs.Prelude.{◌≤◌, length};
 
+mod commands;
+
 use crate::{ReshardFault, reshard};
-use info_doc::Item;
 use shard_writer::Written;
 use small_scales::{raw_scale, short_name};
 use std::alloc::Global;
@@ -10,8 +11,8 @@ use std::process::Abort;
 use std::sync::Wait;
 use std::test::Fail;
 use std::thread::Threads;
-use vol_base::{ChunkFault, Fault, FreeGate, MemoryStore, Name};
-use vol_spec::{Encoding, HashKind, Scale, Sharding};
+use vol_base::{FreeGate, MemoryStore, Name};
+use vol_spec::{ChunkSizes, Encoding, HashKind, Scale, Sharding};
 
 // A row of so many voxels of four bytes, each in a cell of its own.
 fn row_scale(rt: &impl Abort, voxels: u64) -> Scale {
@@ -42,13 +43,11 @@ fn sharded_scale(key: Name, sharding: Sharding) -> Scale
         chunk: [1; 3],
         encoding: Encoding::Seg { block: [1; 3] },
         sharding: Some(sharding),
+        more: ChunkSizes::none(),
     }
 }
 
 const FIRST: (&[u8], &[u8]) = (b"d/s/0-1_0-1_0-1", &[7, 0, 0, 0]);
-
-// A byte is missing.
-const SHORT: (&[u8], &[u8]) = (b"d/s/1-2_0-1_0-1", &[7, 0, 0]);
 
 // The entry, the chunk of the first voxel, and the index.
 const SHARD: [u8; 56] = [
@@ -115,64 +114,6 @@ fn copies_into_a_shard(rt: HostRuntime) -> Result<(), Fail> {
         Ok(WRITTEN),
         Some(&SHARD),
     )
-}
-
-#[test]
-fn tells_a_damaged_cell(rt: HostRuntime) -> Result<(), Fail> {
-    let alloc = rt.alloc();
-    let to = sharded_scale(short_name(b"s").expect(&rt, "a key"), one_shard());
-    let mut store = store_of(&rt, alloc, &[FIRST, SHORT], NONE_FAILS)?;
-    let fault = ChunkFault::ChunkLength {
-        found: 3,
-        wanted: 4,
-    };
-    let damaged = ReshardFault::Damaged {
-        cell: [1, 0, 0],
-        fault: Fault::Chunk(fault),
-    };
-    check(
-        &rt,
-        alloc,
-        &mut store,
-        &row_scale(&rt, 2),
-        b"e",
-        &to,
-        Err(damaged),
-        None,
-    )
-}
-
-#[test]
-fn refuses_other_volumes_and_full_folders(rt: HostRuntime) -> Result<(), Fail> {
-    let alloc = rt.alloc();
-    let from = row_scale(&rt, 2);
-    let mut store = store_of(&rt, alloc, &[FIRST], NONE_FAILS)?;
-    let differs = ReshardFault::Differs { item: Item::Size };
-    let other = row_scale(&rt, 3);
-    check(
-        &rt,
-        alloc,
-        &mut store,
-        &from,
-        b"e",
-        &other,
-        Err(differs),
-        None,
-    )?;
-    let large = row_scale(&rt, 4194305);
-    let many = ReshardFault::TooManyCells { cells: 4194305 };
-    check(
-        &rt,
-        alloc,
-        &mut store,
-        &large,
-        b"e",
-        &large,
-        Err(many),
-        None,
-    )?;
-    let full = ReshardFault::NotEmpty;
-    check(&rt, alloc, &mut store, &from, b"d", &from, Err(full), None)
 }
 
 // The first call that fails, of any kind, is told, and leaves no shard.

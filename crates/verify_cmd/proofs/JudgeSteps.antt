@@ -16,13 +16,13 @@ use Rattle.vol_spec.specs.declared.scale.Scale.{Scale}
 use Rattle.vol_spec.specs.declared.sharding.Sharding.{Sharding}
 use Rattle.shard_reader.specs.declared.bytes.LookupFault.{LookupFault}
 use Rattle.shard_reader.specs.declared.bytes.LookupFault.TheVariants.{NotRead as Unread, Faulty}
-use Rattle.index_judge.specs.Judging.{Says, wrong_in}
+use Rattle.index_judge.specs.Judging.{Says, judged_as, wrong_in}
 use Rattle.index_judge.specs.Knowing.{Knows, KnowsNothing}
 use Rattle.index_judge.specs.declared.fault.JudgeFault.{JudgeFault}
 use Rattle.index_judge.specs.declared.fault.JudgeFault.TheVariants.{NotRead, Damaged, Misplaced}
 use Rattle.index_judge.specs.declared.judge.IndexJudge.{IndexJudge}
 use Rattle.verify_cmd.specs.Judges.{KnowsBy, KnowsIndexes}
-use Rattle.verify_cmd.specs.Verifying.{Finds, JudgesCell, index_of_cell, judged_as}
+use Rattle.verify_cmd.specs.Verifying.{Finds, JudgesCell, index_of_cell}
 
 -- the index of a cell, by a sharding or none
 abbrev index_by : Option Sharding → Objects → Name → Scale → Cell → Option Wrong

@@ -2,3 +2,4 @@ pub mod FindSteps
 pub mod JudgeSteps
 pub mod PartSteps
 pub mod ServeSteps
+pub mod VerifySteps

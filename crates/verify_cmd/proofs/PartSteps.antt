@@ -1,17 +1,19 @@
 -- Judging the cells of a part, one cell on.
 use Rattle.std.proofs.Common.{◌≡◌, ◌↔◌, ◌≤◌, ◌+◌, Bool, true, false, List, [], ◌∷◌, ◌++◌, map, filter, length, Option, Some, None, Result, Ok, Err, refl, ap, ◌∙◌, sym, subst, arith}
-use Rattle.std.specs.Prelude.{All}
+use Rattle.std.specs.Prelude.{All, Contains}
 use Rattle.std.specs.List.{AllByRecursion}
 use Rattle.std.specs.Option.{option_map}
 use Rattle.std.proofs.lemmas.List.{length-append, map-append}
-use Rattle.std.proofs.lemmas.List.Elements.{All-from_recursion, All-push, All-weaker, filter-append, recursion_from_All}
+use Rattle.std.proofs.lemmas.List.Elements.{All-contains, All-contains_itself, All-from_recursion, All-push, All-weaker, filter-append, recursion_from_All}
 use Rattle.vol_base.specs.declared.boxes.Box3.{Box3}
+use Rattle.vol_base.specs.Boxes.{Within}
 use Rattle.vol_base.specs.Outside.{Objects}
+use Rattle.chunk_grid.proofs.ListingSteps.{cells_in-Contains, cells_in-IsCell, cells_in-Meets}
 use Rattle.vol_spec.proofs.Firsts.{first_some-append}
 use Rattle.vol_spec.specs.BoxValues.{first_some}
 use Rattle.vol_spec.specs.Chunks.{chunk_in, fault_in}
 use Rattle.vol_spec.specs.Cut.{faulty, first_fault}
-use Rattle.vol_spec.specs.Grid.{cells_in}
+use Rattle.vol_spec.specs.Grid.{IsCell, Meets, cells_in}
 use Rattle.vol_spec.specs.Types.{Cell, Name}
 use Rattle.vol_spec.specs.Verdicts.{Sound, Wrong, judge}
 use Rattle.vol_spec.specs.Verdicts.Wrong.{Damaged as DamagedBy, Misplaced as MisplacedAt}
@@ -19,6 +21,7 @@ use Rattle.vol_spec.specs.declared.scale.Scale.{Scale}
 use Rattle.index_judge.specs.declared.fault.JudgeFault.{JudgeFault}
 use Rattle.index_judge.specs.declared.fault.JudgeFault.TheVariants.{NotRead, Damaged, Misplaced}
 use Rattle.verify_cmd.specs.Counting.{counted}
+use Rattle.verify_cmd.specs.Verified.{IsUndamaged}
 use Rattle.verify_cmd.specs.Verifying.{JudgesCell, Verifies, IsReport, first_wrong, flawed, found_at, is_absent, is_stored}
 use Rattle.verify_cmd.specs.declared.fault.VerifyFault.{VerifyFault}
 use Rattle.verify_cmd.specs.declared.report.Report.{Report}
@@ -135,7 +138,20 @@ unfolding first_fault
 first_fault-is m dataset s b = refl
 
 -- and then none is damaged
-pub sound_whole : (m : Objects) (dataset : Name) (s : Scale) (b : Box3) → Sound m dataset s b → first_fault m dataset s b ≡ None
+sound_whole : (m : Objects) (dataset : Name) (s : Scale) (b : Box3) → Sound m dataset s b → first_fault m dataset s b ≡ None
 sound_whole m dataset s b sound =
     first_fault-is m dataset s b
     ∙ no_first (fault_in m dataset s) (cells_in s b) (All-weaker (λ cell. judge m dataset s cell ≡ None) (λ cell. fault_in m dataset s cell ≡ None) (λ cell. sound_chunk m dataset s cell) (cells_in s b) sound)
+
+-- each box inside a part that is sound is so too
+sound_inside : (m : Objects) (dataset : Name) (s : Scale) (part b : Box3) → Within b part → Sound m dataset s part → Sound m dataset s b
+sound_inside m dataset s part b within sound =
+    All-weaker (Contains (cells_in s b)) (λ cell. judge m dataset s cell ≡ None)
+    (λ cell here.
+    let meets : Meets s cell b = All-contains (λ c. Meets s c b) (cells_in s b) cell (cells_in-Meets s b) here in
+    All-contains (λ c. judge m dataset s c ≡ None) (cells_in s part) cell sound
+    (cells_in-Contains s part cell (All-contains (IsCell s) (cells_in s b) cell (cells_in-IsCell s b) here) (meets.0, meets.1, within meets.0 meets.2)))
+    (cells_in s b) (All-contains_itself (cells_in s b))
+
+pub sound_undamaged : (m : Objects) (dataset : Name) (s : Scale) (part : Box3) → Sound m dataset s part → IsUndamaged m dataset s part
+sound_undamaged m dataset s part sound = λ b within. sound_whole m dataset s b (sound_inside m dataset s part b within sound)

@@ -41,10 +41,6 @@ Finds (Ok false) seen = seen ≡ Ok None
 Finds (Err (Faulty fault)) seen = seen ≡ Err fault
 Finds (Err Unread) seen = Unit {0}
 
-abbrev pub judged_as : LookupFault → JudgeFault
-judged_as Unread = judging.NotRead
-judged_as (Faulty fault) = judging.Damaged fault
-
 -- what is wrong with the index that has the chunk of a cell
 abbrev pub index_of_cell : Objects → Name → Scale → Cell → Option Wrong
 index_of_cell m dataset s cell = index_wrong s.sharding (id_of s cell) (fin.get m (object_of dataset s cell))

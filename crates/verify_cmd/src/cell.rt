@@ -6,50 +6,19 @@ ghost use Rattle.vol_spec.specs.Grid.{IsCell};
 ghost use Rattle.vol_spec.specs.StoredBytes.{object_of};
 ghost use Rattle.std.specs.FinMap as map;
 ghost use Rattle.index_judge.specs.Judging.{Says};
-ghost use Rattle.cutout.specs.Opened.{values_room};
-ghost use Rattle.verify_cmd.specs.Verifying.{JudgesCell, index_of_cell, judged_as};
+ghost use Rattle.verify_cmd.specs.Verifying.{JudgesCell, index_of_cell};
 
 use crate::chunk::judge_chunk;
 use chunk_grid::grid;
-use chunk_pool::{Frame, Pool};
+use chunk_pool::Frame;
+use cutout::values_limit;
 use index_judge::{IndexJudge, JudgeFault};
 use morton_code::code;
 use shard_index::place;
-use shard_reader::{LookupFault, ShardReader, WINDOW_LEN};
+use shard_reader::{ShardReader, WINDOW_LEN};
 use std::alloc::Global;
 use vol_base::{Name, OutOfMemory, Source};
-use vol_spec::{Encoding, Scale};
-
-// A frame of so many bytes.
-fn reserve_frame(alloc: Global, len: u64) -> Result<Frame, OutOfMemory>
-    ensures { IfOk result (λ frame. length frame.bytes ≡ len) }
-{
-    let mut pool = Pool::reserve(alloc, 1, len)?;
-    match pool.take() {
-        Some(frame) => Ok(frame),
-        None => unreachable!(),
-    }
-}
-
-// How many bytes of values are decoded at once: none where chunks have their values as they are.
-fn values_limit(scale: &Scale) -> u64
-    ensures { result ≡ values_room scale.now }
-{
-    match scale.encoding {
-        Encoding::Raw => 0,
-        Encoding::Seg { .. } => scale.raw_limit(),
-    }
-}
-
-// What a look-up finds wrong.
-fn lookup_fault(fault: LookupFault) -> JudgeFault
-    ensures { result ≡ judged_as fault }
-{
-    match fault {
-        LookupFault::NotRead => JudgeFault::NotRead,
-        LookupFault::Faulty(fault) => JudgeFault::Damaged(fault),
-    }
-}
+use vol_spec::Scale;
 
 /// Judges the cells of a scale, one after the other, with memory for the longest chunk and a byte more, for
 /// the values of a chunk that is decoded, and for rows of indexes. What it keeps and remembers of indexes is
@@ -69,9 +38,9 @@ impl CellJudge {
     pub(crate) fn reserve(alloc: Global, scale: &Scale) -> Result<CellJudge, OutOfMemory>
         ensures { IfOk result (IsFresh scale.now) }
     {
-        let chunk = reserve_frame(alloc, scale.chunk_limit() + 1)?;
-        let values = reserve_frame(alloc, values_limit(scale))?;
-        let window = reserve_frame(alloc, WINDOW_LEN)?;
+        let chunk = Frame::alone(alloc, scale.chunk_limit() + 1)?;
+        let values = Frame::alone(alloc, values_limit(scale))?;
+        let window = Frame::alone(alloc, WINDOW_LEN)?;
         let indexes = IndexJudge::reserve(alloc)?;
         Ok(CellJudge {
             indexes,
@@ -136,7 +105,7 @@ impl CellJudge {
         let values = self.values.room();
         match judge_chunk(&mut self.shards, store, dataset, scale, cell, chunk, values) {
             Ok(is_stored) => Ok(is_stored),
-            Err(fault) => Err(lookup_fault(fault)),
+            Err(fault) => Err(JudgeFault::from(fault)),
         }
     }
 }

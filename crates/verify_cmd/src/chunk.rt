@@ -1,86 +1,23 @@
 //! The chunk of a cell, read and judged.
-ghost use Rattle.std.specs.Prelude.{◌≡◌, ◌+◌, ◌<◌, ◌≤◌, ◌^◌, length, Err, IfOk, IfSome, None};
-ghost use Rattle.std.specs.FinMap as map;
+ghost use Rattle.std.specs.Prelude.{◌≡◌, ◌+◌, ◌<◌, ◌≤◌, length, Err, IfSome, None};
 ghost use Rattle.std.specs.Result.{result_err};
 ghost use Rattle.vol_base.specs.Causes.{Rose};
 ghost use Rattle.vol_base.specs.Outside.{OnlyReads};
 ghost use Rattle.vol_spec.specs.Chunks.{chunk_in};
-ghost use Rattle.vol_spec.specs.Encodings.{cell_limit, chunk_fault};
+ghost use Rattle.vol_spec.specs.Encodings.{chunk_fault};
 ghost use Rattle.vol_spec.specs.Grid.{IsCell};
-ghost use Rattle.vol_spec.specs.StoredBytes.{stored_bytes};
 ghost use Rattle.vol_spec.specs.declared.encoding.Encoding.TheVariants.{Raw, Seg};
-ghost use Rattle.shard_reader.specs.Reading.{Gets};
-ghost use Rattle.cutout.specs.Keeping.{front_of, KeepsShards};
+ghost use Rattle.cutout.specs.Keeping.{KeepsShards};
 ghost use Rattle.cutout.specs.Opened.{chunk_room, values_room};
 ghost use Rattle.verify_cmd.specs.Verifying.{Finds};
 
-use chunk_grid::{cell_box, grid, object_name};
-use morton_code::code;
+use chunk_grid::cell_box;
+use cutout::read_stored;
 use segment_cells::{chunk_limit, decode_cell, values_len};
 use shard_reader::{LookupFault, ShardReader};
-use vol_base::{ChunkFault, Fault, Got, Name, Source};
+use vol_base::{ChunkFault, Fault, Name, Source};
 use vol_spec::{Encoding, Scale};
 use voxel_raw::check_len;
-
-// Reads the front of an object into a buffer, until it is full: how many bytes, None where there is no
-// such object.
-fn read_object<S: Source>(
-    store: &mut S,
-    name: &Name,
-    buffer: &mut [u8],
-) -> Result<Option<u64>, LookupFault>
-    requires { length buffer.old < 2 ^ 64 }
-    ensures read { IfSome (S.objects store.old) (λ m.
-        Gets result buffer.new (front_of (length buffer.old) (map.get m name.now))) }
-    ensures within { IfOk result (λ found. IfSome found (λ n. n ≤ length buffer.new)) }
-    ensures kept { OnlyReads (S.objects store.old) (S.objects store.new) (S.draft store.old)
-        (S.draft store.new) }
-    ensures later { S.faults store.old ≤ S.faults store.new }
-    ensures fault { result ≡ Err LookupFault.NotRead → Rose (S.faults store.old) (S.faults store.new) }
-{
-    match store.read_at(name, 0, buffer) {
-        Err(_) => Err(LookupFault::NotRead),
-        Ok(Got::Absent) => Ok(None),
-        Ok(Got::Bytes(found)) => Ok(Some(found)),
-    }
-}
-
-// Reads the bytes of a cell's chunk into the front of a buffer: how many, None where it is absent. The
-// buffer has room for one byte more than the chunk has at most, so that a longer object is told.
-fn read_stored<S: Source>(
-    shards: &mut ShardReader,
-    store: &mut S,
-    dataset: &Name,
-    scale: &Scale,
-    cell: [u64; 3],
-    limit: u64,
-    buffer: &mut [u8],
-) -> Result<Option<u64>, LookupFault>
-    requires dataset { length dataset.now ≤ 200 }
-    requires cell { IsCell scale.now cell }
-    requires limit { limit ≡ cell_limit scale.now cell }
-    requires room { length buffer.old ≡ limit + 1 }
-    requires keeps { KeepsShards (S.objects store.old) dataset.now scale.now shards.old }
-    ensures read { IfSome (S.objects store.old) (λ m.
-        Gets result buffer.new (stored_bytes m dataset.now scale.now cell)) }
-    ensures within { IfOk result (λ found. IfSome found (λ n. n ≤ length buffer.new)) }
-    ensures keeps { KeepsShards (S.objects store.old) dataset.now scale.now shards.new }
-    ensures kept { OnlyReads (S.objects store.old) (S.objects store.new) (S.draft store.old)
-        (S.draft store.new) }
-    ensures later { S.faults store.old ≤ S.faults store.new }
-    ensures fault { result ≡ Err LookupFault.NotRead → Rose (S.faults store.old) (S.faults store.new) }
-{
-    match scale.sharding {
-        Some(sharding) => {
-            let id = code(&grid(scale), cell);
-            shards.read_chunk(store, dataset, scale, &sharding, limit, id, buffer)
-        }
-        None => {
-            let name = object_name(dataset, scale, cell);
-            read_object(store, &name, buffer)
-        }
-    }
-}
 
 // Judges a chunk that has the values as they are: by its length alone.
 fn judge_raw(bytes: &[u8], scale: &Scale, cell: [u64; 3]) -> Result<(), ChunkFault>
@@ -106,10 +43,7 @@ fn judge_segmented(
     ensures { result_err result ≡ chunk_fault scale.now cell bytes.now }
 {
     let len = values_len(scale, cell) as usize;
-    match decode_cell(bytes, scale, cell, block, &mut values[..len]) {
-        Ok(()) => Ok(()),
-        Err(fault) => Err(fault),
-    }
+    decode_cell(bytes, scale, cell, block, &mut values[..len])
 }
 
 // Judges the bytes of a cell's chunk.

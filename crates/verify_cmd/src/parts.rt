@@ -2,10 +2,10 @@
 ghost use Rattle.std.specs.Prelude.{◌≡◌, ◌≢◌, ◌↔◌, ◌+◌, ◌<◌, ◌≤◌, ◌^◌, ℕ, length, Err, IfOk, IfSome, None};
 ghost use Rattle.vol_base.specs.Causes.{Rose};
 ghost use Rattle.vol_base.specs.Outside.{Objects, OnlyReads};
-ghost use Rattle.vol_spec.specs.Cut.{first_fault};
 ghost use Rattle.vol_spec.specs.Grid.{cells_in, Inside};
 ghost use Rattle.vol_spec.specs.Verdicts.{Sound};
 ghost use Rattle.verify_cmd.specs.Judges.{Serves};
+ghost use Rattle.verify_cmd.specs.Verified.{IsUndamaged};
 ghost use Rattle.verify_cmd.specs.Verifying.{CanJudge, first_wrong, found_at, IsTooMany, Verifies};
 
 use crate::cell::CellJudge;
@@ -123,10 +123,10 @@ pub fn verify<S: Source>(
 }
 
 /// Does nothing: its clauses say that a part is sound exactly where there is no first cell with which something
-/// is wrong, and that no cutout in it is damaged then.
+/// is wrong, and that no cutout of a box in it is damaged then.
 pub fn tell_sound(dataset: &Name, scale: &Scale, part: &Box3)
     ensures sound { (m : Objects) → Sound m dataset.now scale.now part.now ↔
         (first_wrong m dataset.now scale.now part.now ≡ None) }
-    ensures whole { (m : Objects) → Sound m dataset.now scale.now part.now →
-        first_fault m dataset.now scale.now part.now ≡ None }
+    ensures undamaged { (m : Objects) → Sound m dataset.now scale.now part.now →
+        IsUndamaged m dataset.now scale.now part.now }
 {}

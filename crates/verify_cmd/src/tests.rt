@@ -1,6 +1,8 @@
 //! Judgements of small stores, worked out by hand.
 ghost use Rattle.std.specs.Prelude.{◌≡◌, ◌≤◌, ◌*◌, length, IfOk};
 
+mod calls;
+
 use crate::{Report, VerifyFault, verify};
 use byteorder::{ByteOrder, LittleEndian};
 use small_scales::{raw_scale, short_name};
@@ -8,7 +10,7 @@ use std::alloc::{AllocError, Global};
 use std::process::Abort;
 use std::test::Fail;
 use vol_base::{Box3, ChunkFault, Fault, IndexFault, MemoryStore, Name, ShardFault};
-use vol_spec::{Encoding, HashKind, Scale, Sharding};
+use vol_spec::{ChunkSizes, Encoding, HashKind, Scale, Sharding};
 
 // One shard, of one minishard or of two.
 fn one_shard(minishard_bits: u32) -> Sharding
@@ -35,6 +37,7 @@ fn sharded_scale(key: Name, sharding: Sharding) -> Scale
         chunk: [1; 3],
         encoding: Encoding::Raw,
         sharding: Some(sharding),
+        more: ChunkSizes::none(),
     }
 }
 
@@ -51,6 +54,7 @@ fn segmented_scale(key: Name) -> Scale
         chunk: [1; 3],
         encoding: Encoding::Seg { block: [1; 3] },
         sharding: None,
+        more: ChunkSizes::none(),
     }
 }
 

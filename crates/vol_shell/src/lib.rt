@@ -1,4 +1,4 @@
-//! What the tool shows of itself: the lines that it prints, and the outside as the host has it, objects as files
+//! What the tool shows of itself: the lines that are always the same, and the outside as the host has it, objects as files
 //! below the current directory, the standard streams as a feed and outlets, connections over TCP as links behind a
 //! door, and what stands for a door where none is wanted.
 #![tactic(auto)]
@@ -14,11 +14,7 @@ mod streams;
 pub use directory::DirStore;
 pub use door::TcpDoor;
 pub use lines::{
-    DOOR_LINE, FEED_LINE, FOLDER_LINE, MEMORY_LINE, OUTPUT_LINE, STORE_LINE, USAGE_LINE,
-    tell_lines, write_cells_line, write_damaged_line, write_differs_line, write_generated_line,
-    write_info_line, write_large_line, write_listening_line, write_misplaced_line,
-    write_outside_line, write_stream_line, write_verified_line, write_voxels_line,
-    write_written_line,
+    DOOR_LINE, FEED_LINE, FOLDER_LINE, MEMORY_LINE, OUTPUT_LINE, STORE_LINE, USAGE_LINE, tell_lines,
 };
 pub use link::TcpLink;
 pub use output::say;

@@ -1,16 +1,1 @@
-pub mod AnswerSteps
-pub mod AskSteps
-pub mod Choices
-pub mod CopySteps
-pub mod CutoutSteps
-pub mod DrawnSteps
-pub mod GenerateSteps
-pub mod InfoSteps
-pub mod MemorySteps
-pub mod PlanSteps
-pub mod ReportSteps
-pub mod ReshardSteps
-pub mod ServeSteps
-pub mod StreamSteps
-pub mod VerifySteps
-pub mod WriteSteps
+mod MemorySteps

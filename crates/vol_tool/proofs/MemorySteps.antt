@@ -1,33 +1,47 @@
 -- Where there is no memory for the words themselves, each command says what it says at that status.
-use Rattle.std.proofs.Common.{◌≡◌, ◌∙◌, ◌≤◌, ◌+◌, ◌^◌, ℕ, [], Option, Some, None, ap, refl, subst, sym, inl, inr, arith}
+use Rattle.std.proofs.Common.{◌≡◌, ◌∙◌, ◌≤◌, ◌+◌, ◌^◌, ℕ, [], Option, Some, None, Err, ap, refl, subst, sym, inl, inr, arith}
 use Rattle.command_line.specs.declared.commands.Command.{Command}
 use Rattle.command_line.specs.declared.commands.Command.TheVariants.{Cutout, Generate, Reshard, Serve, Verify, Write}
 use Rattle.vol_shell.specs.Lines.{memory_line}
 use Rattle.vol_spec.proofs.Told.{in_told}
 use Rattle.vol_spec.specs.Types.{Bytes}
-use Rattle.vol_tool.proofs.AskSteps.{asks_none}
-use Rattle.vol_tool.proofs.Choices.{nothing_behind}
-use Rattle.vol_tool.proofs.ReshardSteps.{draft_kept}
-use Rattle.vol_tool.specs.Cutouts.{cells_cost}
-use Rattle.vol_tool.specs.Scales.{stored_scale}
-use Rattle.vol_tool.specs.Runs.{Answers, Causes, Headline, IsCaused, Keeps, Leaves, Succeeds}
-use Rattle.vol_tool.specs.Seen.{Faults, LeavesStore, outlets, Seen, Tells}
-use Rattle.vol_tool.specs.Servings.{IsBoundTo}
-use Rattle.vol_tool.specs.declared.status.Status.TheVariants.{NoMemory}
+use Rattle.command_base.proofs.Choices.{nothing_behind}
+use Rattle.command_base.specs.Outlets.{Tells}
+use Rattle.command_base.specs.Scales.{stored_scale}
+use Rattle.command_base.specs.declared.status.Status.TheVariants.{NoMemory}
+use Rattle.cutout_cmd.proofs.AskSteps.{asks_none}
+use Rattle.cutout_cmd.proofs.CutoutSteps.{memory_ends}
+use Rattle.cutout_cmd.specs.Cutouts.{cells_cost}
+use Rattle.generate_cmd.proofs.DrawnSteps.{memory_right as memory_generates}
+use Rattle.generate_cmd.specs.declared.refusal.GenerateRefusal.TheVariants as generate
+use Rattle.reshard_cmd.proofs.ReshardSteps.{draft_kept, memory_right as memory_copies}
+use Rattle.reshard_cmd.specs.declared.refusal.ReshardRefusal.TheVariants as reshard
+use Rattle.serve_cmd.specs.Servings.{IsBoundTo}
+use Rattle.verify_cmd.proofs.VerifySteps.{memory_right as memory_verifies}
+use Rattle.verify_cmd.specs.declared.refusal.VerifyRefusal.TheVariants as verify
+use Rattle.write_cmd.proofs.WriteSteps.{memory_right as memory_writes}
+use Rattle.write_cmd.specs.declared.refusal.WriteRefusal.TheVariants as write
+use Rattle.vol_tool.specs.Runs.{Answers, AreCaused, Causes, Headline, Keeps, Succeeds}
+use Rattle.vol_tool.specs.Seen.{Faults, LeavesStore, outlets, Seen}
 
 -- only the error outlet changed
 abbrev pub said_only : Seen → Option Bytes → ℕ → Seen
 said_only before err count = record before { err = err; faults = record before.faults { err = count } }
 
-pub memory_answers : (command : Option Command) (before : Seen) (err : Option Bytes) (count : ℕ) → Answers command NoMemory before (said_only before err count)
-memory_answers None before err count = inr refl
-memory_answers (Some (Cutout dataset key part)) before err count = in_told before.objects _ (λ m told. inl refl)
-memory_answers (Some (Write dataset key workers)) before err count = in_told before.objects _ (λ m told. (tt, in_told before.left _ (λ bytes fed. (tt, inl told))))
-memory_answers (Some (Generate dataset key number writes workers)) before err count = in_told before.objects _ (λ m told. inl told)
-memory_answers (Some (Verify dataset key part)) before err count = in_told before.objects _ (λ m told. tt)
-memory_answers (Some (Reshard dataset key to_dataset to_key workers)) before err count = in_told before.objects _ (λ m told. inl told)
-memory_answers (Some (Serve dataset port connections)) before err count =
-    in_told before.objects _ (λ m told. in_told before.door.served _ (λ list noted. ([], noted ∙ ap Some (sym (nothing_behind list)), omega arith, inl (omega arith))))
+pub memory_answers : (command : Option Command) (before : Seen) (err : Option Bytes) (count : ℕ) → before.door.bound ≡ None → Tells (outlets before (said_only before err count)) memory_line → Answers command NoMemory before (said_only before err count)
+memory_answers None before err count unbound said = (refl, said)
+memory_answers (Some (Cutout dataset key part)) before err count unbound said = memory_ends before.objects dataset key part (outlets before (said_only before err count)) refl said
+memory_answers (Some (Write dataset key workers)) before err count unbound said = (Err write.NoMemory, memory_writes before.objects before.left dataset key, (refl, inl (refl, said)))
+memory_answers (Some (Generate dataset key number writes workers)) before err count unbound said =
+    (Err (generate.Write write.NoMemory), memory_generates before.objects number writes dataset key, (refl, inl (refl, said)))
+memory_answers (Some (Verify dataset key part)) before err count unbound said = (Err verify.NoMemory, memory_verifies before.objects dataset key part, (refl, inl (refl, said)))
+memory_answers (Some (Reshard dataset key to_dataset to_key workers)) before err count unbound said =
+    (Err reshard.NoMemory, memory_copies before.objects before.objects dataset key to_dataset to_key refl, (refl, inl (refl, said)))
+memory_answers (Some (Serve dataset port connections)) before err count unbound said = (
+  (subst (IsBoundTo port) (sym unbound) tt, inl refl, said),
+  in_told before.door.served _ (λ list noted. ([], noted ∙ ap Some (sym (nothing_behind list)), omega arith)),
+  in_told before.objects _ (λ m told. in_told before.door.served _ (λ list noted. ([], noted ∙ ap Some (sym (nothing_behind list)), inl (omega arith)))),
+)
 
 pub memory_succeeds : (command : Option Command) (before : Seen) (err : Option Bytes) (count : ℕ) → Succeeds command NoMemory before (said_only before err count)
 memory_succeeds None before err count = tt
@@ -47,15 +61,6 @@ memory_headline (Some (Verify dataset key part)) before err count = tt
 memory_headline (Some (Reshard dataset key to_dataset to_key workers)) before err count = λ done. absurd (cc done)
 memory_headline (Some (Serve dataset port connections)) before err count = tt
 
-pub memory_leaves : (command : Option Command) (before : Seen) (err : Option Bytes) (count : ℕ) → before.door.bound ≡ None → Tells (outlets before (said_only before err count)) memory_line → Leaves command NoMemory before (said_only before err count)
-memory_leaves None before err count unbound said = (refl, said)
-memory_leaves (Some (Cutout dataset key part)) before err count unbound said = said
-memory_leaves (Some (Write dataset key workers)) before err count unbound said = (refl, said)
-memory_leaves (Some (Generate dataset key number writes workers)) before err count unbound said = (refl, said)
-memory_leaves (Some (Verify dataset key part)) before err count unbound said = (refl, said)
-memory_leaves (Some (Reshard dataset key to_dataset to_key workers)) before err count unbound said = (refl, said)
-memory_leaves (Some (Serve dataset port connections)) before err count unbound said = (subst (IsBoundTo port) (sym unbound) tt, inl refl, said)
-
 reads : (before : Seen) (err : Option Bytes) (count : ℕ) → LeavesStore before (said_only before err count)
 reads before err count = record { same_objects = refl; same_draft = refl }
 
@@ -70,7 +75,7 @@ memory_keeps (Some (Reshard dataset key to_dataset to_key workers)) before err c
     (λ done. absurd (cc done), λ out. absurd (cc out), in_told before.objects _ (λ m told. draft_kept (stored_scale m to_dataset to_key) before.draft before.draft refl), λ no. reads before err count, refl, refl)
 memory_keeps (Some (Serve dataset port connections)) before err count = (reads before err count, refl, (0, omega arith, omega arith), in_told before.out _ (λ bytes gained same. refl))
 
-caused : (before : Faults) (count : ℕ) → before.err ≤ count → IsCaused NoMemory before (record before { err = count })
+caused : (before : Faults) (count : ℕ) → before.err ≤ count → AreCaused NoMemory before (record before { err = count })
 caused before count later = record {
   later = record { store = omega arith; feed = omega arith; out = omega arith; err = later; door = omega arith };
   store = λ e. absurd (cc e);

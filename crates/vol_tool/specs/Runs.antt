@@ -1,5 +1,5 @@
--- What a call of the program means (this project's): six facts, each by an equation for every command.
-use Rattle.std.specs.Prelude.{◌≡◌, ◌⊎◌, false, [], Option, None, Some, IfSome}
+-- What a call of the program means (this project's): five facts, each by an equation for every command.
+use Rattle.std.specs.Prelude.{◌≡◌, false, [], Option, None, Some, IfSome}
 use Rattle.std.specs.Option.{option_map}
 use Rattle.vol_base.specs.Causes.{Rose}
 use Rattle.command_line.specs.declared.commands.Command.{Command}
@@ -7,41 +7,43 @@ use Rattle.command_line.specs.declared.commands.Command.TheVariants.{Cutout, Gen
 use Rattle.shard_writer.specs.Writing.{Drops}
 use Rattle.write_plan.specs.Stream.{writes_of}
 use Rattle.vol_shell.specs.Lines.{memory_line, usage_line}
-use Rattle.vol_tool.specs.Cutouts.{AsksFor, CanCut, CutoutLeaves, CutoutShows}
-use Rattle.vol_tool.specs.Generating.{CanGenerate, drawn, GenerateLeaves, GenerateShows}
-use Rattle.vol_tool.specs.Resharding.{CanReshard, CopiedBack, DropsUnsharded, ReshardLeaves, ReshardShows}
-use Rattle.vol_tool.specs.Scales.{stored_scale}
-use Rattle.vol_tool.specs.Seen.{Faults, IsLater, LeavesStore, Outlets, outlets, Seen, Silent, Tells}
-use Rattle.vol_tool.specs.Servings.{AcceptsEnds, ServeLeaves, ServeShows, TellsFirst}
-use Rattle.vol_tool.specs.Storing.{CanWrite, puts, WriteJudges, WriteLeaves, WriteShows, WrittenBack}
-use Rattle.vol_tool.specs.Verifying.{CanVerify, VerifyLeaves, VerifyShows}
-use Rattle.vol_tool.specs.declared.status.Status.{Status}
-use Rattle.vol_tool.specs.declared.status.Status.TheVariants.{Ok, Usage, InfoRefused, StoreFault, FeedFault, OutFault, NoMemory, DoorFault}
+use Rattle.command_base.specs.Ending.{EndsWell}
+use Rattle.command_base.specs.Outlets.{Outlets, Silent, Tells}
+use Rattle.command_base.specs.Scales.{stored_scale}
+use Rattle.command_base.specs.Statuses.{puts}
+use Rattle.command_base.specs.declared.status.Status.{Status}
+use Rattle.command_base.specs.declared.status.Status.TheVariants.{Ok, Usage, InfoRefused, StoreFault, FeedFault, OutFault, NoMemory, DoorFault}
+use Rattle.cutout_cmd.specs.Cutouts.{AsksFor, CanCut, CutsOut}
+use Rattle.write_cmd.specs.Storing.{CanWrite, WrittenBack, Wrote}
+use Rattle.generate_cmd.specs.Generating.{CanGenerate, drawn, Generated}
+use Rattle.verify_cmd.specs.Verified.{CanVerify, Verified}
+use Rattle.reshard_cmd.specs.Copying.{CanReshard, CopiedBack, DropsUnsharded, Resharded}
+use Rattle.serve_cmd.specs.Servings.{AcceptsEnds, NotesEnds, ServeLeaves, ServeShows, TellsFirst}
+use Rattle.vol_tool.specs.Seen.{Faults, IsLater, LeavesStore, outlets, Seen}
 
--- What is answered, where what it hangs on is told.
+-- what words that are no command line leave
+abbrev pub UsageLeaves : Status → Outlets → Type 0
+UsageLeaves Usage o = Silent o × Tells o usage_line
+UsageLeaves NoMemory o = Silent o × Tells o memory_line
+UsageLeaves other o = ⊥
+
+-- What is answered, over what is told, and what the two outlets gained, told or not.
 abbrev pub Answers : Option Command → Status → Seen → Seen → Type 0
-Answers None status before after = (status ≡ Usage) ⊎ (status ≡ NoMemory)
+Answers None status before after = UsageLeaves status (outlets before after)
 Answers (Some (Cutout dataset key part)) status before after =
-    IfSome before.objects (λ m. CutoutShows status m dataset key part (outlets before after))
+    CutsOut status before.objects dataset key part (outlets before after)
 Answers (Some (Write dataset key workers)) status before after =
-    IfSome before.objects (λ m. WriteJudges status m dataset key before.left after.left (outlets before after)
-    × IfSome before.left (λ bytes. WriteShows status m after.objects bytes after.left dataset key
-    (outlets before after)))
+    Wrote status before.objects after.objects before.left after.left dataset key (outlets before after)
 Answers (Some (Generate dataset key number count workers)) status before after =
-    IfSome before.objects (λ m. GenerateShows status m after.objects number count dataset key
-    (outlets before after))
+    Generated status before.objects after.objects number count dataset key (outlets before after)
 Answers (Some (Verify dataset key part)) status before after =
-    IfSome before.objects (λ m. VerifyShows status m dataset key part (outlets before after))
+    Verified status before.objects dataset key part (outlets before after)
 Answers (Some (Reshard dataset key to_dataset to_key workers)) status before after =
-    IfSome before.objects (λ m. ReshardShows status m after.objects dataset key to_dataset to_key
-    (outlets before after))
+    Resharded status before.objects after.objects dataset key to_dataset to_key (outlets before after)
 Answers (Some (Serve dataset port connections)) status before after =
-    IfSome before.objects (λ m. ServeShows status m dataset before.door after.door before.faults.store
+    ServeLeaves status port after.door.bound (outlets before after) × NotesEnds before.door after.door
+    × IfSome before.objects (λ m. ServeShows status m dataset before.door after.door before.faults.store
     after.faults.store)
-
--- it succeeds, or wants memory
-abbrev pub EndsWell : Status → Type 0
-EndsWell status = (status ≡ Ok) ⊎ (status ≡ NoMemory)
 
 -- Where nothing stands against it and nothing that it uses fails, it succeeds or wants memory.
 abbrev pub Succeeds : Option Command → Status → Seen → Seen → Type 0
@@ -86,28 +88,6 @@ Headline (Some (Reshard dataset key to_dataset to_key workers)) status before af
     status ≡ Ok → IfSome before.objects (λ m. CopiedBack m after.objects dataset key to_dataset to_key)
 Headline (Some (Serve dataset port connections)) status before after = Unit {0}
 
--- what words that are no command line leave
-abbrev pub UsageLeaves : Status → Outlets → Type 0
-UsageLeaves Usage o = Silent o × Tells o usage_line
-UsageLeaves NoMemory o = Silent o × Tells o memory_line
-UsageLeaves other o = ⊥
-
--- What the two outlets gained, also where nothing is told, and so with which statuses a command can end.
-abbrev pub Leaves : Option Command → Status → Seen → Seen → Type 0
-Leaves None status before after = UsageLeaves status (outlets before after)
-Leaves (Some (Cutout dataset key part)) status before after =
-    CutoutLeaves status dataset part (outlets before after)
-Leaves (Some (Write dataset key workers)) status before after =
-    WriteLeaves status dataset (outlets before after)
-Leaves (Some (Generate dataset key number count workers)) status before after =
-    GenerateLeaves status dataset count (outlets before after)
-Leaves (Some (Verify dataset key part)) status before after =
-    VerifyLeaves status dataset part (outlets before after)
-Leaves (Some (Reshard dataset key to_dataset to_key workers)) status before after =
-    ReshardLeaves status dataset to_dataset (outlets before after)
-Leaves (Some (Serve dataset port connections)) status before after =
-    ServeLeaves status port after.door.bound (outlets before after)
-
 -- What stays of the store, the feed and the door.
 abbrev pub Keeps : Option Command → Status → Seen → Seen → Type 0
 Keeps None status before after = LeavesStore before after × (after.left ≡ before.left) ×
@@ -144,7 +124,7 @@ Keeps (Some (Serve dataset port connections)) status before after =
     × TellsFirst before.out after.out before.door after.door
 
 -- no count falls, a fault comes only where its count rose, and at success nothing was told, so nothing failed to be
-pub record IsCaused (status : Status) (before after : Faults) : Type 0 where
+pub record AreCaused (status : Status) (before after : Faults) : Type 0 where
   pub later : IsLater before after
   pub store : status ≡ StoreFault → Rose before.store after.store
   pub feed : status ≡ FeedFault → Rose before.feed after.feed
@@ -155,18 +135,12 @@ pub record IsCaused (status : Status) (before after : Faults) : Type 0 where
 -- Why it failed, and what it doesn't use.
 abbrev pub Causes : Option Command → Status → Faults → Faults → Type 0
 Causes None status before after =
-    IsCaused status before after × (after.store ≡ before.store) × (after.feed ≡ before.feed) ×
+    AreCaused status before after × (after.store ≡ before.store) × (after.feed ≡ before.feed) ×
     (after.out ≡ before.out)
     × (after.door ≡ before.door)
-Causes (Some (Cutout dataset key part)) status before after =
-    IsCaused status before after × (after.feed ≡ before.feed) × (after.door ≡ before.door)
-Causes (Some (Write dataset key workers)) status before after = IsCaused status before after ×
+Causes (Some (Write dataset key workers)) status before after = AreCaused status before after ×
     (after.door ≡ before.door)
-Causes (Some (Generate dataset key number count workers)) status before after =
-    IsCaused status before after × (after.feed ≡ before.feed) × (after.door ≡ before.door)
-Causes (Some (Verify dataset key part)) status before after =
-    IsCaused status before after × (after.feed ≡ before.feed) × (after.door ≡ before.door)
-Causes (Some (Reshard dataset key to_dataset to_key workers)) status before after =
-    IsCaused status before after × (after.feed ≡ before.feed) × (after.door ≡ before.door)
-Causes (Some (Serve dataset port connections)) status before after = IsCaused status before after ×
+Causes (Some (Serve dataset port connections)) status before after = AreCaused status before after ×
     (after.feed ≡ before.feed)
+Causes (Some other) status before after =
+    AreCaused status before after × (after.feed ≡ before.feed) × (after.door ≡ before.door)

@@ -1,8 +1,9 @@
 -- What is seen of the outside before or after a call (this project's).
-use Rattle.std.specs.Prelude.{◌≡◌, ◌≤◌, ℕ, List, Option}
-use Rattle.vol_shell.specs.Effects.{Says}
+use Rattle.std.specs.Prelude.{◌≤◌, ℕ, Option}
 use Rattle.vol_base.specs.Outside.{Draft, Objects, OnlyReads}
 use Rattle.vol_spec.specs.Types.{Bytes}
+use Rattle.command_base.specs.Outlets.{Outlets}
+use Rattle.serve_cmd.specs.Servings.{doorway, Doorway, Ends}
 
 -- how often each part of the outside failed
 pub record Faults : Type 0 where
@@ -11,20 +12,6 @@ pub record Faults : Type 0 where
   pub out : ℕ
   pub err : ℕ
   pub door : ℕ
-
--- the ends that a door closed: of each its stream, what was sent, and its count of faults
-abbrev pub Ends : Type 0
-Ends = List (Bytes × Bytes × ℕ)
-
--- a door: the port that was bound, how many ends it gave, and those that were closed
-pub record Doorway : Type 0 where
-  pub bound : Option ℕ
-  pub accepted : ℕ
-  pub served : Option Ends
-
--- the same by what a door tells
-abbrev pub doorway : {D : Type 0} → (D → Option ℕ) → (D → ℕ) → (D → Option Ends) → D → Doorway
-doorway bound accepted served d = record { bound = bound d; accepted = accepted d; served = served d }
 
 -- the objects and the one being written, how many bytes were asked for, what is left of the feed, and what was written
 -- to the two outlets, where they are told; the door, and how often each part failed
@@ -62,35 +49,6 @@ view objects draft asked store_faults left feed_faults out out_faults err err_fa
         door = door_faults d;
       };
     }
-
--- the outlets of a call: what was written before and after it, and the error outlet's counts of faults
-pub record Outlets : Type 0 where
-  pub out_old : Option Bytes
-  pub out_new : Option Bytes
-  pub err_old : Option Bytes
-  pub err_new : Option Bytes
-  pub err_before : ℕ
-  pub err_now : ℕ
-
--- the error outlet gained a line, or a front of it where it failed
-abbrev pub Tells : Outlets → Bytes → Type 0
-Tells o line = Says o.err_old o.err_new o.err_before o.err_now line
-
--- the output gained nothing
-abbrev pub Silent : Outlets → Type 0
-Silent o = o.out_new ≡ o.out_old
-
--- the same by what the two outlets tell
-abbrev pub outlets_of : {O E : Type 0} → (O → Option Bytes) → (O → ℕ) → (E → Option Bytes) → (E → ℕ) → O → O →
-    E → E → Outlets
-outlets_of out out_faults err err_faults o p e f = record {
-  out_old = out o;
-  out_new = out p;
-  err_old = err e;
-  err_new = err f;
-  err_before = err_faults e;
-  err_now = err_faults f;
-}
 
 -- the two outlets before and after a call
 abbrev pub outlets : Seen → Seen → Outlets

@@ -2,23 +2,11 @@
 //! streams.
 #![tactic(auto)]
 
-mod buffers;
-mod cut_out;
-mod generate;
-mod info;
-mod refusal;
-mod report;
-mod reshard;
-mod serving;
-mod status;
 #[cfg(test)]
 mod tests;
 mod top;
-mod verify;
-mod write;
 
-use report::tell;
-use status::Status;
+use command_base::{Status, tell};
 use std::env::Env;
 use std::io::ErrorKind;
 use std::process::ExitCode;

@@ -1,7 +1,14 @@
-use Rattle.std.proofs.Common.{map, string_bytes}
+use Rattle.std.proofs.Common.{◌≡◌, ◌∙◌, Some, map, string_bytes, subst, sym}
 use Rattle.command_line.specs.Words.{line}
+use Rattle.command_line.specs.declared.commands.Command.TheVariants.{Reshard}
+use Rattle.reshard_cmd.specs.Copying.{CanReshard}
+use Rattle.vol_tool.specs.Runs.{Succeeds}
 use Rattle.vol_tool.specs.Seen.{view}
-use Rattle.vol_tool.proofs.MemorySteps.{memory_answers, memory_causes, memory_headline, memory_keeps, memory_leaves, memory_succeeds}
+use Rattle.vol_base.specs.Causes.{Rose}
+use Rattle.vol_base.specs.Outside.{Objects}
+use Rattle.vol_spec.proofs.Told.{in_told}
+use Rattle.command_base.specs.Ending.{EndsWell}
+use Rattle.vol_tool.proofs.MemorySteps.{memory_answers, memory_causes, memory_headline, memory_keeps, memory_succeeds}
 use Rattle.vol_tool.proofs.top.run.Goals as goal
 
 pub returns-in-Err-clause-answers : goal.returns-in-Err-clause-answers
@@ -9,7 +16,7 @@ returns-in-Err-clause-answers g c =
     memory_answers (line (map string_bytes c.args.words.now))
     (view g.S.Source.objects g.S.Source.draft g.S.Source.asked g.S.Source.faults g.F.Feed.left g.F.Feed.faults g.O.Outlet.written g.O.Outlet.faults g.E.Outlet.written g.E.Outlet.faults
     g.D.Door.bound g.D.Door.accepted g.D.Door.served g.D.Door.faults c.args.store.now c.args.feed.now c.args.out.now c.args.err.now c.args.door.now)
-    (g.E.Outlet.written c.tell.new.err) (g.E.Outlet.faults c.tell.new.err)
+    (g.E.Outlet.written c.tell.new.err) (g.E.Outlet.faults c.tell.new.err) c.requires c.tell.ensures.told
 
 pub returns-in-Err-clause-succeeds : goal.returns-in-Err-clause-succeeds
 returns-in-Err-clause-succeeds g c =
@@ -21,11 +28,22 @@ returns-in-Err-clause-succeeds g c =
 pub returns-in-Err-clause-headline : goal.returns-in-Err-clause-headline
 returns-in-Err-clause-headline g c = memory_headline _ _ (g.E.Outlet.written c.tell.new.err) (g.E.Outlet.faults c.tell.new.err)
 
-pub returns-in-Err-clause-leaves : goal.returns-in-Err-clause-leaves
-returns-in-Err-clause-leaves g c = memory_leaves _ _ (g.E.Outlet.written c.tell.new.err) (g.E.Outlet.faults c.tell.new.err) c.requires c.tell.ensures.told
-
 pub returns-in-Err-clause-keeps : goal.returns-in-Err-clause-keeps
 returns-in-Err-clause-keeps g c = memory_keeps _ _ (g.E.Outlet.written c.tell.new.err) (g.E.Outlet.faults c.tell.new.err)
 
 pub returns-in-Err-clause-causes : goal.returns-in-Err-clause-causes
 returns-in-Err-clause-causes g c = memory_causes _ _ (g.E.Outlet.faults c.tell.new.err) c.tell.ensures.later
+
+pub returns-in-Ok-Some-Reshard-clause-succeeds : goal.returns-in-Ok-Some-Reshard-clause-succeeds
+returns-in-Ok-Some-Reshard-clause-succeeds g c =
+    let spelled : c.in-Ok-Some-Reshard.field-0 ≡ Some (Reshard c.in-Ok-Some-Reshard.dataset c.in-Ok-Some-Reshard.key c.in-Ok-Some-Reshard.to_dataset c.in-Ok-Some-Reshard.to_key c.in-Ok-Some-Reshard.workers) = cc (c.in-Ok-Some-Reshard.field-0-is, c.in-Ok-Some-Reshard.field-0-0-is) in
+    subst (λ command. Succeeds command c.run_reshard.result
+    (view g.S.Source.objects g.S.Source.draft g.S.Source.asked g.S.Source.faults g.F.Feed.left g.F.Feed.faults g.O.Outlet.written g.O.Outlet.faults g.E.Outlet.written g.E.Outlet.faults
+    g.D.Door.bound g.D.Door.accepted g.D.Door.served g.D.Door.faults c.args.store.now c.args.feed.now c.args.out.now c.args.err.now c.args.door.now)
+    (view g.S.Source.objects g.S.Source.draft g.S.Source.asked g.S.Source.faults g.F.Feed.left g.F.Feed.faults g.O.Outlet.written g.O.Outlet.faults g.E.Outlet.written g.E.Outlet.faults
+    g.D.Door.bound g.D.Door.accepted g.D.Door.served g.D.Door.faults c.run_reshard.new.store c.args.feed.now c.run_reshard.new.out c.run_reshard.new.err c.args.door.now))
+    (sym spelled ∙ c.in-Ok-Some-Reshard.ensures.line)
+    (let done : (m : Objects) → g.S.Source.objects c.args.store.now ≡ Some m → CanReshard m c.in-Ok-Some-Reshard.dataset c.in-Ok-Some-Reshard.key c.in-Ok-Some-Reshard.to_dataset c.in-Ok-Some-Reshard.to_key
+    → (Rose (g.S.Source.faults c.args.store.now) (g.S.Source.faults c.run_reshard.new.store) → ⊥) → (Rose (g.O.Outlet.faults c.args.out.now) (g.O.Outlet.faults c.run_reshard.new.out) → ⊥) → EndsWell c.run_reshard.result = c.run_reshard.ensures.complete in
+    in_told (g.S.Source.objects c.args.store.now) (λ m. CanReshard m c.in-Ok-Some-Reshard.dataset c.in-Ok-Some-Reshard.key c.in-Ok-Some-Reshard.to_dataset c.in-Ok-Some-Reshard.to_key
+    → (Rose (g.S.Source.faults c.args.store.now) (g.S.Source.faults c.run_reshard.new.store) → ⊥) → (Rose (g.O.Outlet.faults c.args.out.now) (g.O.Outlet.faults c.run_reshard.new.out) → ⊥) → EndsWell c.run_reshard.result) done)

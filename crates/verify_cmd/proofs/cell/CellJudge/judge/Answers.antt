@@ -19,5 +19,5 @@ returns-in-Ok-judge_chunk-clause-judged g c =
 
 pub returns-in-Err-judge_chunk-clause-judged : goal.returns-in-Err-judge_chunk-clause-judged
 returns-in-Err-judge_chunk-clause-judged g c =
-    chunk_refused (g.S.Source.objects c.args.store.now) c.args.dataset.now c.args.scale.now c.args.cell c.judge_index.result _ c.judge_chunk.result c.in-Err-judge_chunk.fault c.lookup_fault.result c.in-Ok.is c.in-Err-judge_chunk.is c.lookup_fault.ensures
+    chunk_refused (g.S.Source.objects c.args.store.now) c.args.dataset.now c.args.scale.now c.args.cell c.judge_index.result _ c.judge_chunk.result c.in-Err-judge_chunk.fault c.from.result c.in-Ok.is c.in-Err-judge_chunk.is c.from.ensures
     c.judge_index.ensures.judged (subst (λ o. IfSome o (λ m. Finds c.judge_chunk.result (chunk_in m c.args.dataset.now c.args.scale.now c.args.cell))) c.judge_index.ensures.kept.same_objects c.judge_chunk.ensures.finds)

@@ -1,0 +1,46 @@
+-- The scale of a key, as objects have it (this project's profile).
+use Rattle.std.specs.Prelude.{◌≡◌, true, false, Option, Some, None, Result, Ok, Err, codes}
+use Rattle.std.specs.FinMap as fin
+use Rattle.vol_base.specs.Outside.{any_under, Objects}
+use Rattle.info_doc.specs.declared.fault.InfoFault.{InfoFault}
+use Rattle.info_doc.specs.Info.{scale_in}
+use Rattle.vol_spec.specs.CellNames.{folder_of, joined}
+use Rattle.vol_spec.specs.Types.{Bytes, Name}
+use Rattle.vol_spec.specs.Writable.{IsWritable}
+use Rattle.vol_spec.specs.declared.scale.Scale.{Scale}
+use Rattle.command_base.specs.declared.refusal.NoScale.{NoScale}
+use Rattle.command_base.specs.declared.refusal.NoScale.TheVariants.{Absent, Refused}
+use Rattle.command_base.specs.declared.refusal.ScaleRefusal.{ScaleRefusal}
+use Rattle.command_base.specs.declared.refusal.ScaleRefusal.TheVariants.{NoScale as WithoutScale, StoreFault, NoMemory}
+
+-- the object of a data set's info document
+abbrev pub info_name : Name → Name
+info_name dataset = joined dataset (codes "info")
+
+-- the scale of a document, or why there is none
+abbrev pub judged_info : Result Scale InfoFault → Result Scale NoScale
+judged_info (Ok s) = Ok s
+judged_info (Err fault) = Err (Refused fault)
+
+abbrev pub scale_from : Option Bytes → Name → Result Scale NoScale
+scale_from None key = Err Absent
+scale_from (Some bytes) key = judged_info (scale_in bytes key)
+
+-- the scale of a key that the objects have under a data set, or why there is none
+unfoldable pub stored_scale : Objects → Name → Name → Result Scale NoScale
+stored_scale objects dataset key = scale_from (fin.get objects (info_name dataset)) key
+
+-- what reading a scale answers
+abbrev pub ReadsScale : Result Scale ScaleRefusal → Result Scale NoScale → Type 0
+ReadsScale (Ok s) told = told ≡ Ok s
+ReadsScale (Err (WithoutScale why)) told = told ≡ Err why
+ReadsScale (Err StoreFault) told = Unit {0}
+ReadsScale (Err NoMemory) told = Unit {0}
+
+-- the scale keeps the writing limit, and its folder is empty
+abbrev pub IsReady : Objects → Name → Scale → Type 0
+IsReady m dataset s = IsWritable s × (any_under m (folder_of dataset s) ≡ false)
+
+-- or its folder isn't
+abbrev pub IsFull : Objects → Name → Scale → Type 0
+IsFull m dataset s = IsWritable s × (any_under m (folder_of dataset s) ≡ true)

@@ -1,0 +1,3 @@
+pub mod AnswerSteps
+pub mod AskSteps
+pub mod CutoutSteps

@@ -1,0 +1,2 @@
+pub mod Cutouts
+pub mod Refusals

@@ -1,0 +1,11 @@
+//! The command `cutout`.
+#![tactic(auto)]
+
+mod cut_out;
+mod refusal;
+mod report;
+#[cfg(test)]
+mod tests;
+
+pub use cut_out::{judge_part, run_cutout, stream_part};
+pub use refusal::CutoutRefusal;

@@ -1,0 +1,2 @@
+pub mod DrawnSteps
+pub mod GenerateSteps

@@ -1,0 +1,26 @@
+use Rattle.std.proofs.Common.{◌∙◌, Err, IfSome, ap, subst}
+use Rattle.write_plan.specs.Stream.{writes_of}
+use Rattle.generate_cmd.proofs.GenerateSteps.{never_rose, summed_told, unsummed_told, unwritten_told}
+use Rattle.generate_cmd.specs.Generating.{drawn}
+use Rattle.write_cmd.specs.Storing.{WritesScale}
+use Rattle.generate_cmd.proofs.generate.write_and_sum.Goals as goal
+
+pub returns-in-Err-clause-generates : goal.returns-in-Err-clause-generates
+returns-in-Err-clause-generates g c key =
+    unwritten_told c.in-Err.refusal (g.S.Source.objects c.args.store.now) (g.S.Source.objects c.write_list.new.store) (writes_of c.new-list.result c.args.scale.now) (drawn c.args.number c.args.count) c.args.dataset.now key c.args.scale.now
+    c.requires.small.1 (λ fed. never_rose (c.write_list.ensures.feed_fault (c.in-Err.is ∙ ap Err fed))) c.new-list.ensures.read c.in-Err.ensures.judges
+    (subst (λ r. IfSome (g.S.Source.objects c.args.store.now) (λ m. WritesScale r m (g.S.Source.objects c.write_list.new.store) (writes_of c.new-list.result c.args.scale.now) c.args.dataset.now key c.args.scale.now)) c.in-Err.is (c.write_list.ensures.writes key))
+
+pub returns-in-Ok-sum_scale-clause-generates : goal.returns-in-Ok-sum_scale-clause-generates
+returns-in-Ok-sum_scale-clause-generates g c key =
+    summed_told c.in-Ok.written c.in-Ok-sum_scale.sum (g.S.Source.objects c.args.store.now) (g.S.Source.objects c.write_list.new.store) (g.S.Source.objects c.sum_scale.new.store) (writes_of c.new-list.result c.args.scale.now)
+    (drawn c.args.number c.args.count) c.args.dataset.now key c.args.scale.now c.requires.small.1 c.new-list.ensures.read c.sum_scale.ensures.kept.same_objects
+    (subst (λ r. IfSome (g.S.Source.objects c.args.store.now) (λ m. WritesScale r m (g.S.Source.objects c.write_list.new.store) (writes_of c.new-list.result c.args.scale.now) c.args.dataset.now key c.args.scale.now)) c.in-Ok.is (c.write_list.ensures.writes key))
+    c.in-Ok-sum_scale.ensures.sums
+
+pub returns-in-Err-sum_scale-clause-generates : goal.returns-in-Err-sum_scale-clause-generates
+returns-in-Err-sum_scale-clause-generates g c key =
+    unsummed_told c.in-Err-sum_scale.refusal (g.S.Source.objects c.args.store.now) (g.S.Source.objects c.write_list.new.store) (g.S.Source.objects c.sum_scale.new.store) (writes_of c.new-list.result c.args.scale.now)
+    (drawn c.args.number c.args.count) c.args.dataset.now key c.args.scale.now c.in-Ok.written c.requires.small.1 c.in-Err-sum_scale.ensures.refused c.new-list.ensures.read c.sum_scale.ensures.kept.same_objects
+    (subst (λ r. IfSome (g.S.Source.objects c.args.store.now) (λ m. WritesScale r m (g.S.Source.objects c.write_list.new.store) (writes_of c.new-list.result c.args.scale.now) c.args.dataset.now key c.args.scale.now)) c.in-Ok.is (c.write_list.ensures.writes key))
+    c.in-Err-sum_scale.ensures.sums

@@ -1,0 +1,4 @@
+pub mod Fixed
+pub mod Generating
+pub mod Lines
+pub mod Refusals

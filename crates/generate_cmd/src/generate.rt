@@ -1,0 +1,295 @@
+//! The command `generate`.
+ghost use Rattle.std.specs.Prelude.{◌≡◌, ◌≤◌, ◌<◌, ◌^◌, ℕ, List, Some, false, length, IfErr, IfSome};
+ghost use Rattle.vol_base.specs.Causes.{Rose};
+ghost use Rattle.vol_base.specs.Outside.{Objects, OnlyReads};
+ghost use Rattle.vol_spec.specs.Grid.{whole as whole_of};
+ghost use Rattle.vol_spec.specs.Writable.{IsWritable};
+ghost use Rattle.shard_writer.specs.Writing.{Drops};
+ghost use Rattle.command_base.specs.Ending.{EndsWell, IsCaused};
+ghost use Rattle.command_base.specs.Outlets.{outlets_of};
+ghost use Rattle.command_base.specs.Scales.{IsReady, stored_scale};
+ghost use Rattle.command_base.specs.Statuses.{puts};
+ghost use Rattle.command_base.specs.declared.status.Status.TheVariants.{StoreFault as StoreStatus};
+ghost use Rattle.cutout_cmd.specs.Cutouts.{IsRequest};
+ghost use Rattle.write_cmd.specs.Storing.{WrittenBack};
+ghost use Rattle.generate_cmd.specs.Generating.{CanGenerate, drawn, Generated, Generates, IsRefusal, IsUnsummed, JudgesWhole, SumsScale};
+ghost use Rattle.generate_cmd.specs.Refusals.{generate_status};
+
+use crate::lines::write_generated_line;
+use crate::refusal::GenerateRefusal;
+use chunk_grid::{find_folder, whole};
+use command_base::{Status, finish, read_scale, report, tell};
+use cutout::Reader;
+use cutout_cmd::{CutoutRefusal, judge_part, stream_part};
+use info_doc::Scale;
+use shard_writer::Written;
+use std::alloc::Global;
+use std::sync::Wait;
+use std::thread::Threads;
+use value_sums::SumOutlet;
+use vectors_vol::Generator;
+use vol_base::{Gate, Name, Outlet, Source, Store};
+use write_cmd::{WriteRefusal, judge_limit, write_list};
+
+/// What was written, and the sum of the values of the whole scale modulo 2^64.
+#[derive(Clone, Copy)]
+pub struct Summary {
+    pub written: Written,
+    pub sum: u64,
+}
+
+// Whether all values of a scale can be cut out.
+fn judge_whole(scale: &Scale) -> Result<(), GenerateRefusal>
+    ensures { JudgesWhole result scale.now }
+{
+    match judge_part(scale, &whole(scale)) {
+        Ok(()) => Ok(()),
+        Err(refusal) => Err(GenerateRefusal::Cutout(refusal)),
+    }
+}
+
+// The sum of the values of the whole scale of a reader, which have `WIDTH` bytes each.
+fn sum_values<S: Source, const WIDTH: usize>(
+    alloc: Global,
+    store: &mut S,
+    reader: &mut Reader,
+    scale: &Scale,
+) -> Result<u64, CutoutRefusal>
+    requires scale { reader.old.scale ≡ scale.now }
+    requires width { scale.now.width ≡ WIDTH }
+    requires small { IsRequest scale.now (whole_of scale.now) }
+    ensures sums { IfSome (S.objects store.old) (λ m. SumsScale result m reader.old.dataset scale.now) }
+    ensures refused { IfErr result IsUnsummed }
+    ensures kept { OnlyReads (S.objects store.old) (S.objects store.new) (S.draft store.old)
+        (S.draft store.new) }
+    ensures later { S.faults store.old ≤ S.faults store.new }
+    ensures fault { result ≡ Err CutoutRefusal.StoreFault → Rose (S.faults store.old) (S.faults store.new) }
+{
+    let mut sums: SumOutlet<WIDTH> = SumOutlet::new();
+    match stream_part(alloc, store, &mut sums, reader, &whole(scale)) {
+        Ok(()) => Ok(sums.sum()),
+        Err(refusal) => Err(refusal),
+    }
+}
+
+// The sum of the values of the whole scale of a reader.
+fn sum_whole<S: Source>(
+    alloc: Global,
+    store: &mut S,
+    reader: &mut Reader,
+    scale: &Scale,
+) -> Result<u64, CutoutRefusal>
+    requires scale { reader.old.scale ≡ scale.now }
+    requires small { IsRequest scale.now (whole_of scale.now) }
+    ensures sums { IfSome (S.objects store.old) (λ m. SumsScale result m reader.old.dataset scale.now) }
+    ensures refused { IfErr result IsUnsummed }
+    ensures kept { OnlyReads (S.objects store.old) (S.objects store.new) (S.draft store.old)
+        (S.draft store.new) }
+    ensures later { S.faults store.old ≤ S.faults store.new }
+    ensures fault { result ≡ Err CutoutRefusal.StoreFault → Rose (S.faults store.old) (S.faults store.new) }
+{
+    match scale.width {
+        1 => sum_values::<S, 1>(alloc, store, reader, scale),
+        2 => sum_values::<S, 2>(alloc, store, reader, scale),
+        4 => sum_values::<S, 4>(alloc, store, reader, scale),
+        _ => sum_values::<S, 8>(alloc, store, reader, scale),
+    }
+}
+
+// The sum of the values of a whole scale.
+fn sum_scale<S: Source>(
+    alloc: Global,
+    store: &mut S,
+    dataset: &Name,
+    scale: &Scale,
+) -> Result<u64, CutoutRefusal>
+    requires dataset { length dataset.now ≤ 200 }
+    requires small { IsRequest scale.now (whole_of scale.now) }
+    ensures sums { IfSome (S.objects store.old) (λ m. SumsScale result m dataset.now scale.now) }
+    ensures refused { IfErr result IsUnsummed }
+    ensures kept { OnlyReads (S.objects store.old) (S.objects store.new) (S.draft store.old)
+        (S.draft store.new) }
+    ensures later { S.faults store.old ≤ S.faults store.new }
+    ensures fault { result ≡ Err CutoutRefusal.StoreFault → Rose (S.faults store.old) (S.faults store.new) }
+{
+    let mut reader = Reader::open(alloc, dataset, scale)?;
+    sum_whole(alloc, store, &mut reader, scale)
+}
+
+// Writes a list that a number makes into a scale that is ready, and sums the scale.
+fn write_and_sum<R, S: Store, G: Gate + Sync>(
+    rt: &R,
+    alloc: Global,
+    store: &mut S,
+    dataset: &Name,
+    scale: &Scale,
+    number: u32,
+    count: u32,
+    workers: u32,
+    gate: &G,
+) -> Result<Summary, GenerateRefusal>
+where
+    R: Threads + Wait + Sync,
+    requires dataset { length dataset.now ≤ 200 }
+    requires writable { IsWritable scale.now }
+    requires empty { IfSome (S.objects store.old) (λ m. IsReady m dataset.now scale.now) }
+    requires small { IsRequest scale.now (whole_of scale.now) }
+    requires number { number < 2 ^ 31 }
+    requires count { count ≤ 4096 }
+    ensures generates { (key : List ℕ) → IfSome (S.objects store.old) (λ m.
+        Generates result (Ok scale.now) m (S.objects store.new) (drawn number count) dataset.now key) }
+    ensures refused { IfErr result IsRefusal }
+    ensures draft { Drops (S.draft store.old) (S.draft store.new) }
+    ensures kept { IfErr result (λ refusal. puts (generate_status refusal) ≡ false →
+        OnlyReads (S.objects store.old) (S.objects store.new) (S.draft store.old) (S.draft store.new)) }
+    ensures later { S.faults store.old ≤ S.faults store.new }
+    ensures fault { IfErr result (λ refusal. generate_status refusal ≡ StoreStatus →
+        Rose (S.faults store.old) (S.faults store.new)) }
+{
+    let mut list = Generator::new(scale, number, count);
+    let written = match write_list(rt, alloc, store, &mut list, dataset, scale, workers, gate) {
+        Ok(written) => written,
+        Err(refusal) => return Err(GenerateRefusal::Write(refusal)),
+    };
+    match sum_scale(alloc, store, dataset, scale) {
+        Ok(sum) => Ok(Summary { written, sum }),
+        Err(refusal) => Err(GenerateRefusal::Cutout(refusal)),
+    }
+}
+
+// Writes a list that a number makes into a scale that keeps the writing limit, and sums the scale. The folder is
+// judged before the scale's size.
+fn generate_scale<R, S: Store, G: Gate + Sync>(
+    rt: &R,
+    alloc: Global,
+    store: &mut S,
+    dataset: &Name,
+    scale: &Scale,
+    number: u32,
+    count: u32,
+    workers: u32,
+    gate: &G,
+) -> Result<Summary, GenerateRefusal>
+where
+    R: Threads + Wait + Sync,
+    requires dataset { length dataset.now ≤ 200 }
+    requires writable { IsWritable scale.now }
+    requires number { number < 2 ^ 31 }
+    requires count { count ≤ 4096 }
+    ensures generates { (key : List ℕ) → IfSome (S.objects store.old) (λ m.
+        Generates result (Ok scale.now) m (S.objects store.new) (drawn number count) dataset.now key) }
+    ensures refused { IfErr result IsRefusal }
+    ensures draft { Drops (S.draft store.old) (S.draft store.new) }
+    ensures kept { IfErr result (λ refusal. puts (generate_status refusal) ≡ false →
+        OnlyReads (S.objects store.old) (S.objects store.new) (S.draft store.old) (S.draft store.new)) }
+    ensures later { S.faults store.old ≤ S.faults store.new }
+    ensures fault { IfErr result (λ refusal. generate_status refusal ≡ StoreStatus →
+        Rose (S.faults store.old) (S.faults store.new)) }
+{
+    match store.any_under(&find_folder(dataset, scale)) {
+        Ok(false) => {}
+        Ok(true) => return Err(GenerateRefusal::Write(WriteRefusal::NotEmpty)),
+        Err(_) => return Err(GenerateRefusal::Write(WriteRefusal::StoreFault)),
+    }
+    match judge_whole(scale) {
+        Ok(()) => {}
+        Err(refusal) => return Err(refusal),
+    }
+    write_and_sum(
+        rt, alloc, store, dataset, scale, number, count, workers, gate,
+    )
+}
+
+// Writes the list of writes that a number makes into the scale of a key, and sums the scale's values.
+fn generate_objects<R, S: Store, G: Gate + Sync>(
+    rt: &R,
+    alloc: Global,
+    store: &mut S,
+    dataset: &Name,
+    key: &Name,
+    number: u32,
+    count: u32,
+    workers: u32,
+    gate: &G,
+) -> Result<Summary, GenerateRefusal>
+where
+    R: Threads + Wait + Sync,
+    requires dataset { length dataset.now ≤ 200 }
+    requires key { length key.now ≤ 200 }
+    requires number { number < 2 ^ 31 }
+    requires count { count ≤ 4096 }
+    ensures generates { IfSome (S.objects store.old) (λ m.
+        Generates result (stored_scale m dataset.now key.now) m (S.objects store.new)
+        (drawn number count) dataset.now key.now) }
+    ensures refused { IfErr result IsRefusal }
+    ensures draft { Drops (S.draft store.old) (S.draft store.new) }
+    ensures kept { IfErr result (λ refusal. puts (generate_status refusal) ≡ false →
+        OnlyReads (S.objects store.old) (S.objects store.new) (S.draft store.old) (S.draft store.new)) }
+    ensures later { S.faults store.old ≤ S.faults store.new }
+    ensures fault { IfErr result (λ refusal. generate_status refusal ≡ StoreStatus →
+        Rose (S.faults store.old) (S.faults store.new)) }
+{
+    let scale = match read_scale(alloc, store, dataset, key) {
+        Ok(scale) => scale,
+        Err(refusal) => return Err(GenerateRefusal::Write(WriteRefusal::from(refusal))),
+    };
+    match judge_limit(&scale) {
+        Ok(()) => {}
+        Err(refusal) => return Err(GenerateRefusal::Write(refusal)),
+    }
+    generate_scale(
+        rt, alloc, store, dataset, &scale, number, count, workers, gate,
+    )
+}
+
+/// The command `generate`: puts the list of so many writes that a number makes into the scale of a key, sums the values
+/// of the whole scale, and prints how many objects of how many bytes were put, and the sum. `gate` isn't called.
+pub fn run_generate<R, S: Store, O: Outlet, E: Outlet, G: Gate + Sync>(
+    rt: &R,
+    alloc: Global,
+    store: &mut S,
+    out: &mut O,
+    err: &mut E,
+    dataset: &Name,
+    key: &Name,
+    number: u32,
+    count: u32,
+    workers: u32,
+    gate: &G,
+) -> Status
+where
+    R: Threads + Wait + Sync,
+    requires dataset { length dataset.now ≤ 200 }
+    requires key { length key.now ≤ 200 }
+    requires number { number < 2 ^ 31 }
+    requires count { count ≤ 4096 }
+    ensures generated { Generated result (S.objects store.old) (S.objects store.new) number count dataset.now
+        key.now (outlets_of O.written O.faults E.written E.faults out.old out.new err.old err.new) }
+    ensures complete { (m : Objects) → S.objects store.old ≡ Some m →
+        CanGenerate m number count dataset.now key.now
+        → (Rose (S.faults store.old) (S.faults store.new) → ⊥)
+        → (Rose (O.faults out.old) (O.faults out.new) → ⊥)
+        → EndsWell result }
+    ensures back { result ≡ Status.Ok → IfSome (S.objects store.old) (λ m.
+        WrittenBack m (S.objects store.new) (drawn number count) dataset.now key.now) }
+    ensures draft { Drops (S.draft store.old) (S.draft store.new) }
+    ensures kept { puts result ≡ false → OnlyReads (S.objects store.old) (S.objects store.new)
+        (S.draft store.old) (S.draft store.new) }
+    ensures causes { IsCaused result (S.faults store.old) (S.faults store.new) (O.faults out.old)
+        (O.faults out.new) (E.faults err.old) (E.faults err.new) }
+{
+    let summary = match generate_objects(
+        rt, alloc, store, dataset, key, number, count, workers, gate,
+    ) {
+        Ok(summary) => summary,
+        Err(refusal) => return report(alloc, err, dataset, &refusal),
+    };
+    let written = &summary.written;
+    match write_generated_line(alloc, count, written.objects, written.bytes, summary.sum) {
+        Ok(line) => finish(out, err, line.as_str()),
+        Err(_) => {
+            tell(err, Status::NoMemory);
+            Status::NoMemory
+        }
+    }
+}

@@ -1,0 +1,23 @@
+use Rattle.std.proofs.Common.{◌≡◌, Err, rules}
+use Rattle.reshard_cmd.proofs.ReshardSteps.{target_copied, target_drops, target_kept, untargeted}
+use Rattle.reshard_cmd.proofs.command.copy_into.Goals as goal
+
+pub returns-clause-copies : goal.returns-clause-copies
+returns-clause-copies g c =
+    target_copied c.copy_scale.result (g.S.Source.objects c.args.store.now) (g.S.Source.objects c.read_target.new.store) (g.S.Source.objects c.copy_scale.new.store) c.args.from_dataset.now c.args.to_dataset.now c.args.to_key.now
+    c.args.from.now c.in_ok-to.to c.read_target.ensures.kept.same_objects c.in_ok-to.ensures.read c.copy_scale.ensures.copies
+
+pub returns-in_err-to-clause-copies : goal.returns-in_err-to-clause-copies
+returns-in_err-to-clause-copies g c =
+    let is : c.from_residual.result ≡ Err c.in_err-to.field-0.0 = search rules in
+    untargeted c.from_residual.result c.in_err-to.field-0.0 (g.S.Source.objects c.args.store.now) (g.S.Source.objects c.read_target.new.store) c.args.from_dataset.now c.args.to_dataset.now c.args.to_key.now c.args.from.now
+    is c.read_target.ensures.kept.same_objects c.in_err-to.ensures.read
+
+pub returns-clause-unsharded : goal.returns-clause-unsharded
+returns-clause-unsharded g c =
+    target_drops (g.S.Source.objects c.args.store.now) c.args.to_dataset.now c.args.to_key.now c.in_ok-to.to (g.S.Source.draft c.args.store.now) (g.S.Source.draft c.read_target.new.store) (g.S.Source.draft c.copy_scale.new.store)
+    c.read_target.ensures.kept.same_draft c.in_ok-to.ensures.read c.copy_scale.ensures.unsharded
+
+pub returns-in_err-to-clause-unsharded : goal.returns-in_err-to-clause-unsharded
+returns-in_err-to-clause-unsharded g c =
+    target_kept (g.S.Source.objects c.args.store.now) c.args.to_dataset.now c.args.to_key.now (g.S.Source.draft c.args.store.now) (g.S.Source.draft c.read_target.new.store) c.read_target.ensures.kept.same_draft

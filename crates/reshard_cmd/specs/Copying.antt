@@ -1,0 +1,171 @@
+-- What `reshard` answers (this project's profile).
+use Rattle.std.specs.Prelude.{◌≡◌, ◌⊎◌, ◌^◌, ◌<◌, true, length, Option, Some, None, Result, Ok as Done, Err, IfOk, IfSome, IsOkAnd, IsSomeAnd}
+use Rattle.vol_base.specs.Outside.{any_under, Draft, Objects}
+use Rattle.vol_base.specs.declared.boxes.Box3.{Box3}
+use Rattle.vol_spec.specs.CellNames.{folder_of}
+use Rattle.vol_spec.specs.Copies.{AreOfOneVolume, copied_cells}
+use Rattle.vol_spec.specs.Grid.{Inside}
+use Rattle.vol_spec.specs.Types.{Bytes, Name}
+use Rattle.vol_spec.specs.Writable.{IsWritable, padded}
+use Rattle.vol_spec.specs.declared.scale.Scale.{Scale}
+use Rattle.chunk_laws.specs.Told.{HasNoFault}
+use Rattle.copy_laws.specs.Copied.{copied_in, KeepsValues, ReadsAsSource}
+use Rattle.shard_writer.specs.Writing.{Drops}
+use Rattle.shard_writer.specs.declared.written.Written.{Written}
+use Rattle.command_base.specs.Ending.{Ends}
+use Rattle.command_base.specs.Lines.{written_line}
+use Rattle.command_base.specs.Outlets.{Outlets}
+use Rattle.command_base.specs.Scales.{IsReady, stored_scale}
+use Rattle.command_base.specs.declared.refusal.NoScale.{NoScale}
+use Rattle.command_base.specs.declared.status.Status.{Status}
+use Rattle.reshard_cmd.specs.Judging.{DiffersFirst, too_many}
+use Rattle.reshard_cmd.specs.Refusals.{reshard_line, reshard_status}
+use Rattle.reshard_cmd.specs.Resharding.{copy_fault, copy_list, PutsCopyFront}
+use Rattle.reshard_cmd.specs.declared.fault.ReshardFault.{ReshardFault}
+use Rattle.reshard_cmd.specs.declared.fault.ReshardFault.TheVariants as fault
+use Rattle.reshard_cmd.specs.declared.refusal.ReshardRefusal.{ReshardRefusal}
+use Rattle.reshard_cmd.specs.declared.refusal.ReshardRefusal.TheVariants as refused
+
+-- what is said of a source and a target that are both there
+abbrev pub OfBoth : Result Scale NoScale → Result Scale NoScale → (Scale → Scale → Type 0) → Type 0
+OfBoth source target Of = IsOkAnd source (λ from. IsOkAnd target (λ to. Of from to))
+
+-- a copy can be begun: the target keeps the writing limit, both scales are of one volume, no grid has too many cells, and the target's folder is
+-- empty
+abbrev pub IsReadyCopy : Objects → Scale → Name → Scale → Type 0
+IsReadyCopy m from to_dataset to = AreOfOneVolume from to × (too_many from to ≡ None) ×
+    IsReady m to_dataset to
+
+-- each scale that was there, of whatever data set and key, is there as before
+abbrev pub KeepsScales : Objects → Objects → Type 0
+KeepsScales m now = (dataset key : Name) (s : Scale) → stored_scale m dataset key ≡ Done s →
+    stored_scale now dataset key ≡ Done s
+
+-- what stands after a copy: its objects were put in and nothing else was changed, so both scales are as
+-- before; the source has no fault, each value of the target is the source's, and the target has no fault
+pub record HasCopied (m : Objects) (now : Option Objects) (from_dataset : Name) (from : Scale)
+    (to_dataset : Name) (to : Scale) : Type 0 where
+  pub ready : IsReadyCopy m from to_dataset to
+  pub put : now ≡ Some (copied_in m from_dataset from to_dataset to)
+  pub scales : KeepsScales m (copied_in m from_dataset from to_dataset to)
+  pub source : HasNoFault m from_dataset from
+  pub values : KeepsValues m from_dataset from to_dataset to
+  pub target : HasNoFault (copied_in m from_dataset from to_dataset to) to_dataset to
+
+-- each box inside the target reads as the source did: no cell of it has a fault, its cutout is the one that
+-- was cut out of the source before, and nothing is wrong with its cells; and the source reads as before
+abbrev pub AllReadAsSource : Objects → Option Objects → Name → Scale → Name → Scale → Type 0
+AllReadAsSource m objects from_dataset from to_dataset to =
+    IsSomeAnd objects (λ now. (b : Box3) → Inside to b →
+    ReadsAsSource m now from_dataset from to_dataset to b)
+
+abbrev pub CopiedBack : Objects → Option Objects → Name → Name → Name → Name → Type 0
+CopiedBack m now from_dataset from_key to_dataset to_key =
+    OfBoth (stored_scale m from_dataset from_key) (stored_scale m to_dataset to_key)
+    (λ from to. AllReadAsSource m now from_dataset from to_dataset to)
+
+-- numbers of objects and of cells that are those of a copy
+pub record CountsCopy (written : Written) (m : Objects) (from_dataset : Name) (from : Scale)
+    (to_dataset : Name) (to : Scale) : Type 0 where
+  pub objects : written.objects ≡ length (copy_list m from_dataset from to_dataset to)
+  pub cells : written.cells ≡ length (copied_cells m from_dataset from to)
+
+-- a front of the objects of a copy that could be begun, none of them with a cell in whose box the source has a fault
+abbrev pub CopyFront : Objects → Option Objects → Name → Scale → Name → Scale → Type 0
+CopyFront m now from_dataset from to_dataset to = IsReadyCopy m from to_dataset to ×
+    PutsCopyFront m now from_dataset from to_dataset to
+
+-- what a fault of the copy is, as a refusal
+abbrev pub unmade : ReshardFault → ReshardRefusal
+unmade (fault.Differs item) = refused.Differs item
+unmade (fault.TooManyCells cells) = refused.TooManyCells cells
+unmade fault.NotEmpty = refused.NotEmpty
+unmade (fault.Damaged cell found) = refused.Damaged cell found
+unmade fault.StoreFault = refused.StoreFault
+unmade fault.OutOfMemory = refused.NoMemory
+
+-- what reading the scale that is copied into answers
+abbrev pub ReadsTarget : Result Scale ReshardRefusal → Result Scale NoScale → Type 0
+ReadsTarget (Done to) told = (told ≡ Done to) × IsWritable to
+ReadsTarget (Err (refused.NoTarget why)) told = told ≡ Err why
+ReadsTarget (Err (refused.TooManyVoxels voxels)) told =
+    IsOkAnd told (λ to. (voxels ≡ padded to) × (2 ^ 22 < padded to))
+ReadsTarget (Err refused.StoreFault) told = Unit {0}
+ReadsTarget (Err refused.NoMemory) told = Unit {0}
+ReadsTarget (Err other) told = ⊥
+
+-- what copying a scale into one that keeps the writing limit answers, and what stands after it
+abbrev pub CopiesScale : Result Written ReshardRefusal → Objects → Option Objects → Name → Scale → Name →
+    Scale → Type 0
+CopiesScale (Done written) m now from_dataset from to_dataset to =
+    HasCopied m now from_dataset from to_dataset to × CountsCopy written m from_dataset from to_dataset to
+CopiesScale (Err (refused.Differs item)) m now from_dataset from to_dataset to = (now ≡ Some m) ×
+    IsWritable to × DiffersFirst from to item
+CopiesScale (Err (refused.TooManyCells cells)) m now from_dataset from to_dataset to =
+    (now ≡ Some m) × IsWritable to × AreOfOneVolume from to × (too_many from to ≡ Some cells)
+CopiesScale (Err refused.NotEmpty) m now from_dataset from to_dataset to =
+    (now ≡ Some m) × IsWritable to × AreOfOneVolume from to × (too_many from to ≡ None) ×
+    (any_under m (folder_of to_dataset to) ≡ true)
+CopiesScale (Err (refused.Damaged cell found)) m now from_dataset from to_dataset to =
+    CopyFront m now from_dataset from to_dataset to ×
+    (copy_fault m from_dataset from to ≡ Some (cell, found)) × ¬ HasNoFault m from_dataset from
+CopiesScale (Err refused.StoreFault) m now from_dataset from to_dataset to = (now ≡ Some m) ⊎
+    CopyFront m now from_dataset from to_dataset to
+CopiesScale (Err refused.NoMemory) m now from_dataset from to_dataset to = (now ≡ Some m) ⊎
+    CopyFront m now from_dataset from to_dataset to
+CopiesScale (Err other) m now from_dataset from to_dataset to = ⊥
+
+-- what `reshard` answers before it prints, by the two scales that are told
+abbrev pub CopiesStored : Result Written ReshardRefusal → Result Scale NoScale → Result Scale NoScale →
+    Objects → Option Objects → Name → Name → Type 0
+CopiesStored (Err (refused.NoSource why)) source target m now from_dataset to_dataset = (now ≡ Some m) ×
+    (source ≡ Err why)
+CopiesStored (Err (refused.NoTarget why)) source target m now from_dataset to_dataset = (now ≡ Some m) ×
+    IsOkAnd source (λ from. target ≡ Err why)
+CopiesStored (Err (refused.TooManyVoxels voxels)) source target m now from_dataset to_dataset =
+    (now ≡ Some m) × OfBoth source target (λ from to. (voxels ≡ padded to) × (2 ^ 22 < padded to))
+CopiesStored (Err refused.StoreFault) source target m now from_dataset to_dataset =
+    (now ≡ Some m) ⊎ OfBoth source target (λ from to. CopyFront m now from_dataset from to_dataset to)
+CopiesStored (Err refused.NoMemory) source target m now from_dataset to_dataset =
+    (now ≡ Some m) ⊎ OfBoth source target (λ from to. CopyFront m now from_dataset from to_dataset to)
+CopiesStored result source target m now from_dataset to_dataset =
+    OfBoth source target (λ from to. CopiesScale result m now from_dataset from to_dataset to)
+
+-- where the target isn't sharded, nothing is being written, or what was before
+abbrev pub DropsUnsharded : Result Scale NoScale → Option Draft → Option Draft → Type 0
+DropsUnsharded target before after = IfOk target (λ to. to.sharding ≡ None → Drops before after)
+
+-- which data set's name a refusal tells, the target's only where its scale isn't there
+abbrev pub named_in : ReshardRefusal → Name → Name → Name
+named_in (refused.NoTarget why) from_dataset to_dataset = to_dataset
+named_in other from_dataset to_dataset = from_dataset
+
+-- both scales are there, the copy can be begun, and the source has no fault
+abbrev pub CanReshard : Objects → Name → Name → Name → Name → Type 0
+CanReshard m from_dataset from_key to_dataset to_key =
+    OfBoth (stored_scale m from_dataset from_key) (stored_scale m to_dataset to_key)
+    (λ from to. IsReadyCopy m from to_dataset to × HasNoFault m from_dataset from)
+
+-- the line of a copy that was made: how many objects were put, and how many cells they hold
+abbrev pub counts_line : Written → Bytes
+counts_line written = written_line written.objects written.cells
+
+-- the line of a refusal, with the name of the data set that it is told of
+abbrev pub refusal_line : Name → Name → ReshardRefusal → Bytes
+refusal_line from_dataset to_dataset refusal =
+    reshard_line (named_in refusal from_dataset to_dataset) refusal
+
+-- an answer that is right over the objects, where they are told
+abbrev pub IsRightCopy : Result Written ReshardRefusal → Option Objects → Option Objects → Name → Name →
+    Name → Name → Type 0
+IsRightCopy answer told now from_dataset from_key to_dataset to_key = IfSome told (λ m.
+    CopiesStored answer (stored_scale m from_dataset from_key) (stored_scale m to_dataset to_key) m now
+    from_dataset to_dataset)
+
+-- `reshard` ends as a right answer is told
+abbrev pub Resharded : Status → Option Objects → Option Objects → Name → Name → Name → Name → Outlets →
+    Type 0
+Resharded status told now from_dataset from_key to_dataset to_key o =
+    (answer : Result Written ReshardRefusal)
+    × IsRightCopy answer told now from_dataset from_key to_dataset to_key
+    × Ends counts_line reshard_status (refusal_line from_dataset to_dataset) answer status o

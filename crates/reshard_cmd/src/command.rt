@@ -1,0 +1,266 @@
+//! The command `reshard`.
+ghost use Rattle.std.specs.Prelude.{◌≡◌, ◌≤◌, length, false, None, Some, IfErr, IfOk, IfSome, OnOk};
+ghost use Rattle.vol_base.specs.Causes.{Rose};
+ghost use Rattle.vol_base.specs.Outside.{Objects, OnlyReads};
+ghost use Rattle.vol_spec.specs.Writable.{IsWritable};
+ghost use Rattle.shard_writer.specs.Writing.{Drops};
+ghost use Rattle.command_base.specs.Ending.{EndsWell, IsCaused};
+ghost use Rattle.command_base.specs.Outlets.{outlets_of};
+ghost use Rattle.command_base.specs.Scales.{stored_scale};
+ghost use Rattle.command_base.specs.Statuses.{puts};
+ghost use Rattle.reshard_cmd.specs.Copying.{CanReshard, CopiedBack, CopiesScale, CopiesStored, DropsUnsharded, named_in, ReadsTarget, Resharded, unmade};
+ghost use Rattle.reshard_cmd.specs.Refusals.{reshard_status};
+
+use crate::ReshardFault;
+use crate::copying::reshard;
+use crate::refusal::ReshardRefusal;
+use command_base::{ScaleRefusal, Status, finish, read_scale, report, tell, write_written_line};
+use shard_writer::Written;
+use std::alloc::Global;
+use std::sync::Wait;
+use std::thread::Threads;
+use vol_base::{Gate, Name, Outlet, Source, Store};
+use vol_spec::Scale;
+
+// A fault of the copy.
+fn refuse(fault: ReshardFault) -> ReshardRefusal
+    ensures { result ≡ unmade fault }
+{
+    match fault {
+        ReshardFault::Differs { item } => ReshardRefusal::Differs(item),
+        ReshardFault::TooManyCells { cells } => ReshardRefusal::TooManyCells(cells),
+        ReshardFault::NotEmpty => ReshardRefusal::NotEmpty,
+        ReshardFault::Damaged { cell, fault } => ReshardRefusal::Damaged { cell, fault },
+        ReshardFault::StoreFault => ReshardRefusal::StoreFault,
+        ReshardFault::OutOfMemory => ReshardRefusal::NoMemory,
+    }
+}
+
+// The name of the data set that a refusal tells.
+fn find_named<'a>(
+    refusal: &ReshardRefusal,
+    from_dataset: &'a Name,
+    to_dataset: &'a Name,
+) -> &'a Name
+    ensures { result.now ≡ named_in refusal.now from_dataset.now to_dataset.now }
+{
+    match refusal {
+        ReshardRefusal::NoTarget(_) => to_dataset,
+        _ => from_dataset,
+    }
+}
+
+// The scale that is copied into, where it is there and keeps the writing limit.
+fn read_target<S: Source>(
+    alloc: Global,
+    store: &mut S,
+    dataset: &Name,
+    key: &Name,
+) -> Result<Scale, ReshardRefusal>
+    requires dataset { length dataset.now ≤ 200 }
+    requires key { length key.now ≤ 200 }
+    ensures read { IfSome (S.objects store.old) (λ m.
+        ReadsTarget result (stored_scale m dataset.now key.now)) }
+    ensures writable { IfOk result IsWritable }
+    ensures kept { OnlyReads (S.objects store.old) (S.objects store.new) (S.draft store.old)
+        (S.draft store.new) }
+    ensures later { S.faults store.old ≤ S.faults store.new }
+    ensures fault { result ≡ Err ReshardRefusal.StoreFault → Rose (S.faults store.old) (S.faults store.new) }
+{
+    let scale = match read_scale(alloc, store, dataset, key) {
+        Ok(scale) => scale,
+        Err(ScaleRefusal::NoScale(why)) => return Err(ReshardRefusal::NoTarget(why)),
+        Err(ScaleRefusal::StoreFault) => return Err(ReshardRefusal::StoreFault),
+        Err(ScaleRefusal::NoMemory) => return Err(ReshardRefusal::NoMemory),
+    };
+    if scale.can_encode() {
+        Ok(scale)
+    } else {
+        Err(ReshardRefusal::TooManyVoxels(scale.padded()))
+    }
+}
+
+// Copies a scale into another one.
+fn copy_scale<R, S: Store, G: Gate + Sync>(
+    rt: &R,
+    alloc: Global,
+    store: &mut S,
+    from_dataset: &Name,
+    from: &Scale,
+    to_dataset: &Name,
+    to: &Scale,
+    workers: u32,
+    gate: &G,
+) -> Result<Written, ReshardRefusal>
+where
+    R: Threads + Wait + Sync,
+    requires from_dataset { length from_dataset.now ≤ 200 }
+    requires to_dataset { length to_dataset.now ≤ 200 }
+    requires writable { IsWritable to.now }
+    ensures copies { IfSome (S.objects store.old) (λ m.
+        CopiesScale result m (S.objects store.new) from_dataset.now from.now to_dataset.now to.now) }
+    ensures kept { IfErr result (λ refusal. puts (reshard_status refusal) ≡ false →
+        OnlyReads (S.objects store.old) (S.objects store.new) (S.draft store.old) (S.draft store.new)) }
+    ensures draft { OnOk result (Drops (S.draft store.old) (S.draft store.new)) }
+    ensures unsharded { to.now.sharding ≡ None → Drops (S.draft store.old) (S.draft store.new) }
+    ensures later { S.faults store.old ≤ S.faults store.new }
+    ensures fault { result ≡ Err ReshardRefusal.StoreFault → Rose (S.faults store.old) (S.faults store.new) }
+{
+    match reshard(
+        rt,
+        alloc,
+        store,
+        from_dataset,
+        from,
+        to_dataset,
+        to,
+        workers,
+        gate,
+    ) {
+        Ok(written) => Ok(written),
+        Err(fault) => Err(refuse(fault)),
+    }
+}
+
+// Copies a scale into that of a key of a data set.
+fn copy_into<R, S: Store, G: Gate + Sync>(
+    rt: &R,
+    alloc: Global,
+    store: &mut S,
+    from_dataset: &Name,
+    from: &Scale,
+    to_dataset: &Name,
+    to_key: &Name,
+    workers: u32,
+    gate: &G,
+) -> Result<Written, ReshardRefusal>
+where
+    R: Threads + Wait + Sync,
+    requires from_dataset { length from_dataset.now ≤ 200 }
+    requires to_dataset { length to_dataset.now ≤ 200 }
+    requires to_key { length to_key.now ≤ 200 }
+    ensures copies { IfSome (S.objects store.old) (λ m.
+        CopiesStored result (Ok from.now) (stored_scale m to_dataset.now to_key.now) m
+        (S.objects store.new) from_dataset.now to_dataset.now) }
+    ensures kept { IfErr result (λ refusal. puts (reshard_status refusal) ≡ false →
+        OnlyReads (S.objects store.old) (S.objects store.new) (S.draft store.old) (S.draft store.new)) }
+    ensures draft { OnOk result (Drops (S.draft store.old) (S.draft store.new)) }
+    ensures unsharded { IfSome (S.objects store.old) (λ m.
+        DropsUnsharded (stored_scale m to_dataset.now to_key.now) (S.draft store.old) (S.draft store.new)) }
+    ensures later { S.faults store.old ≤ S.faults store.new }
+    ensures fault { result ≡ Err ReshardRefusal.StoreFault → Rose (S.faults store.old) (S.faults store.new) }
+{
+    let to = read_target(alloc, store, to_dataset, to_key)?;
+    copy_scale(
+        rt,
+        alloc,
+        store,
+        from_dataset,
+        from,
+        to_dataset,
+        &to,
+        workers,
+        gate,
+    )
+}
+
+// Copies the scale of a key of a data set into that of another key, or data set, which is empty.
+fn copy_stored<R, S: Store, G: Gate + Sync>(
+    rt: &R,
+    alloc: Global,
+    store: &mut S,
+    from_dataset: &Name,
+    from_key: &Name,
+    to_dataset: &Name,
+    to_key: &Name,
+    workers: u32,
+    gate: &G,
+) -> Result<Written, ReshardRefusal>
+where
+    R: Threads + Wait + Sync,
+    requires from_dataset { length from_dataset.now ≤ 200 }
+    requires from_key { length from_key.now ≤ 200 }
+    requires to_dataset { length to_dataset.now ≤ 200 }
+    requires to_key { length to_key.now ≤ 200 }
+    ensures copies { IfSome (S.objects store.old) (λ m.
+        CopiesStored result (stored_scale m from_dataset.now from_key.now)
+        (stored_scale m to_dataset.now to_key.now) m (S.objects store.new) from_dataset.now to_dataset.now) }
+    ensures kept { IfErr result (λ refusal. puts (reshard_status refusal) ≡ false →
+        OnlyReads (S.objects store.old) (S.objects store.new) (S.draft store.old) (S.draft store.new)) }
+    ensures draft { OnOk result (Drops (S.draft store.old) (S.draft store.new)) }
+    ensures unsharded { IfSome (S.objects store.old) (λ m.
+        DropsUnsharded (stored_scale m to_dataset.now to_key.now) (S.draft store.old) (S.draft store.new)) }
+    ensures later { S.faults store.old ≤ S.faults store.new }
+    ensures fault { result ≡ Err ReshardRefusal.StoreFault → Rose (S.faults store.old) (S.faults store.new) }
+{
+    let from = read_scale(alloc, store, from_dataset, from_key)?;
+    copy_into(
+        rt,
+        alloc,
+        store,
+        from_dataset,
+        &from,
+        to_dataset,
+        to_key,
+        workers,
+        gate,
+    )
+}
+
+/// The command `reshard`: copies the scale of a key of a data set into that of another key, or data set, whose folder is
+/// empty, with other chunks, in another encoding or otherwise sharded; and prints how many objects were put, and how
+/// many cells they hold. A refusal is told.
+pub fn run_reshard<R, S: Store, O: Outlet, E: Outlet, G: Gate + Sync>(
+    rt: &R,
+    alloc: Global,
+    store: &mut S,
+    out: &mut O,
+    err: &mut E,
+    dataset: &Name,
+    key: &Name,
+    to_dataset: &Name,
+    to_key: &Name,
+    workers: u32,
+    gate: &G,
+) -> Status
+where
+    R: Threads + Wait + Sync,
+    requires dataset { length dataset.now ≤ 200 }
+    requires key { length key.now ≤ 200 }
+    requires to_dataset { length to_dataset.now ≤ 200 }
+    requires to_key { length to_key.now ≤ 200 }
+    ensures resharded { Resharded result (S.objects store.old) (S.objects store.new) dataset.now key.now
+        to_dataset.now to_key.now
+        (outlets_of O.written O.faults E.written E.faults out.old out.new err.old err.new) }
+    ensures complete { (m : Objects) → S.objects store.old ≡ Some m →
+        CanReshard m dataset.now key.now to_dataset.now to_key.now
+        → (Rose (S.faults store.old) (S.faults store.new) → ⊥)
+        → (Rose (O.faults out.old) (O.faults out.new) → ⊥) → EndsWell result }
+    ensures back { result ≡ Status.Ok → IfSome (S.objects store.old) (λ m.
+        CopiedBack m (S.objects store.new) dataset.now key.now to_dataset.now to_key.now) }
+    ensures draft { result ≡ Status.Ok → Drops (S.draft store.old) (S.draft store.new) }
+    ensures draft_unprinted { result ≡ Status.OutFault → Drops (S.draft store.old) (S.draft store.new) }
+    ensures unsharded { IfSome (S.objects store.old) (λ m.
+        DropsUnsharded (stored_scale m to_dataset.now to_key.now) (S.draft store.old) (S.draft store.new)) }
+    ensures kept { puts result ≡ false → OnlyReads (S.objects store.old) (S.objects store.new)
+        (S.draft store.old) (S.draft store.new) }
+    ensures causes { IsCaused result (S.faults store.old) (S.faults store.new) (O.faults out.old)
+        (O.faults out.new) (E.faults err.old) (E.faults err.new) }
+{
+    let written = match copy_stored(
+        rt, alloc, store, dataset, key, to_dataset, to_key, workers, gate,
+    ) {
+        Ok(written) => written,
+        Err(refusal) => {
+            let named = find_named(&refusal, dataset, to_dataset);
+            return report(alloc, err, named, &refusal);
+        }
+    };
+    match write_written_line(alloc, written.objects, written.cells) {
+        Ok(line) => finish(out, err, line.as_str()),
+        Err(_) => {
+            tell(err, Status::NoMemory);
+            Status::NoMemory
+        }
+    }
+}

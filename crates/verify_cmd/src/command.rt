@@ -1,0 +1,138 @@
+//! The command `verify`.
+ghost use Rattle.std.specs.Prelude.{◌≡◌, ◌≤◌, length, Err, IfSome, Some};
+ghost use Rattle.vol_base.specs.Causes.{Rose};
+ghost use Rattle.vol_base.specs.Outside.{Objects, OnlyReads};
+ghost use Rattle.vol_spec.specs.Grid.{whole as whole_of};
+ghost use Rattle.command_base.specs.Ending.{EndsWell, IsCaused};
+ghost use Rattle.command_base.specs.Outlets.{outlets_of};
+ghost use Rattle.command_base.specs.Scales.{stored_scale};
+ghost use Rattle.verify_cmd.specs.Verified.{CanVerify, IsAsked, JudgesScale, JudgesStored, part_in, unverified, Verified};
+
+use crate::lines::write_verified_line;
+use crate::refusal::VerifyRefusal;
+use crate::{Report, VerifyFault, verify};
+use chunk_grid::whole;
+use command_base::{Status, finish, read_scale, report, tell};
+use std::alloc::Global;
+use vol_base::{Box3, Name, Outlet, Source};
+use vol_spec::Scale;
+
+// The box that is judged: all of the scale where none is given.
+fn pick_part(scale: &Scale, part: &Option<Box3>) -> Box3
+    ensures { result ≡ part_in scale.now part.now }
+{
+    match part {
+        Some(part) => *part,
+        None => whole(scale),
+    }
+}
+
+// A fault of the judgement of a part.
+fn refuse(scale: &Scale, part: &Box3, fault: VerifyFault) -> VerifyRefusal
+    ensures { result ≡ unverified part.now (whole_of scale.now) fault }
+{
+    match fault {
+        VerifyFault::OutsideScale => VerifyRefusal::Outside {
+            part: *part,
+            whole: whole(scale),
+        },
+        VerifyFault::TooManyCells { cells } => VerifyRefusal::TooManyCells(cells),
+        VerifyFault::Damaged { cell, fault } => VerifyRefusal::Damaged { cell, fault },
+        VerifyFault::Misplaced {
+            shard,
+            minishard,
+            id,
+        } => VerifyRefusal::Misplaced {
+            shard,
+            minishard,
+            id,
+        },
+        VerifyFault::StoreFault => VerifyRefusal::StoreFault,
+        VerifyFault::OutOfMemory => VerifyRefusal::NoMemory,
+    }
+}
+
+// Judges a box of a scale, or all of it.
+fn judge_scale<S: Source>(
+    alloc: Global,
+    store: &mut S,
+    dataset: &Name,
+    scale: &Scale,
+    part: &Option<Box3>,
+) -> Result<Report, VerifyRefusal>
+    requires dataset { length dataset.now ≤ 200 }
+    ensures judges { IfSome (S.objects store.old) (λ m.
+        JudgesScale result m dataset.now scale.now (part_in scale.now part.now)) }
+    ensures asked { IsAsked result part.now }
+    ensures kept { OnlyReads (S.objects store.old) (S.objects store.new) (S.draft store.old)
+        (S.draft store.new) }
+    ensures later { S.faults store.old ≤ S.faults store.new }
+    ensures fault { result ≡ Err VerifyRefusal.StoreFault → Rose (S.faults store.old) (S.faults store.new) }
+{
+    let chosen = pick_part(scale, part);
+    match verify(alloc, store, dataset, scale, &chosen) {
+        Ok(report) => Ok(report),
+        Err(fault) => Err(refuse(scale, &chosen, fault)),
+    }
+}
+
+// Judges the stored chunks of a box of the scale of a key, or of all of it.
+fn judge_stored<S: Source>(
+    alloc: Global,
+    store: &mut S,
+    dataset: &Name,
+    key: &Name,
+    part: &Option<Box3>,
+) -> Result<Report, VerifyRefusal>
+    requires dataset { length dataset.now ≤ 200 }
+    requires key { length key.now ≤ 200 }
+    ensures judges { IfSome (S.objects store.old) (λ m.
+        JudgesStored result (stored_scale m dataset.now key.now) m dataset.now part.now) }
+    ensures asked { IsAsked result part.now }
+    ensures kept { OnlyReads (S.objects store.old) (S.objects store.new) (S.draft store.old)
+        (S.draft store.new) }
+    ensures later { S.faults store.old ≤ S.faults store.new }
+    ensures fault { result ≡ Err VerifyRefusal.StoreFault → Rose (S.faults store.old) (S.faults store.new) }
+{
+    match read_scale(alloc, store, dataset, key) {
+        Ok(scale) => judge_scale(alloc, store, dataset, &scale, part),
+        Err(refusal) => Err(VerifyRefusal::from(refusal)),
+    }
+}
+
+/// The command `verify`: judges the stored chunks of a box of the scale of a key, or of all of it, and prints how many
+/// there are.
+pub fn run_verify<S: Source, O: Outlet, E: Outlet>(
+    alloc: Global,
+    store: &mut S,
+    out: &mut O,
+    err: &mut E,
+    dataset: &Name,
+    key: &Name,
+    part: &Option<Box3>,
+) -> Status
+    requires dataset { length dataset.now ≤ 200 }
+    requires key { length key.now ≤ 200 }
+    ensures verified { Verified result (S.objects store.old) dataset.now key.now part.now
+        (outlets_of O.written O.faults E.written E.faults out.old out.new err.old err.new) }
+    ensures complete { (m : Objects) → S.objects store.old ≡ Some m → CanVerify m dataset.now key.now part.now
+        → (Rose (S.faults store.old) (S.faults store.new) → ⊥)
+        → (Rose (O.faults out.old) (O.faults out.new) → ⊥)
+        → EndsWell result }
+    ensures kept { OnlyReads (S.objects store.old) (S.objects store.new) (S.draft store.old)
+        (S.draft store.new) }
+    ensures causes { IsCaused result (S.faults store.old) (S.faults store.new) (O.faults out.old)
+        (O.faults out.new) (E.faults err.old) (E.faults err.new) }
+{
+    let found = match judge_stored(alloc, store, dataset, key, part) {
+        Ok(found) => found,
+        Err(refusal) => return report(alloc, err, dataset, &refusal),
+    };
+    match write_verified_line(alloc, found.cells, found.stored, found.absent) {
+        Ok(line) => finish(out, err, line.as_str()),
+        Err(_) => {
+            tell(err, Status::NoMemory);
+            Status::NoMemory
+        }
+    }
+}

@@ -1,0 +1,3 @@
+pub mod PlanSteps
+pub mod StreamSteps
+pub mod WriteSteps

@@ -1,0 +1,68 @@
+-- What the answer of a write says.
+use Rattle.std.proofs.Common.{◌≡◌, ◌∙◌, length, Option, Some, None, IfSome, Result, Ok, Err, false, refl, sym, ap, inl, arith}
+use Rattle.std.specs.Prelude.{IsOkAnd}
+use Rattle.std.proofs.lemmas.List.{take_all}
+use Rattle.vol_base.specs.Outside.{Draft, Objects, OnlyReads}
+use Rattle.vol_spec.proofs.Told.{in_told}
+use Rattle.vol_spec.specs.LastWrite.{zeros}
+use Rattle.vol_spec.specs.StoredCells.{chunks_of, put_in}
+use Rattle.vol_spec.specs.StoredLists.{stored_list}
+use Rattle.vol_spec.specs.Types.{Bytes, Listed, Name, Writes}
+use Rattle.vol_spec.specs.declared.scale.Scale.{Scale}
+use Rattle.shard_writer.specs.Writing.{PutsFront}
+use Rattle.shard_writer.specs.declared.written.Written.{Written}
+use Rattle.write_plan.specs.Stream.{writes_of}
+use Rattle.write_plan.specs.declared.fault.PlanFault.{PlanFault}
+use Rattle.command_base.proofs.Choices.{ok_and}
+use Rattle.command_base.specs.Scales.{stored_scale}
+use Rattle.command_base.specs.Statuses.{puts}
+use Rattle.write_cmd.specs.Refusals.{write_status}
+use Rattle.write_cmd.specs.Storing.{AllReadBack, Counts, FrontPut, HasStored, IsRight, KeepsStore, Listing, WritesAll, WritesScale, WrittenBack}
+use Rattle.write_cmd.specs.declared.refusal.WriteRefusal.{WriteRefusal}
+use Rattle.write_cmd.specs.declared.refusal.WriteRefusal.TheVariants.{NoScale, TooManyVoxels, NotEmpty, Stream, TooManyCells, StoreFault, FeedFault, NoMemory}
+
+-- a refusal of a status that puts nothing only read
+pub write_keeps : (refusal : WriteRefusal) (old new : Option Objects) (before after : Option Draft) → KeepsStore refusal old new before after → puts (write_status refusal) ≡ false → OnlyReads old new before after
+write_keeps (NoScale why) old new before after kept none = kept
+write_keeps (TooManyVoxels voxels) old new before after kept none = kept
+write_keeps NotEmpty old new before after kept none = kept
+write_keeps (Stream fault) old new before after kept none = kept
+write_keeps (TooManyCells cells) old new before after kept none = kept
+write_keeps StoreFault old new before after kept none = cc none
+write_keeps FeedFault old new before after kept none = kept
+write_keeps NoMemory old new before after kept none = cc none
+
+-- want of memory is always right, where nothing changed
+pub memory_right : (told : Option Objects) (left : Option Bytes) (dataset key : Name) → IsRight (Err NoMemory) told told left left dataset key
+memory_right told left dataset key = record {
+  judges = in_told told _ (λ m is. tt);
+  writes = in_told told _ (λ m is. in_told left _ (λ bytes fed. inl is));
+  feed = tt;
+  same = λ none. refl;
+}
+
+-- what is said of the scale and the writes, from what writing answers
+of_writes : (Q : Scale → Writes → Type 0) (m : Objects) (now : Option Objects) (list : Listing) (dataset key : Name) (written : Written) → WritesAll (Ok written) (stored_scale m dataset key) m now list dataset key
+    → ((s : Scale) (ws : Writes) → HasStored m now dataset key s ws → AllReadBack now dataset s ws → Counts written dataset s ws → Q s ws)
+    → IsOkAnd (stored_scale m dataset key) (λ s. IsOkAnd (list s) (Q s))
+of_writes Q m now list dataset key written writes f =
+    ok_and (stored_scale m dataset key) (λ s. WritesScale (Ok written) m now (list s) dataset key s) (λ s. IsOkAnd (list s) (Q s))
+    (λ s h. ok_and (list s) (λ ws. HasStored m now dataset key s ws × AllReadBack now dataset s ws × Counts written dataset s ws) (Q s) (λ ws k. f s ws k.0 k.1 k.2) h) writes
+
+pub back_told : (written : Written) (told now : Option Objects) (fed : Option Bytes) (dataset key : Name)
+    → IfSome told (λ m. IfSome fed (λ bytes. WritesAll (Ok written) (stored_scale m dataset key) m now (writes_of bytes) dataset key)) → IfSome told (λ m. IfSome fed (λ bytes. WrittenBack m now (writes_of bytes) dataset key))
+back_told written None now fed dataset key writes = tt
+back_told written (Some m) now None dataset key writes = tt
+back_told written (Some m) now (Some bytes) dataset key writes = of_writes (λ s ws. AllReadBack now dataset s ws) m now (writes_of bytes) dataset key written writes (λ s ws stored back counts. back)
+
+-- all objects are a front of them
+pub front_all : (m : Objects) (now : Option Objects) (list : Listed) → now ≡ Some (put_in m list) → PutsFront list m now
+front_all m now list put = record { count = length list; within = omega arith; put = put ∙ ap (λ xs. Some (put_in m xs)) (sym (take_all (length list) list (omega arith))) }
+
+pub stored_front : (m : Objects) (now : Option Objects) (dataset key : Name) (s : Scale) (list : Result Writes PlanFault) → IsOkAnd list (HasStored m now dataset key s) → FrontPut m now list dataset s
+stored_front m now dataset key s (Ok ws) h = ((h.writable, h.empty), (h.few, front_all m now (stored_list dataset s (chunks_of s zeros ws)) h.put))
+stored_front m now dataset key s (Err fault) h = absurd h
+
+pub written_front : (m : Objects) (now : Option Objects) (dataset key : Name) (s : Scale) (list : Result Writes PlanFault) (written : Written) → WritesScale (Ok written) m now list dataset key s → FrontPut m now list dataset s
+written_front m now dataset key s list written h =
+    stored_front m now dataset key s list (ok_and list (λ ws. HasStored m now dataset key s ws × AllReadBack now dataset s ws × Counts written dataset s ws) (HasStored m now dataset key s) (λ ws k. k.0) h)

@@ -1,0 +1,4 @@
+pub mod Fixed
+pub mod Lines
+pub mod Refusals
+pub mod Storing

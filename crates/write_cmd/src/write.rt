@@ -1,0 +1,260 @@
+//! Writing a list of writes, and the command `write`.
+ghost use Rattle.std.specs.Prelude.{◌≡◌, ◌≤◌, ◌^◌, ℕ, List, All, Some, [], false, length, IfErr, IfSome};
+ghost use Rattle.std.specs.Option.{option_map};
+ghost use Rattle.vol_base.specs.Causes.{Rose};
+ghost use Rattle.vol_base.specs.Outside.{any_under, Objects, OnlyReads};
+ghost use Rattle.vol_spec.specs.CellNames.{folder_of};
+ghost use Rattle.vol_spec.specs.Writable.{IsWritable};
+ghost use Rattle.write_plan.specs.Plans.{pairs};
+ghost use Rattle.write_plan.specs.Stream.{writes_of};
+ghost use Rattle.write_plan.specs.WriteLists.{IsWriteOf};
+ghost use Rattle.shard_writer.specs.Writing.{Drops};
+ghost use Rattle.command_base.specs.Ending.{EndsWell, IsCaused};
+ghost use Rattle.command_base.specs.Outlets.{outlets_of};
+ghost use Rattle.command_base.specs.Scales.{stored_scale};
+ghost use Rattle.command_base.specs.Statuses.{puts};
+ghost use Rattle.write_cmd.specs.Storing.{CanWrite, Judges, JudgesLimit, KeepsFeed, KeepsPlan, KeepsStore, PutsWrites, WritesAll, WritesScale, WrittenBack, Wrote};
+
+use crate::refusal::WriteRefusal;
+use chunk_grid::find_folder;
+use chunk_laws::tell_chunks;
+use command_base::{Status, finish, read_scale, report, tell, write_written_line};
+use info_doc::Scale;
+use shard_writer::{WriteFault, Written, write_scale};
+use std::alloc::Global;
+use std::sync::Wait;
+use std::thread::Threads;
+use vol_base::{Feed, Gate, Name, Outlet, Store};
+use write_plan::{Plan, Writes, read_writes};
+
+/// Refuses a scale that passes the writing limit, by the number of its padded voxels times channels.
+pub fn judge_limit(scale: &Scale) -> Result<(), WriteRefusal>
+    ensures { JudgesLimit result scale.now }
+{
+    if scale.can_encode() {
+        Ok(())
+    } else {
+        Err(WriteRefusal::TooManyVoxels(scale.padded()))
+    }
+}
+
+// Puts the objects of a plan.
+fn put_plan<R, S: Store, G: Gate + Sync>(
+    rt: &R,
+    alloc: Global,
+    store: &mut S,
+    dataset: &Name,
+    scale: &Scale,
+    plan: &mut Plan,
+    workers: u32,
+    gate: &G,
+) -> Result<Written, WriteRefusal>
+where
+    R: Threads + Wait + Sync,
+    requires dataset { length dataset.now ≤ 200 }
+    requires writable { IsWritable scale.now }
+    requires scale { plan.old.scale ≡ scale.now }
+    requires few { pairs scale.now plan.old.writes ≤ 2 ^ 22 }
+    ensures put { IfSome (S.objects store.old) (λ m.
+        PutsWrites result m (S.objects store.new) dataset.now scale.now plan.old.writes) }
+    ensures draft { Drops (S.draft store.old) (S.draft store.new) }
+    ensures kept { IfErr result (λ refusal. KeepsPlan refusal (S.objects store.old) (S.objects store.new)
+        (S.draft store.old) (S.draft store.new)) }
+    ensures later { S.faults store.old ≤ S.faults store.new }
+    ensures fault { result ≡ Err WriteRefusal.StoreFault → Rose (S.faults store.old) (S.faults store.new) }
+{
+    match write_scale(rt, alloc, store, dataset, scale, plan, workers, gate) {
+        Ok(written) => Ok(written),
+        Err(WriteFault::StoreFault) => Err(WriteRefusal::StoreFault),
+        Err(WriteFault::Damaged { .. }) => unreachable!(),
+        Err(WriteFault::OutOfMemory) => Err(WriteRefusal::NoMemory),
+    }
+}
+
+// Writes the objects of writes.
+fn write_planned<R, S: Store, G: Gate + Sync>(
+    rt: &R,
+    alloc: Global,
+    store: &mut S,
+    dataset: &Name,
+    scale: &Scale,
+    writes: Writes,
+    workers: u32,
+    gate: &G,
+) -> Result<Written, WriteRefusal>
+where
+    R: Threads + Wait + Sync,
+    requires dataset { length dataset.now ≤ 200 }
+    requires writable { IsWritable scale.now }
+    requires fits { All (IsWriteOf scale.now) writes }
+    ensures put { IfSome (S.objects store.old) (λ m.
+        PutsWrites result m (S.objects store.new) dataset.now scale.now writes) }
+    ensures draft { Drops (S.draft store.old) (S.draft store.new) }
+    ensures kept { IfErr result (λ refusal. KeepsPlan refusal (S.objects store.old) (S.objects store.new)
+        (S.draft store.old) (S.draft store.new)) }
+    ensures later { S.faults store.old ≤ S.faults store.new }
+    ensures fault { result ≡ Err WriteRefusal.StoreFault → Rose (S.faults store.old) (S.faults store.new) }
+{
+    let mut plan = Plan::of(alloc, scale, writes)?;
+    put_plan(rt, alloc, store, dataset, scale, &mut plan, workers, gate)
+}
+
+/// Writes the list that a stream has into a scale that is ready: it keeps the writing limit, and its folder is empty.
+pub fn write_list<R, S: Store, F: Feed, G: Gate + Sync>(
+    rt: &R,
+    alloc: Global,
+    store: &mut S,
+    feed: &mut F,
+    dataset: &Name,
+    scale: &Scale,
+    workers: u32,
+    gate: &G,
+) -> Result<Written, WriteRefusal>
+where
+    R: Threads + Wait + Sync,
+    requires dataset { length dataset.now ≤ 200 }
+    requires writable { IsWritable scale.now }
+    requires empty { IfSome (S.objects store.old) (λ m.
+        any_under m (folder_of dataset.now scale.now) ≡ false) }
+    ensures judges { IfSome (S.objects store.old) (λ m. Judges result (Ok scale.now) m dataset.now) }
+    ensures writes { (key : List ℕ) → IfSome (S.objects store.old) (λ m.
+        IfSome (F.left feed.old) (λ bytes. WritesScale result m (S.objects store.new)
+        (writes_of bytes scale.now) dataset.now key scale.now)) }
+    ensures feed { KeepsFeed result (F.left feed.old) (F.left feed.new) }
+    ensures draft { Drops (S.draft store.old) (S.draft store.new) }
+    ensures kept { IfErr result (λ refusal. KeepsStore refusal (S.objects store.old) (S.objects store.new)
+        (S.draft store.old) (S.draft store.new)) }
+    ensures later { S.faults store.old ≤ S.faults store.new }
+    ensures feed_later { F.faults feed.old ≤ F.faults feed.new }
+    ensures store_fault { result ≡ Err WriteRefusal.StoreFault →
+        Rose (S.faults store.old) (S.faults store.new) }
+    ensures feed_fault { result ≡ Err WriteRefusal.FeedFault → Rose (F.faults feed.old) (F.faults feed.new) }
+{
+    let writes = read_writes(alloc, feed, scale)?;
+    tell_chunks(dataset, scale);
+    write_planned(rt, alloc, store, dataset, scale, writes, workers, gate)
+}
+
+// Writes a stream into a scale that keeps the writing limit and whose folder is empty.
+fn write_stream<R, S: Store, F: Feed, G: Gate + Sync>(
+    rt: &R,
+    alloc: Global,
+    store: &mut S,
+    feed: &mut F,
+    dataset: &Name,
+    scale: &Scale,
+    workers: u32,
+    gate: &G,
+) -> Result<Written, WriteRefusal>
+where
+    R: Threads + Wait + Sync,
+    requires dataset { length dataset.now ≤ 200 }
+    requires writable { IsWritable scale.now }
+    ensures judges { IfSome (S.objects store.old) (λ m. Judges result (Ok scale.now) m dataset.now) }
+    ensures writes { (key : List ℕ) → IfSome (S.objects store.old) (λ m.
+        IfSome (F.left feed.old) (λ bytes. WritesScale result m (S.objects store.new)
+        (writes_of bytes scale.now) dataset.now key scale.now)) }
+    ensures feed { KeepsFeed result (F.left feed.old) (F.left feed.new) }
+    ensures draft { Drops (S.draft store.old) (S.draft store.new) }
+    ensures kept { IfErr result (λ refusal. KeepsStore refusal (S.objects store.old) (S.objects store.new)
+        (S.draft store.old) (S.draft store.new)) }
+    ensures later { S.faults store.old ≤ S.faults store.new }
+    ensures feed_later { F.faults feed.old ≤ F.faults feed.new }
+    ensures store_fault { result ≡ Err WriteRefusal.StoreFault →
+        Rose (S.faults store.old) (S.faults store.new) }
+    ensures feed_fault { result ≡ Err WriteRefusal.FeedFault → Rose (F.faults feed.old) (F.faults feed.new) }
+{
+    match store.any_under(&find_folder(dataset, scale)) {
+        Ok(false) => {}
+        Ok(true) => return Err(WriteRefusal::NotEmpty),
+        Err(_) => return Err(WriteRefusal::StoreFault),
+    }
+    write_list(rt, alloc, store, feed, dataset, scale, workers, gate)
+}
+
+// Writes a stream into the scale of a key, which keeps the writing limit and whose folder is empty.
+fn write_objects<R, S: Store, F: Feed, G: Gate + Sync>(
+    rt: &R,
+    alloc: Global,
+    store: &mut S,
+    feed: &mut F,
+    dataset: &Name,
+    key: &Name,
+    workers: u32,
+    gate: &G,
+) -> Result<Written, WriteRefusal>
+where
+    R: Threads + Wait + Sync,
+    requires dataset { length dataset.now ≤ 200 }
+    requires key { length key.now ≤ 200 }
+    ensures judges { IfSome (S.objects store.old) (λ m.
+        Judges result (stored_scale m dataset.now key.now) m dataset.now) }
+    ensures writes { IfSome (S.objects store.old) (λ m.
+        IfSome (F.left feed.old) (λ bytes. WritesAll result (stored_scale m dataset.now key.now) m
+        (S.objects store.new) (writes_of bytes) dataset.now key.now)) }
+    ensures feed { KeepsFeed result (F.left feed.old) (F.left feed.new) }
+    ensures draft { Drops (S.draft store.old) (S.draft store.new) }
+    ensures kept { IfErr result (λ refusal. KeepsStore refusal (S.objects store.old) (S.objects store.new)
+        (S.draft store.old) (S.draft store.new)) }
+    ensures later { S.faults store.old ≤ S.faults store.new }
+    ensures feed_later { F.faults feed.old ≤ F.faults feed.new }
+    ensures store_fault { result ≡ Err WriteRefusal.StoreFault →
+        Rose (S.faults store.old) (S.faults store.new) }
+    ensures feed_fault { result ≡ Err WriteRefusal.FeedFault → Rose (F.faults feed.old) (F.faults feed.new) }
+{
+    let scale = read_scale(alloc, store, dataset, key)?;
+    judge_limit(&scale)?;
+    write_stream(rt, alloc, store, feed, dataset, &scale, workers, gate)
+}
+
+/// The command `write`: puts the list of writes that a stream has into the scale of a key, and prints how many objects
+/// were put and how many cells they hold. `gate` isn't called.
+pub fn run_write<R, S: Store, F: Feed, O: Outlet, E: Outlet, G: Gate + Sync>(
+    rt: &R,
+    alloc: Global,
+    store: &mut S,
+    feed: &mut F,
+    out: &mut O,
+    err: &mut E,
+    dataset: &Name,
+    key: &Name,
+    workers: u32,
+    gate: &G,
+) -> Status
+where
+    R: Threads + Wait + Sync,
+    requires dataset { length dataset.now ≤ 200 }
+    requires key { length key.now ≤ 200 }
+    ensures wrote { Wrote result (S.objects store.old) (S.objects store.new) (F.left feed.old)
+        (F.left feed.new) dataset.now key.now
+        (outlets_of O.written O.faults E.written E.faults out.old out.new err.old err.new) }
+    ensures complete { (m : Objects) (bytes : List ℕ) → S.objects store.old ≡ Some m →
+        F.left feed.old ≡ Some bytes → CanWrite m (writes_of bytes) dataset.now key.now
+        → (Rose (S.faults store.old) (S.faults store.new) → ⊥)
+        → (Rose (F.faults feed.old) (F.faults feed.new) → ⊥)
+        → (Rose (O.faults out.old) (O.faults out.new) → ⊥)
+        → EndsWell result }
+    ensures back { result ≡ Status.Ok → IfSome (S.objects store.old) (λ m. IfSome (F.left feed.old) (λ bytes.
+        WrittenBack m (S.objects store.new) (writes_of bytes) dataset.now key.now)) }
+    ensures end { result ≡ Status.Ok → F.left feed.new ≡ option_map (λ _. []) (F.left feed.old) }
+    ensures unread { result ≡ Status.InfoRefused → F.left feed.new ≡ F.left feed.old }
+    ensures draft { Drops (S.draft store.old) (S.draft store.new) }
+    ensures kept { puts result ≡ false → OnlyReads (S.objects store.old) (S.objects store.new)
+        (S.draft store.old) (S.draft store.new) }
+    ensures causes { IsCaused result (S.faults store.old) (S.faults store.new) (O.faults out.old)
+        (O.faults out.new) (E.faults err.old) (E.faults err.new) }
+    ensures feed_later { F.faults feed.old ≤ F.faults feed.new }
+    ensures feed_fault { result ≡ Status.FeedFault → Rose (F.faults feed.old) (F.faults feed.new) }
+{
+    let written = match write_objects(rt, alloc, store, feed, dataset, key, workers, gate) {
+        Ok(written) => written,
+        Err(refusal) => return report(alloc, err, dataset, &refusal),
+    };
+    match write_written_line(alloc, written.objects, written.cells) {
+        Ok(line) => finish(out, err, line.as_str()),
+        Err(_) => {
+            tell(err, Status::NoMemory);
+            Status::NoMemory
+        }
+    }
+}
