@@ -9,12 +9,13 @@
               [--sharding PRESHIFT,HASH,MINISHARD_BITS,SHARD_BITS]
 
 `put` writes a whole array into the scale KEY, whose folder has to be empty. It makes DATASET/info where there is none, and
-adds the scale to one that has no such scale; the layout of a scale that is there stays, whatever the options say. `get` reads a
+adds the scale to one that has no such scale, for which it wants --resolution; the layout of a scale that is there stays, whatever the
+options say. `get` reads a
 box, as [x0:x1,y0:y1,z0:z1] or `all`. `add` adds to DATASET/info a scale KEY2 of the same voxels as KEY in another layout, and stores
 nothing: `vol_tool reshard DATASET KEY DATASET KEY2` fills it.
 
 Arrays are of uint8, uint16, uint32 or uint64 and have the axes z, y, x, or channel, z, y, x (AXES is czyx); with `--axes xyzc`
-they have x, y, z, or x, y, z, channel, as CloudVolume's. `put` takes z, y, x, channel too (zyxc), and refuses an array that looks so
+they have x, y, z, or x, y, z, channel, as CloudVolume's, and with `--axes zyxc` z, y, x, channel. `put` refuses an array that looks so
 where no axes are named. HASH is identity or murmur. Numbers that begin with `-` want a `=`:
 --offset=-3,0,0. The program is the one beside this script, or the one that the variable VOL_TOOL names. Nothing but Python's
 standard library is wanted, and an array is never whole in memory. The status is vol_tool's; it is 1 where this script refuses, and 2
@@ -33,6 +34,7 @@ import re
 import struct
 import subprocess
 import sys
+import tempfile
 
 PROGRAM = os.environ.get("VOL_TOOL") or pathlib.Path(__file__).resolve().parent.parent / "bin" / "vol_tool"
 MAGIC = b"\x93NUMPY"
@@ -226,6 +228,8 @@ def set_layout(scale, words):
 
 
 def scale_of(values, words):
+    if words.resolution is None:
+        raise Refused(f"there is no scale {words.key} yet: how long a voxel is has to be named, as --resolution 8,8,40 in nanometres")
     scale = {"key": words.key, "size": values.size, "voxel_offset": words.offset, "resolution": words.resolution}
     set_layout(scale, words)
     return scale
@@ -338,6 +342,28 @@ def box_of(words, scale):
     return [ends[axis + 1] - ends[axis] for axis in (0, 2, 4)]
 
 
+def interleave(source, out, size, channels, width):
+    """Writes values that stand channel by channel, x fastest, with the channels of a voxel side by side."""
+    x, y, z = size
+    code = CODES[width]
+    values = memoryview(mmap.mmap(source.fileno(), 0, access=mmap.ACCESS_READ)).cast("B").cast(code)
+    for at in range(0, x * y * z, x):
+        row = array.array(code, bytes(x * channels * width))
+        for channel in range(channels):
+            begin = channel * x * y * z + at
+            row[channel::channels] = array.array(code, values[begin : begin + x].tobytes())
+        out.write(row.tobytes())
+
+
+def cut_interleaved(words, out, size, channels, width):
+    """Cuts a box out by way of a file beside the array."""
+    with tempfile.TemporaryFile(dir=pathlib.Path(words.out).resolve().parent) as source:
+        status = run_tool(["cutout", words.dataset, words.key, words.box], stdin=subprocess.DEVNULL, stdout=source).wait()
+        if status == 0:
+            interleave(source, out, size, channels, width)
+    return status
+
+
 def get(words):
     check_name(words.dataset)
     path = pathlib.Path(words.dataset) / "info"
@@ -346,14 +372,19 @@ def get(words):
     x, y, z = box_of(words, scale)
     channels = volume["num_channels"]
     # Values with x fastest are an array of x, y, z in numpy's order of columns, and one of z, y, x in its order of rows.
+    # Those of several channels behind x are put side by side.
     by_columns = words.axes == "xyzc"
-    shape = ([x, y, z] if by_columns else [z, y, x]) if channels == 1 else ([x, y, z, channels] if by_columns else [channels, z, y, x])
+    lengths_by_axis = {"x": x, "y": y, "z": z, "c": channels}
+    shape = [lengths_by_axis[axis] for axis in words.axes if axis != "c" or channels > 1]
     width = width_of(path, volume)
     part = words.out + ".part"
     with open(part, "wb") as out:
         write_header(out, f"{'|' if width == 1 else '<'}u{width}", shape, by_columns)
         out.flush()
-        status = run_tool(["cutout", words.dataset, words.key, words.box], stdin=subprocess.DEVNULL, stdout=out).wait()
+        if words.axes == "zyxc" and channels > 1:
+            status = cut_interleaved(words, out, [x, y, z], channels, width)
+        else:
+            status = run_tool(["cutout", words.dataset, words.key, words.box], stdin=subprocess.DEVNULL, stdout=out).wait()
     if status == 0:
         os.replace(part, words.out)
     else:
@@ -394,7 +425,7 @@ def read_words():
     one.add_argument("dataset")
     one.add_argument("key")
     one.add_argument("--offset", type=numbers(3, -(1 << 40), 1 << 40), default=[0, 0, 0], help="the first voxel (0,0,0)")
-    one.add_argument("--resolution", type=lengths, default=[1, 1, 1], help="nanometres of a voxel (1,1,1)")
+    one.add_argument("--resolution", type=lengths, help="nanometres of a voxel, wanted for a new scale")
     add_layout(one)
     one.add_argument("--workers", type=int, choices=range(1, 17), default=min(16, os.cpu_count() or 1), metavar="N")
     one.set_defaults(job=put)
@@ -405,7 +436,7 @@ def read_words():
     two.add_argument("out")
     two.set_defaults(job=get)
     one.add_argument("--axes", choices=["czyx", "zyx", "xyzc", "xyz", "zyxc"], help="the array's axes (czyx)")
-    two.add_argument("--axes", choices=["czyx", "zyx", "xyzc", "xyz"], default="czyx", help="the array's axes (czyx)")
+    two.add_argument("--axes", choices=["czyx", "zyx", "xyzc", "xyz", "zyxc"], default="czyx", help="the array's axes (czyx)")
     three = commands.add_parser("add", help="adds a scale of the same voxels in another layout")
     three.add_argument("dataset")
     three.add_argument("key")

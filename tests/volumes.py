@@ -21,7 +21,16 @@ from writes import in_folder
 SCRIPT = ROOT / "examples" / "volume.py"
 
 
+# What a case of `put` names where it is about something else.
+LENGTHS = ["--resolution", "1,1,1"]
+
+
 def call(program, folder, *words):
+    """What a call ends with. One of `put` that names no lengths of a voxel gets some."""
+    return call_as_it_is(program, folder, *words, *(LENGTHS if words[0] == "put" and "--resolution" not in words else []))
+
+
+def call_as_it_is(program, folder, *words):
     done = subprocess.run(
         [sys.executable, SCRIPT, *words], cwd=folder, capture_output=True, timeout=LIMIT, stdin=subprocess.DEVNULL,
         env={**os.environ, "VOL_TOOL": str(program)},
@@ -122,6 +131,9 @@ def asks_for_axes(program, _, folder):
     call(program, folder, "get", "zyxc", "s", "all", "out.npy")
     if load(folder / "out.npy")[3] != in_order(values, size, channels, "czyx", False, "little", 1):
         return "zyxc has other values"
+    call(program, folder, "get", "zyxc", "s", "all", "out.npy", "--axes", "zyxc")
+    if load(folder / "out.npy") != ("|u1", [5, 6, 7, 3], False, content):
+        return "zyxc comes out otherwise than it went in"
     return None
 
 
@@ -239,6 +251,19 @@ def keeps_lengths(program, _, folder):
 
 
 @in_folder
+def asks_for_lengths(program, _, folder):
+    cube(folder / "in.npy", "|u1")
+    status, out, err = call_as_it_is(program, folder, "put", "in.npy", "d", "s")
+    if (status, out) != (1, "") or "--resolution 8,8,40" not in err or (folder / "d").exists():
+        return f"a new scale: {status} {out!r} {err!r}"
+    call(program, folder, "put", "in.npy", "d", "s")
+    for path in (folder / "d/s").iterdir():
+        path.unlink()
+    status, _, err = call_as_it_is(program, folder, "put", "in.npy", "d", "s")
+    return None if (status, err) == (0, "") else f"a scale that is there: {status} {err!r}"
+
+
+@in_folder
 def takes_infos(program, _, folder):
     """Infos that others made: a type in capitals, a layout that the options' own wouldn't fit, and what is no info."""
     (folder / "d").mkdir()
@@ -299,6 +324,7 @@ def judge_all(program):
         (keeps_info, "an info after a refusal"),
         (keeps_info_without_program, "an info where there is no program"),
         (keeps_lengths, "lengths of a voxel"),
+        (asks_for_lengths, "no lengths of a voxel"),
         (takes_infos, "infos that others made"),
         (adds_layouts, "scales in other layouts"),
     ]:
