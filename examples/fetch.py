@@ -4,15 +4,22 @@
     fetch.py LINK DATASET             copies the info, and says of each scale what it is, and which members vol_tool can't read
     fetch.py LINK DATASET KEY BOX     copies the chunks of an unsharded scale that a box meets
 
-LINK is the volume's address, which begins with http:// or https://; DATASET is the local folder; BOX is [x0:x1,y0:y1,z0:z1]. A chunk
-that the server hasn't (404, 403) isn't copied. What comes compressed is refused, and so is a scale in shards: copy the whole files of
-its folder then. Nothing but Python's standard library is wanted. The status is 1 where the script refuses.
+LINK is the volume's address, which begins with http://, https:// or gs://; DATASET is the local folder; BOX is [x0:x1,y0:y1,z0:z1]. A
+chunk that the server hasn't (404, 403) isn't copied, nor is one whose file is there already: so a copy that broke off goes on where it
+was. What comes with gzip is unpacked, and what is compressed otherwise is refused, as is a scale in shards: copy the whole files of its
+folder then. Eight connections are used; a server that is silent for 30 seconds, is busy (429) or fails (5xx) is tried again, three times
+in all. Where standard error is a terminal, it tells how far it is. Nothing but Python's standard library is wanted. The status is 1
+where the script refuses.
 """
+import concurrent.futures
+import gzip
+import http.client
 import itertools
 import json
 import pathlib
 import re
 import sys
+import time
 import urllib.error
 import urllib.request
 
@@ -28,18 +35,48 @@ class Refused(Exception):
 # What servers say of what they haven't: stores that don't let everyone list them say the latter.
 NOT_THERE = (404, 403)
 
+# How many connections there are at once, how long a silent server is waited for, and how long before each further try, in seconds.
+CONNECTIONS = 8
+PATIENCE = 30
+PAUSES = (1, 4)
 
-def fetch(address):
+
+def unpack(address, coding, values):
+    """The bytes behind an address, as they are without the coding that they came in."""
+    if coding == "identity":
+        return values
+    if coding == "gzip":
+        return gzip.decompress(values)
+    raise Refused(f"{address} comes compressed, by {coding}")
+
+
+def fetch_once(address):
     """The bytes behind an address, or None where there are none."""
+    request = urllib.request.Request(address, headers={"Accept-Encoding": "gzip"})
     try:
-        with urllib.request.urlopen(address) as reply:
-            if reply.headers.get("Content-Encoding", "identity") != "identity":
-                raise Refused(f"{address} comes compressed")
-            return reply.read()
+        with urllib.request.urlopen(request, timeout=PATIENCE) as reply:
+            return unpack(address, reply.headers.get("Content-Encoding", "identity").lower(), reply.read())
     except urllib.error.HTTPError as error:
         if error.code not in NOT_THERE:
             raise
         return None
+
+
+def may_pass(error):
+    """Whether another try may go better."""
+    return not isinstance(error, urllib.error.HTTPError) or error.code == 429 or error.code >= 500
+
+
+def fetch(address):
+    """The same, tried again where the server may only be busy."""
+    for pause in PAUSES:
+        try:
+            return fetch_once(address)
+        except (OSError, EOFError, http.client.HTTPException) as error:
+            if not may_pass(error):
+                raise
+        time.sleep(pause)
+    return fetch_once(address)
 
 
 def save(path, values):
@@ -111,26 +148,53 @@ def sides(scale, box, axis):
         yield f"{at}-{min(at + step, last)}"
 
 
+def names_in(scale, box):
+    """The names of the chunks that meet a box."""
+    return ["_".join(name) for name in itertools.product(*(list(sides(scale, box, axis)) for axis in range(3)))]
+
+
+def copy_chunk(link, path):
+    """What became of a chunk: it was copied, is absent, or was kept."""
+    if path.exists():
+        return "kept"
+    values = fetch(link)
+    if values is None:
+        return "absent"
+    save(path, values)
+    return "copied"
+
+
+def tell_progress(done, total):
+    if sys.stderr.isatty():
+        print(f"\r{done} of {total} chunks", end="\n" if done == total else "", file=sys.stderr, flush=True)
+
+
 def fetch_box(link, dataset, key, text):
-    scale, box = find_scale(dataset, key), read_box(text)
-    copied = absent = 0
-    for name in map("_".join, itertools.product(*(list(sides(scale, box, axis)) for axis in range(3)))):
-        values = fetch(f"{link}/{key}/{name}")
-        if values is None:
-            absent += 1
-        else:
-            save(pathlib.Path(dataset) / key / name, values)
-            copied += 1
-    print(f"copied {copied} absent {absent}")
+    names = names_in(find_scale(dataset, key), read_box(text))
+    counts = {"copied": 0, "absent": 0, "kept": 0}
+    with concurrent.futures.ThreadPoolExecutor(CONNECTIONS) as pool:
+        jobs = [pool.submit(copy_chunk, f"{link}/{key}/{name}", pathlib.Path(dataset) / key / name) for name in names]
+        try:
+            for done, job in enumerate(concurrent.futures.as_completed(jobs), 1):
+                counts[job.result()] += 1
+                tell_progress(done, len(jobs))
+        except BaseException:
+            pool.shutdown(cancel_futures=True)
+            raise
+    kept = f" kept {counts['kept']}" if counts["kept"] else ""
+    print(f"copied {counts['copied']} absent {counts['absent']}{kept}")
 
 
-def check_link(link):
-    """Refuses what is no address over HTTP."""
-    bucket = re.match(r"(?:precomputed://)?gs://(.*)", link)
+def address_of(link):
+    """A link as an address over HTTP; those of a bucket are at the store's own host."""
+    link = link.rstrip("/")
+    bucket = re.match(r"(?:precomputed://)?gs://(.+)", link)
     if bucket:
-        raise Refused(f"{link} is no address over HTTP; where it is public it is https://storage.googleapis.com/{bucket[1]}")
+        return f"https://storage.googleapis.com/{bucket[1]}"
+    link = link.removeprefix("precomputed://")
     if not link.startswith(("http://", "https://")):
-        raise Refused(f"{link} doesn't begin with http:// or https://")
+        raise Refused(f"{link} doesn't begin with http://, https:// or gs://")
+    return link
 
 
 def main():
@@ -138,11 +202,10 @@ def main():
     if len(words) not in (2, 4):
         print(__doc__, file=sys.stderr)
         return 1
-    words[0] = words[0].rstrip("/")
     try:
-        check_link(words[0])
+        words[0] = address_of(words[0])
         (fetch_info if len(words) == 2 else fetch_box)(*words)
-    except (Refused, OSError, KeyError, json.JSONDecodeError) as why:
+    except (Refused, OSError, EOFError, KeyError, http.client.HTTPException, json.JSONDecodeError) as why:
         print(f"fetch.py: {why}", file=sys.stderr)
         return 1
     return 0
