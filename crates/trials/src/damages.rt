@@ -29,12 +29,11 @@ fn check_cutout(
     let key = name_of("s")?;
     let part = whole(scale);
     let status = run_cutout(alloc, store, &mut out, &mut err, &dataset, &key, &part);
-    let Some((cell, fault)) = find_fault(rt, store, &dataset, scale, &part) else {
+    let Some((x, y, z, fault)) = find_fault(rt, store, &dataset, scale, &part) else {
         assert_eq!(rt; status, Status::Ok);
         compare(rt, store, &dataset, scale, &part, out.written());
         return Ok(());
     };
-    let [x, y, z] = cell;
     let line = format!(in alloc; "damaged {x},{y},{z}: {fault}\n")?;
     assert_eq!(rt; status, Status::Damaged);
     assert!(rt; err.written() == line.as_bytes(), "at {line}");

@@ -63,7 +63,7 @@ pub(crate) fn find_fault(
     dataset: &Name,
     scale: &Scale,
     part: &Box3,
-) -> Option<([u64; 3], Fault)>
+) -> Option<(u64, u64, u64, Fault)>
     requires { length dataset.now ≤ 200 }
 {
     let len = byte_len(part, 1, 1).min(1 << 16) as u64;
@@ -72,7 +72,8 @@ pub(crate) fn find_fault(
         assert!(rt; covers(&whole(scale), p));
         assert!(rt; scale.channels > 0);
         if let Err(fault) = plain_value(store, dataset, scale, p, 0) {
-            return Some((cell_of(scale, p), fault));
+            let [x, y, z] = cell_of(scale, p);
+            return Some((x, y, z, fault));
         }
     }
     None
