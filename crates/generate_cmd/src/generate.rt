@@ -243,7 +243,7 @@ where
 }
 
 /// The command `generate`: puts the list of so many writes that a number makes into the scale of a key, sums the values
-/// of the whole scale, and prints how many objects of how many bytes were put, and the sum. `gate` isn't called.
+/// of the whole scale, and prints how many objects of how many bytes were put, and the sum. Workers call `gate`.
 pub fn run_generate<R, S: Store, O: Outlet, E: Outlet, G: Gate + Sync>(
     rt: &R,
     alloc: Global,

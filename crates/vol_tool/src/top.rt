@@ -31,7 +31,7 @@ impl<S: Store, F: Feed, O: Outlet, E: Outlet, D: Door> Viewed<S, F, O, E, D> for
 }
 
 /// Runs the command that the words spell (those after the program's name) over a store, a feed, an output, an
-/// error output and a door. `rt` is for the workers of commands that write, and `gate` isn't called.
+/// error output and a door. `rt` is for the workers of commands that write, and they call `gate`.
 pub fn run<R, S: Store, F: Feed, O: Outlet, E: Outlet, D: Door, G: Gate + Sync>(
     rt: &R,
     alloc: Global,

@@ -208,7 +208,7 @@ where
 }
 
 /// The command `write`: puts the list of writes that a stream has into the scale of a key, and prints how many objects
-/// were put and how many cells they hold. `gate` isn't called.
+/// were put and how many cells they hold. Workers call `gate`.
 pub fn run_write<R, S: Store, F: Feed, O: Outlet, E: Outlet, G: Gate + Sync>(
     rt: &R,
     alloc: Global,
