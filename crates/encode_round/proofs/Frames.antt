@@ -1,5 +1,5 @@
 -- Where frames are after one event more.
-use Rattle.std.proofs.Common.{zero, [], All, refl, ◌≡◌, ◌≢◌, ◌<◌, ◌≤◌, ◌+◌, ℕ, List, length, get_or, inl, inr, sym, ap, ◌∙◌, subst, arith}
+use Rattle.std.proofs.Common.{[], All, ◌≡◌, ◌<◌, ◌≤◌, ◌+◌, ℕ, List, length, get_or, inl, inr, sym, ap, ◌∙◌, subst, arith}
 use Rattle.std.specs.Prelude.{Option, Some, None, slice_get, slice_set}
 use Rattle.std.proofs.lemmas.Bool.{cases_lt}
 use Rattle.std.proofs.lemmas.Bool.Decides.{eqb_tells}
@@ -7,7 +7,7 @@ use Rattle.std.proofs.lemmas.List.{length-set, get_or-set_same, get_or-set_other
 use Rattle.chunk_pool.specs.Frames.{Filled}
 use Rattle.job_log.specs.declared.stages.Event.{Event}
 use Rattle.job_log.specs.declared.stages.Stage.{Stage}
-use Rattle.job_log.specs.declared.stages.Stage.TheVariants.{Idle, Out, Done}
+use Rattle.job_log.specs.declared.stages.Stage.TheVariants.{Idle, Done}
 use Rattle.job_log.specs.Replay.{IsFinished, Moves, State, stage_in}
 use Rattle.job_log.proofs.Ends.{finished_at, get_replicate, get_replicate_past}
 use Rattle.encode_round.specs.Held.{IsPlaced, IsRound, HasLen, HasBytes}

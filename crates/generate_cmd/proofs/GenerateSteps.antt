@@ -1,5 +1,5 @@
 -- What writing a list that a number makes answers.
-use Rattle.std.proofs.Common.{◌≡◌, ◌⊎◌, ◌∙◌, ℕ, ◌*◌, ◌^◌, ◌<◌, ◌≤◌, [], length, Option, Some, None, IfSome, Result, Ok, Err, true, false, refl, sym, subst, ap, inl, inr, ⊎_elim, arith}
+use Rattle.std.proofs.Common.{◌≡◌, ◌⊎◌, ◌∙◌, ℕ, ◌*◌, ◌<◌, ◌≤◌, [], length, Option, Some, None, IfSome, Result, Ok, Err, refl, sym, subst, ap, inl, inr, ⊎_elim, arith}
 use Rattle.std.proofs.lemmas.Bool.{cases_lt}
 use Rattle.std.proofs.lemmas.Grind.{not_there}
 use Rattle.std.specs.Prelude.{All}
@@ -7,32 +7,27 @@ use Rattle.vol_base.specs.Boxes.{voxels}
 use Rattle.vol_base.specs.Bytes.{AreBytes}
 use Rattle.vol_base.specs.Causes.{Rose}
 use Rattle.vol_base.specs.declared.boxes.Box3.{Box3}
-use Rattle.vol_base.specs.Outside.{any_under, Draft, Objects}
-use Rattle.vol_spec.specs.CellNames.{folder_of}
+use Rattle.vol_base.specs.Outside.{Objects}
 use Rattle.vol_spec.specs.Cut.{cut, first_fault}
 use Rattle.vol_spec.specs.Grid.{Inside, whole}
 use Rattle.vol_spec.specs.LastWrite.{last, zeros}
 use Rattle.vol_spec.specs.Limits.{IsWidth}
 use Rattle.vol_spec.specs.Types.{Bytes, Name, Writes}
-use Rattle.vol_spec.specs.Writable.{IsWritable, padded}
 use Rattle.vol_spec.specs.declared.scale.Scale.{Scale}
 use Rattle.vol_spec.proofs.RawSteps.{last-lt, length-raw_bytes, zeros_are}
 use Rattle.vol_spec.proofs.Told.{from_told, in_told}
 use Rattle.chunk_laws.specs.Told.{ReadsBack}
 use Rattle.shard_writer.specs.declared.written.Written.{Written}
 use Rattle.write_plan.specs.declared.fault.PlanFault.{PlanFault}
-use Rattle.command_base.proofs.Choices.{ok_and, ok_is}
+use Rattle.command_base.proofs.Choices.{ok_and}
 use Rattle.value_sums.proofs.SumSteps.{sum_made}
 use Rattle.vectors_vol.proofs.SizeSteps.{small_width}
 use Rattle.write_cmd.proofs.WriteSteps.{written_front}
 use Rattle.cutout_cmd.specs.Cutouts.{CutsScale, IsBroken, JudgesPart}
-use Rattle.generate_cmd.specs.Generating.{Generates, HasGenerated, IsRefusal, IsSmall, IsUnsummed, JudgesWhole, MayPut, Summarizes, Sums, SumsScale}
-use Rattle.cutout_cmd.specs.Refusals.{cutout_status}
-use Rattle.write_cmd.specs.Refusals.{write_status, write_without}
-use Rattle.generate_cmd.specs.Refusals.{generate_status}
+use Rattle.generate_cmd.specs.Generating.{Generates, HasGenerated, IsSmall, IsUnsummed, JudgesWhole, MayPut, Summarizes, Sums, SumsScale}
+use Rattle.write_cmd.specs.Refusals.{write_without}
 use Rattle.command_base.specs.Scales.{IsReady, ReadsScale, stored_scale}
-use Rattle.command_base.specs.Statuses.{puts}
-use Rattle.write_cmd.specs.Storing.{AllReadBack, Counts, FrontPut, HasStored, Judges, JudgesLimit, KeepsStore, Listing, WritesScale}
+use Rattle.write_cmd.specs.Storing.{AllReadBack, Counts, FrontPut, HasStored, Judges, Listing, WritesScale}
 use Rattle.value_sums.specs.Sums.{sum_in, sum_of}
 use Rattle.generate_cmd.specs.declared.generate.Summary.{Summary}
 use Rattle.cutout_cmd.specs.declared.refusal.CutoutRefusal.{CutoutRefusal}
@@ -44,7 +39,6 @@ use Rattle.command_base.specs.declared.refusal.ScaleRefusal.{ScaleRefusal}
 use Rattle.command_base.specs.declared.refusal.ScaleRefusal.TheVariants as unread
 use Rattle.write_cmd.specs.declared.refusal.WriteRefusal.{WriteRefusal}
 use Rattle.write_cmd.specs.declared.refusal.WriteRefusal.TheVariants.{NoScale, TooManyVoxels, NotEmpty, Stream, TooManyCells, StoreFault, FeedFault, NoMemory}
-use Rattle.command_base.specs.declared.status.Status.TheVariants.{StoreFault as StoreStatus}
 
 -- all of a scale is inside it
 pub whole_inside : (s : Scale) → Inside s (whole s)
@@ -195,16 +189,6 @@ summed_told written sum (Some m) now after read list dataset key s small same ke
     subst (λ o. Generates (Ok (record { written = written; sum = sum })) (Ok s) m o list dataset key) (sym kept)
     (summed written sum m now (list s) dataset key s small (subst (λ l. WritesScale (Ok written) m now l dataset key s) same writes) sums)
 
--- a folder that isn't empty, or that couldn't be looked at
-pub full_told : (o now : Option Objects) (list : Listing) (dataset key : Name) (s : Scale) → IsWritable s → IfSome o (λ m. any_under m (folder_of dataset s) ≡ true)
-    → IfSome o (λ m. Generates (Err (Write NotEmpty)) (Ok s) m now list dataset key)
-full_told None now list dataset key s few full = tt
-full_told (Some m) now list dataset key s few full = (few, full)
-
-pub kept_told : (o now : Option Objects) (list : Listing) (dataset key : Name) (s : Scale) → now ≡ o → IfSome o (λ m. Generates (Err (Write StoreFault)) (Ok s) m now list dataset key)
-kept_told None now list dataset key s kept = tt
-kept_told (Some m) now list dataset key s kept = inl kept
-
 -- a scale that is too large
 large_refused : (refusal : GenerateRefusal) (m : Objects) (now : Option Objects) (list : Listing) (dataset key : Name) (s : Scale) → IsReady m dataset s → JudgesWhole (Err refusal) s → Generates (Err refusal) (Ok s) m now list dataset key
 large_refused (Cutout (uncut.TooLarge bytes)) m now list dataset key s ready judged = (ready, judged)
@@ -216,11 +200,6 @@ large_refused (Cutout uncut.OutFault) m now list dataset key s ready judged = ab
 large_refused (Cutout uncut.NoMemory) m now list dataset key s ready judged = absurd judged
 large_refused (Write refusal) m now list dataset key s ready judged = absurd judged
 
-pub large_told : (refusal : GenerateRefusal) (o now : Option Objects) (list : Listing) (dataset key : Name) (s : Scale) → IsWritable s → IfSome o (λ m. any_under m (folder_of dataset s) ≡ false) → JudgesWhole (Err refusal) s
-    → IfSome o (λ m. Generates (Err refusal) (Ok s) m now list dataset key)
-large_told refusal None now list dataset key s few empty judged = tt
-large_told refusal (Some m) now list dataset key s few empty judged = large_refused refusal m now list dataset key s (few, empty) judged
-
 -- a scale that isn't read
 unread_refused : (refusal : ScaleRefusal) (told : Result Scale NoScaleType) (m : Objects) (list : Listing) (dataset key : Name) → ReadsScale (Err refusal) told
     → Generates (Err (Write (write_without refusal))) told m (Some m) list dataset key
@@ -228,100 +207,9 @@ unread_refused (unread.NoScale why) told m list dataset key reads = reads
 unread_refused unread.StoreFault told m list dataset key reads = inl refl
 unread_refused unread.NoMemory told m list dataset key reads = inl refl
 
-pub unread_generates : (refusal : ScaleRefusal) (o now : Option Objects) (list : Listing) (dataset key : Name) → now ≡ o → IfSome o (λ m. ReadsScale (Err refusal) (stored_scale m dataset key))
-    → IfSome o (λ m. Generates (Err (Write (write_without refusal))) (stored_scale m dataset key) m now list dataset key)
-unread_generates refusal None now list dataset key kept reads = tt
-unread_generates refusal (Some m) now list dataset key kept reads =
-    subst (λ o. Generates (Err (Write (write_without refusal))) (stored_scale m dataset key) m o list dataset key) (sym kept) (unread_refused refusal (stored_scale m dataset key) m list dataset key reads)
-
--- a scale past the writing limit
-pub past_told : (refusal : WriteRefusal) (o now : Option Objects) (list : Listing) (dataset key : Name) (s : Scale) → IfSome o (λ m. ReadsScale (Ok s) (stored_scale m dataset key)) → JudgesLimit (Err refusal) s
-    → IfSome o (λ m. Generates (Err (Write refusal)) (stored_scale m dataset key) m now list dataset key)
-past_told refusal None now list dataset key s reads judged = tt
-past_told refusal (Some m) now list dataset key s reads judged =
-    subst (λ r. Generates (Err (Write r)) (stored_scale m dataset key) m now list dataset key) (sym judged.0)
-    (ok_is (stored_scale m dataset key) s (λ t. (padded s ≡ padded t) × (2 ^ 22 < padded t)) reads (refl, judged.1))
-
 -- what is answered of the scale that the key has
 pub key_generates : (result : Result Summary GenerateRefusal) (o same now : Option Objects) (list : Listing) (dataset key : Name) (s : Scale) → same ≡ o → IfSome o (λ m. ReadsScale (Ok s) (stored_scale m dataset key))
     → IfSome same (λ m. Generates result (Ok s) m now list dataset key) → IfSome o (λ m. Generates result (stored_scale m dataset key) m now list dataset key)
 key_generates result None same now list dataset key s kept reads generates = tt
 key_generates result (Some m) same now list dataset key s kept reads generates =
     subst (λ told. Generates result told m now list dataset key) (sym reads) (subst (λ o. IfSome o (λ m. Generates result (Ok s) m now list dataset key)) kept generates)
-
--- which refusals come, of a scale that isn't read, of one past the limit,
-pub unread_comes : (refusal : ScaleRefusal) → IsRefusal (Write (write_without refusal))
-unread_comes (unread.NoScale why) = tt
-unread_comes unread.StoreFault = tt
-unread_comes unread.NoMemory = tt
-
-pub unread_store : (refusal : ScaleRefusal) → write_status (write_without refusal) ≡ StoreStatus → refusal ≡ unread.StoreFault
-unread_store (unread.NoScale why) is = cc is
-unread_store unread.StoreFault is = refl
-unread_store unread.NoMemory is = cc is
-
-pub past_comes : (refusal : WriteRefusal) (s : Scale) → JudgesLimit (Err refusal) s → IsRefusal (Write refusal)
-past_comes refusal s judged = subst (λ r. IsRefusal (Write r)) (sym judged.0) tt
-
-pub past_store : (refusal : WriteRefusal) (s : Scale) → JudgesLimit (Err refusal) s → write_status refusal ≡ StoreStatus → ⊥
-past_store refusal s judged is = let other : write_status (TooManyVoxels (padded s)) ≡ StoreStatus = subst (λ r. write_status r ≡ StoreStatus) judged.0 is in cc other
-
--- of one that is too large,
-pub large_comes : (refusal : GenerateRefusal) (s : Scale) → JudgesWhole (Err refusal) s → IsRefusal refusal × (generate_status refusal ≡ StoreStatus → ⊥)
-large_comes (Cutout (uncut.TooLarge bytes)) s judged = (tt, λ is. cc is)
-large_comes (Cutout (uncut.Outside told all)) s judged = absurd judged
-large_comes (Cutout (uncut.NoScale why)) s judged = absurd judged
-large_comes (Cutout (uncut.Damaged cell fault)) s judged = absurd judged
-large_comes (Cutout uncut.StoreFault) s judged = absurd judged
-large_comes (Cutout uncut.OutFault) s judged = absurd judged
-large_comes (Cutout uncut.NoMemory) s judged = absurd judged
-large_comes (Write refusal) s judged = absurd judged
-
--- of a list that isn't written,
-pub write_comes : (refusal : WriteRefusal) (old new : Option Objects) (before after : Option Draft) → (refusal ≡ FeedFault → ⊥) → KeepsStore refusal old new before after → IsRefusal (Write refusal)
-write_comes (NoScale why) old new before after fed kept = tt
-write_comes (TooManyVoxels voxels) old new before after fed kept = tt
-write_comes NotEmpty old new before after fed kept = tt
-write_comes (Stream fault) old new before after fed kept = tt
-write_comes (TooManyCells cells) old new before after fed kept = tt
-write_comes StoreFault old new before after fed kept = tt
-write_comes FeedFault old new before after fed kept = fed refl
-write_comes NoMemory old new before after fed kept = tt
-
-pub write_store : (refusal : WriteRefusal) → write_status refusal ≡ StoreStatus → refusal ≡ StoreFault
-write_store (NoScale why) is = cc is
-write_store (TooManyVoxels voxels) is = cc is
-write_store NotEmpty is = cc is
-write_store (Stream fault) is = cc is
-write_store (TooManyCells cells) is = cc is
-write_store StoreFault is = refl
-write_store FeedFault is = cc is
-write_store NoMemory is = cc is
-
--- and of a scale that isn't summed
-pub unsummed_comes : (refusal : CutoutRefusal) → IsUnsummed refusal → IsRefusal (Cutout refusal)
-unsummed_comes uncut.StoreFault unsound = tt
-unsummed_comes (uncut.Damaged cell fault) unsound = tt
-unsummed_comes uncut.NoMemory unsound = tt
-unsummed_comes (uncut.NoScale why) unsound = unsound
-unsummed_comes (uncut.Outside told all) unsound = unsound
-unsummed_comes (uncut.TooLarge bytes) unsound = tt
-unsummed_comes uncut.OutFault unsound = unsound
-
-pub unsummed_puts : (refusal : CutoutRefusal) → IsUnsummed refusal → puts (cutout_status refusal) ≡ false → ⊥
-unsummed_puts uncut.StoreFault unsound none = cc none
-unsummed_puts (uncut.Damaged cell fault) unsound none = cc none
-unsummed_puts uncut.NoMemory unsound none = cc none
-unsummed_puts (uncut.NoScale why) unsound none = unsound
-unsummed_puts (uncut.Outside told all) unsound none = unsound
-unsummed_puts (uncut.TooLarge bytes) unsound none = unsound
-unsummed_puts uncut.OutFault unsound none = unsound
-
-pub unsummed_store : (refusal : CutoutRefusal) → cutout_status refusal ≡ StoreStatus → refusal ≡ uncut.StoreFault
-unsummed_store uncut.StoreFault is = refl
-unsummed_store (uncut.Damaged cell fault) is = cc is
-unsummed_store uncut.NoMemory is = cc is
-unsummed_store (uncut.NoScale why) is = cc is
-unsummed_store (uncut.Outside told all) is = cc is
-unsummed_store (uncut.TooLarge bytes) is = cc is
-unsummed_store uncut.OutFault is = cc is

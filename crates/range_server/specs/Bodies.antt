@@ -1,5 +1,5 @@
 -- The bytes of a reply over the objects (RFC 9112, section 6), and what a link gains (this project's).
-use Rattle.std.specs.Prelude.{◌≡◌, ◌≢◌, ◌⊎◌, ◌<◌, ◌≤◌, IsTrue, IsErrOf, Result, ℕ, List, [], ◌++◌, length, take, Option, Some, None, option_map, if◌then◌else◌}
+use Rattle.std.specs.Prelude.{◌≡◌, ◌≢◌, ◌⊎◌, ◌<◌, ◌≤◌, IsTrue, IsErrOf, Result, ℕ, List, [], ◌++◌, length, take, Option, Some, None, if◌then◌else◌}
 use Rattle.std.specs.FinMap as map
 use Rattle.vol_base.specs.Outside.{Objects, part}
 use Rattle.vol_base.specs.Causes.{Rose}

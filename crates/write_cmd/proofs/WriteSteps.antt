@@ -1,5 +1,5 @@
 -- What the answer of a write says.
-use Rattle.std.proofs.Common.{◌≡◌, ◌∙◌, length, Option, Some, None, IfSome, Result, Ok, Err, false, refl, sym, ap, inl, arith}
+use Rattle.std.proofs.Common.{◌≡◌, ◌∙◌, length, Option, Some, Result, Ok, Err, false, refl, sym, ap, inl, arith}
 use Rattle.std.specs.Prelude.{IsOkAnd}
 use Rattle.std.proofs.lemmas.List.{take_all}
 use Rattle.vol_base.specs.Outside.{Draft, Objects, OnlyReads}
@@ -11,13 +11,11 @@ use Rattle.vol_spec.specs.Types.{Bytes, Listed, Name, Writes}
 use Rattle.vol_spec.specs.declared.scale.Scale.{Scale}
 use Rattle.shard_writer.specs.Writing.{PutsFront}
 use Rattle.shard_writer.specs.declared.written.Written.{Written}
-use Rattle.write_plan.specs.Stream.{writes_of}
 use Rattle.write_plan.specs.declared.fault.PlanFault.{PlanFault}
 use Rattle.command_base.proofs.Choices.{ok_and}
-use Rattle.command_base.specs.Scales.{stored_scale}
 use Rattle.command_base.specs.Statuses.{puts}
 use Rattle.write_cmd.specs.Refusals.{write_status}
-use Rattle.write_cmd.specs.Storing.{AllReadBack, Counts, FrontPut, HasStored, IsRight, KeepsStore, Listing, WritesAll, WritesScale, WrittenBack}
+use Rattle.write_cmd.specs.Storing.{AllReadBack, Counts, FrontPut, HasStored, IsRight, KeepsStore, WritesScale}
 use Rattle.write_cmd.specs.declared.refusal.WriteRefusal.{WriteRefusal}
 use Rattle.write_cmd.specs.declared.refusal.WriteRefusal.TheVariants.{NoScale, TooManyVoxels, NotEmpty, Stream, TooManyCells, StoreFault, FeedFault, NoMemory}
 
@@ -40,20 +38,6 @@ memory_right told left dataset key = record {
   feed = tt;
   same = λ none. refl;
 }
-
--- what is said of the scale and the writes, from what writing answers
-of_writes : (Q : Scale → Writes → Type 0) (m : Objects) (now : Option Objects) (list : Listing) (dataset key : Name) (written : Written) → WritesAll (Ok written) (stored_scale m dataset key) m now list dataset key
-    → ((s : Scale) (ws : Writes) → HasStored m now dataset key s ws → AllReadBack now dataset s ws → Counts written dataset s ws → Q s ws)
-    → IsOkAnd (stored_scale m dataset key) (λ s. IsOkAnd (list s) (Q s))
-of_writes Q m now list dataset key written writes f =
-    ok_and (stored_scale m dataset key) (λ s. WritesScale (Ok written) m now (list s) dataset key s) (λ s. IsOkAnd (list s) (Q s))
-    (λ s h. ok_and (list s) (λ ws. HasStored m now dataset key s ws × AllReadBack now dataset s ws × Counts written dataset s ws) (Q s) (λ ws k. f s ws k.0 k.1 k.2) h) writes
-
-pub back_told : (written : Written) (told now : Option Objects) (fed : Option Bytes) (dataset key : Name)
-    → IfSome told (λ m. IfSome fed (λ bytes. WritesAll (Ok written) (stored_scale m dataset key) m now (writes_of bytes) dataset key)) → IfSome told (λ m. IfSome fed (λ bytes. WrittenBack m now (writes_of bytes) dataset key))
-back_told written None now fed dataset key writes = tt
-back_told written (Some m) now None dataset key writes = tt
-back_told written (Some m) now (Some bytes) dataset key writes = of_writes (λ s ws. AllReadBack now dataset s ws) m now (writes_of bytes) dataset key written writes (λ s ws stored back counts. back)
 
 -- all objects are a front of them
 pub front_all : (m : Objects) (now : Option Objects) (list : Listed) → now ≡ Some (put_in m list) → PutsFront list m now

@@ -1,4 +1,3 @@
-use Rattle.std.proofs.Common.{◌∙◌}
 use Rattle.write_plan.specs.WriteLists.{writes_in}
 use Rattle.write_plan.proofs.FillSteps.{over_cleared}
 use Rattle.write_plan.proofs.fills.fill_cell.Goals as goal

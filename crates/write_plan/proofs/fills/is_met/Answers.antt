@@ -1,5 +1,4 @@
 use Rattle.std.proofs.Common.{◌∙◌, ap}
-use Rattle.vol_spec.specs.StoredCells.{cell_number}
 use Rattle.write_plan.specs.Pairs.{run_of}
 use Rattle.write_plan.proofs.PlanSteps.{met_by_run}
 use Rattle.write_plan.proofs.fills.is_met.Goals as goal
