@@ -17,14 +17,15 @@ abbrev pub Ends : {A R : Type 0} → (A → Bytes) → (R → Status) → (R →
 Ends line ends told (Ok answer) ended o = Finishes ended (line answer) o
 Ends line ends told (Err refusal) ended o = Silent o × Refuses ends told refusal ended o
 
--- no count of a store and two outlets falls, a fault comes only where its count rose, and at success nothing was told, so
--- nothing failed to be
+-- no count of a store and two outlets falls, a fault comes only where its count rose, and at success no call of them failed
 pub record IsCaused (ended : Status) (store store_now out out_now err err_now : ℕ) : Type 0 where
   pub store_later : store ≤ store_now
   pub out_later : out ≤ out_now
   pub err_later : err ≤ err_now
   pub store_fault : ended ≡ status.StoreFault → Rose store store_now
   pub out_fault : ended ≡ status.OutFault → Rose out out_now
+  pub store_stands : ended ≡ status.Ok → store_now ≡ store
+  pub out_stands : ended ≡ status.Ok → out_now ≡ out
   pub quiet : ended ≡ status.Ok → err_now ≡ err
 
 -- it succeeds, or wants memory

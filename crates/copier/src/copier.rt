@@ -1,6 +1,6 @@
 //! The copier.
 ghost use Rattle.std.specs.Prelude.{◌≡◌, ◌≢◌, ◌≤◌, ◌^◌, All, AllPairs, length, IfOk, IfSome};
-ghost use Rattle.vol_base.specs.Causes.{HasStoreCause};
+ghost use Rattle.vol_base.specs.Causes.{HasCauseOf};
 ghost use Rattle.vol_base.specs.Outside.{OnlyReads};
 ghost use Rattle.vol_spec.specs.Copies.{AreOfOneVolume, copied_cells};
 ghost use Rattle.vol_spec.specs.Grid.{IsCell};
@@ -82,7 +82,7 @@ impl Copier {
             cells_of copier ≡ in_key_order to.now (copied_cells m dataset.now from.now to.now))) }
         ensures kept { OnlyReads (S.objects store.old) (S.objects store.new) (S.draft store.old)
             (S.draft store.new) }
-        ensures cause { HasStoreCause (S.faults store.old) (S.faults store.new) result }
+        ensures cause { HasCauseOf StoreRefusal.Failed (S.faults store.old) (S.faults store.new) result }
     {
         let Ok(mut reader) = Reader::open(alloc, dataset, from) else {
             return Err(StoreRefusal::OutOfMemory);

@@ -1,6 +1,6 @@
 //! Which cells are copied.
 ghost use Rattle.std.specs.Prelude.{◌≡◌, ◌&&◌, ◌≤◌, ◌^◌, All, false, length, replicate, IfOk, IfSome, OnOk};
-ghost use Rattle.vol_base.specs.Causes.{HasCause, HasStoreCause};
+ghost use Rattle.vol_base.specs.Causes.{HasCause, HasCauseOf};
 ghost use Rattle.vol_base.specs.Outside.{OnlyReads};
 ghost use Rattle.vol_spec.specs.Chunks.{chunk_in};
 ghost use Rattle.vol_spec.specs.Copies.{AreOfOneVolume, copied_cells, is_copied, is_there as there};
@@ -125,7 +125,7 @@ pub(crate) fn find_copied<S: Source>(
     ensures same { reader.new ≡ reader.old }
     ensures kept { OnlyReads (S.objects store.old) (S.objects store.new) (S.draft store.old)
         (S.draft store.new) }
-    ensures cause { HasStoreCause (S.faults store.old) (S.faults store.new) result }
+    ensures cause { HasCauseOf StoreRefusal.Failed (S.faults store.old) (S.faults store.new) result }
 {
     let count = count_cells(to, &whole(to)) as usize;
     let Ok(mut marks) = reserve_marks(alloc, count) else {

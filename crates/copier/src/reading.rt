@@ -1,11 +1,11 @@
 //! Reading the bytes of jobs.
 ghost use Rattle.std.specs.Prelude.{◌≡◌, ◌+◌, ◌<◌, ◌≤◌, ◌^◌, Err, length, map, take, All, IfSome, OnOk};
-ghost use Rattle.vol_base.specs.Causes.{Rose};
+ghost use Rattle.vol_base.specs.Causes.{HasCauseOf};
 ghost use Rattle.vol_base.specs.Outside.{OnlyReads};
 ghost use Rattle.vol_spec.specs.Copies.{AreOfOneVolume};
 ghost use Rattle.vol_spec.specs.Encodings.{raw_size};
 ghost use Rattle.vol_spec.specs.Grid.{IsCell};
-ghost use Rattle.write_plan.specs.Jobs.{HasPrepareCause, cells_in};
+ghost use Rattle.write_plan.specs.Jobs.{cells_in};
 ghost use Rattle.copier.specs.Held.{AreFilled, Holds, IsFilled, ReadsJob, ReadsJobs};
 
 use chunk_grid::{byte_len, cell_box};
@@ -30,7 +30,7 @@ fn read_job<S: Source>(
     ensures same { reader.new ≡ reader.old }
     ensures kept { OnlyReads (S.objects store.old) (S.objects store.new) (S.draft store.old)
         (S.draft store.new) }
-    ensures cause { HasPrepareCause (S.faults store.old) (S.faults store.new) result }
+    ensures cause { HasCauseOf PrepareFault.StoreFault (S.faults store.old) (S.faults store.new) result }
 {
     let part = cell_box(to, cell);
     match reader.cutout(store, &part, out) {
@@ -68,7 +68,7 @@ fn read_into<S: Source>(
     ensures same { reader.new ≡ reader.old }
     ensures kept { OnlyReads (S.objects store.old) (S.objects store.new) (S.draft store.old)
         (S.draft store.new) }
-    ensures cause { HasPrepareCause (S.faults store.old) (S.faults store.new) result }
+    ensures cause { HasCauseOf PrepareFault.StoreFault (S.faults store.old) (S.faults store.new) result }
 {
     let len = values_len(to, cell);
     read_job(reader, store, to, cell, &mut frame[..len])
@@ -103,7 +103,7 @@ fn read_frame<S: Source>(
     ensures same { reader.new ≡ reader.old }
     ensures kept { OnlyReads (S.objects store.old) (S.objects store.new) (S.draft store.old)
         (S.draft store.new) }
-    ensures cause { HasPrepareCause (S.faults store.old) (S.faults store.new) result }
+    ensures cause { HasCauseOf PrepareFault.StoreFault (S.faults store.old) (S.faults store.new) result }
 {
     fill_up(to, frame);
     read_into(reader, store, to, cell, frame)
@@ -134,7 +134,7 @@ pub(crate) fn read_jobs<S: Source>(
     ensures same { reader.new ≡ reader.old }
     ensures kept { OnlyReads (S.objects store.old) (S.objects store.new) (S.draft store.old)
         (S.draft store.new) }
-    ensures cause { HasPrepareCause (S.faults store.old) (S.faults store.new) result }
+    ensures cause { HasCauseOf PrepareFault.StoreFault (S.faults store.old) (S.faults store.new) result }
 {
     for k in 0..count {
         let cell = jobs.get(first + k as u64).cell;

@@ -1,7 +1,7 @@
 //! The values of a part, read from the chunks of its cells.
 ghost use Rattle.std.specs.Prelude.{◌≡◌, ◌≢◌, ◌+◌, ◌<◌, ◌≤◌, ◌^◌, length, IfSome, None, Some, Ok, Err};
 ghost use Rattle.std.specs.Option.{option_map};
-ghost use Rattle.vol_base.specs.Causes.{Rose};
+ghost use Rattle.vol_base.specs.Causes.{HasCauseOf};
 ghost use Rattle.vol_base.specs.Outside.{OnlyReads};
 ghost use Rattle.vol_spec.specs.Chunks.{chunk_in};
 ghost use Rattle.vol_spec.specs.Costs.{cost};
@@ -52,8 +52,7 @@ fn read_one<S: Source>(
         S.asked store.new ≤ S.asked store.old + cell_cost m dataset.now scale.now cell) }
     ensures kept { OnlyReads (S.objects store.old) (S.objects store.new) (S.draft store.old)
         (S.draft store.new) }
-    ensures later { S.faults store.old ≤ S.faults store.new }
-    ensures fault { result ≡ Err LookupFault.NotRead → Rose (S.faults store.old) (S.faults store.new) }
+    ensures cause { HasCauseOf LookupFault.NotRead (S.faults store.old) (S.faults store.new) result }
 {
     let limit = chunk_limit(scale, cell);
     let room = &mut chunk[..limit as usize + 1];
@@ -111,8 +110,7 @@ pub(crate) fn read_cells<S: Source>(
         S.asked store.new ≤ S.asked store.old + cost m dataset.now scale.now part.now) }
     ensures kept { OnlyReads (S.objects store.old) (S.objects store.new) (S.draft store.old)
         (S.draft store.new) }
-    ensures later { S.faults store.old ≤ S.faults store.new }
-    ensures fault { result ≡ Err CutFault.StoreFault → Rose (S.faults store.old) (S.faults store.new) }
+    ensures cause { HasCauseOf CutFault.StoreFault (S.faults store.old) (S.faults store.new) result }
 {
     tell_cells(scale, part);
     for cell in cells(scale, part) {

@@ -1,7 +1,7 @@
 //! The bytes of a cell's chunk, read from its own object or out of a shard.
 ghost use Rattle.std.specs.Prelude.{◌≡◌, ◌+◌, ◌<◌, ◌≤◌, ◌^◌, length, Err, IfOk, IfSome, take};
 ghost use Rattle.std.specs.FinMap as map;
-ghost use Rattle.vol_base.specs.Causes.{Rose};
+ghost use Rattle.vol_base.specs.Causes.{HasCauseOf};
 ghost use Rattle.vol_base.specs.Outside.{OnlyReads};
 ghost use Rattle.vol_spec.specs.Chunks.{chunk_in};
 ghost use Rattle.vol_spec.specs.Encodings.{cell_limit, raw_size};
@@ -32,8 +32,7 @@ fn read_object<S: Source>(
     ensures asked { S.asked store.new ≤ S.asked store.old + length buffer.old }
     ensures kept { OnlyReads (S.objects store.old) (S.objects store.new) (S.draft store.old)
         (S.draft store.new) }
-    ensures later { S.faults store.old ≤ S.faults store.new }
-    ensures fault { result ≡ Err LookupFault.NotRead → Rose (S.faults store.old) (S.faults store.new) }
+    ensures cause { HasCauseOf LookupFault.NotRead (S.faults store.old) (S.faults store.new) result }
 {
     match store.read_at(name, 0, buffer) {
         Err(_) => Err(LookupFault::NotRead),
@@ -66,8 +65,7 @@ pub fn read_stored<S: Source>(
         S.asked store.new ≤ S.asked store.old + cell_cost m dataset.now scale.now cell) }
     ensures kept { OnlyReads (S.objects store.old) (S.objects store.new) (S.draft store.old)
         (S.draft store.new) }
-    ensures later { S.faults store.old ≤ S.faults store.new }
-    ensures fault { result ≡ Err LookupFault.NotRead → Rose (S.faults store.old) (S.faults store.new) }
+    ensures cause { HasCauseOf LookupFault.NotRead (S.faults store.old) (S.faults store.new) result }
 {
     match scale.sharding {
         Some(sharding) => {

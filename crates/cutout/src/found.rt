@@ -1,6 +1,6 @@
 //! Where the chunk of a cell stands.
 ghost use Rattle.std.specs.Prelude.{◌≡◌, ◌≢◌, ◌+◌, ◌≤◌, length, IfErr, IfSome, None, Some, Err};
-ghost use Rattle.vol_base.specs.Causes.{Rose};
+ghost use Rattle.vol_base.specs.Causes.{HasCauseOf};
 ghost use Rattle.vol_base.specs.Outside.{OnlyReads};
 ghost use Rattle.vol_spec.specs.Grid.{IsCell};
 ghost use Rattle.cutout.specs.Keeping.{search_cost};
@@ -39,8 +39,7 @@ pub(crate) fn locate_own<S: Source>(
     ensures asked { S.asked store.new ≡ S.asked store.old }
     ensures kept { OnlyReads (S.objects store.old) (S.objects store.new) (S.draft store.old)
         (S.draft store.new) }
-    ensures later { S.faults store.old ≤ S.faults store.new }
-    ensures fault { result ≡ Err CutFault.StoreFault → Rose (S.faults store.old) (S.faults store.new) }
+    ensures cause { HasCauseOf CutFault.StoreFault (S.faults store.old) (S.faults store.new) result }
 {
     let name = object_name(dataset, scale, cell);
     match store.size(&name) {
@@ -72,8 +71,8 @@ pub(crate) fn locate_in_shard<S: Source>(
         S.asked store.new ≤ S.asked store.old + search_cost m dataset.now scale.now cell) }
     ensures kept { OnlyReads (S.objects store.old) (S.objects store.new) (S.draft store.old)
         (S.draft store.new) }
-    ensures later { S.faults store.old ≤ S.faults store.new }
-    ensures fault { result ≡ Err CutFault.StoreFault → Rose (S.faults store.old) (S.faults store.new) }
+    ensures cause { HasCauseOf CutFault.StoreFault (S.faults store.old) (S.faults store.new) result }
+    ensures still { IfErr result (λ fault. fault ≢ CutFault.StoreFault → S.faults store.new ≡ S.faults store.old) }
 {
     shards.forget();
     let id = code(&grid(scale), cell);

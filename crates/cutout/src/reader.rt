@@ -1,6 +1,6 @@
 //! The reader of a scale.
 ghost use Rattle.std.specs.Prelude.{◌≡◌, ◌≢◌, ◌↔◌, ◌+◌, ◌*◌, ◌≤◌, ◌^◌, length, IfErr, IfOk, IfSome, None, Err};
-ghost use Rattle.vol_base.specs.Causes.{Rose};
+ghost use Rattle.vol_base.specs.Causes.{HasCauseOf};
 ghost use Rattle.vol_base.specs.Outside.{OnlyReads};
 ghost use Rattle.vol_spec.specs.Costs.{cost};
 ghost use Rattle.vol_spec.specs.Grid.{Inside, IsCell};
@@ -97,8 +97,7 @@ impl Reader {
             S.asked store.new ≤ S.asked store.old + cost m self.old.dataset self.old.scale part.now) }
         ensures kept { OnlyReads (S.objects store.old) (S.objects store.new) (S.draft store.old)
             (S.draft store.new) }
-        ensures later { S.faults store.old ≤ S.faults store.new }
-        ensures fault { result ≡ Err CutFault.StoreFault → Rose (S.faults store.old) (S.faults store.new) }
+        ensures cause { HasCauseOf CutFault.StoreFault (S.faults store.old) (S.faults store.new) result }
     {
         if !inside(&self.scale, part) {
             return Err(CutFault::OutsideScale);
@@ -154,10 +153,8 @@ impl Reader {
             + self.old.scale.channels * cost m self.old.dataset self.old.scale part.now) }
         ensures kept { OnlyReads (S.objects store.old) (S.objects store.new) (S.draft store.old)
             (S.draft store.new) }
-        ensures later { S.faults store.old ≤ S.faults store.new }
-        ensures out_later { O.faults out.old ≤ O.faults out.new }
-        ensures fault { result ≡ Err StreamFault.StoreFault → Rose (S.faults store.old) (S.faults store.new) }
-        ensures out_fault { result ≡ Err StreamFault.OutFault → Rose (O.faults out.old) (O.faults out.new) }
+        ensures cause { HasCauseOf StreamFault.StoreFault (S.faults store.old) (S.faults store.new) result }
+        ensures out_cause { HasCauseOf StreamFault.OutFault (O.faults out.old) (O.faults out.new) result }
     {
         if !inside(&self.scale, part) {
             return Err(StreamFault::OutsideScale);
@@ -194,8 +191,9 @@ impl Reader {
             S.asked store.new ≤ S.asked store.old + search_cost m self.old.dataset self.old.scale cell) }
         ensures kept { OnlyReads (S.objects store.old) (S.objects store.new) (S.draft store.old)
             (S.draft store.new) }
-        ensures later { S.faults store.old ≤ S.faults store.new }
-        ensures fault { result ≡ Err CutFault.StoreFault → Rose (S.faults store.old) (S.faults store.new) }
+        ensures cause { HasCauseOf CutFault.StoreFault (S.faults store.old) (S.faults store.new) result }
+        ensures still { IfErr result (λ fault. fault ≢ CutFault.StoreFault →
+            S.faults store.new ≡ S.faults store.old) }
     {
         match self.scale.sharding {
             None => locate_own(store, &self.dataset, &self.scale, cell),

@@ -1,7 +1,7 @@
 //! A box, written layer by layer.
 ghost use Rattle.std.specs.Prelude.{◌≡◌, ◌≢◌, ◌+◌, ◌*◌, ◌<◌, ◌≤◌, ◌^◌, length, IfSome, Err};
 ghost use Rattle.vol_base.specs.Bytes.{AreBytes};
-ghost use Rattle.vol_base.specs.Causes.{Rose};
+ghost use Rattle.vol_base.specs.Causes.{HasCauseOf};
 ghost use Rattle.vol_base.specs.Outside.{OnlyReads};
 ghost use Rattle.vol_spec.specs.Costs.{cost};
 ghost use Rattle.vol_spec.specs.Grid.{Inside};
@@ -76,10 +76,8 @@ fn stream_piece<S: Source, O: Outlet>(
         S.asked store.new ≤ S.asked store.old + cost m dataset.now scale.now part.now) }
     ensures kept { OnlyReads (S.objects store.old) (S.objects store.new) (S.draft store.old)
         (S.draft store.new) }
-    ensures later { S.faults store.old ≤ S.faults store.new }
-    ensures out_later { O.faults out.old ≤ O.faults out.new }
-    ensures fault { result ≡ Err StreamFault.StoreFault → Rose (S.faults store.old) (S.faults store.new) }
-    ensures out_fault { result ≡ Err StreamFault.OutFault → Rose (O.faults out.old) (O.faults out.new) }
+    ensures cause { HasCauseOf StreamFault.StoreFault (S.faults store.old) (S.faults store.new) result }
+    ensures out_cause { HasCauseOf StreamFault.OutFault (O.faults out.old) (O.faults out.new) result }
 {
     let one = Channels {
         first: channel,
@@ -130,10 +128,8 @@ fn stream_channel<S: Source, O: Outlet>(
         S.asked store.new ≤ S.asked store.old + cost m dataset.now scale.now part.now) }
     ensures kept { OnlyReads (S.objects store.old) (S.objects store.new) (S.draft store.old)
         (S.draft store.new) }
-    ensures later { S.faults store.old ≤ S.faults store.new }
-    ensures out_later { O.faults out.old ≤ O.faults out.new }
-    ensures fault { result ≡ Err StreamFault.StoreFault → Rose (S.faults store.old) (S.faults store.new) }
-    ensures out_fault { result ≡ Err StreamFault.OutFault → Rose (O.faults out.old) (O.faults out.new) }
+    ensures cause { HasCauseOf StreamFault.StoreFault (S.faults store.old) (S.faults store.new) result }
+    ensures out_cause { HasCauseOf StreamFault.OutFault (O.faults out.old) (O.faults out.new) result }
 {
     for number in first_layer(scale, part)..end_layer(scale, part) {
         let layer = layer_at(scale, part, number);
@@ -174,10 +170,8 @@ pub(crate) fn stream_channels<S: Source, O: Outlet>(
         S.asked store.new ≤ S.asked store.old + scale.now.channels * cost m dataset.now scale.now part.now) }
     ensures kept { OnlyReads (S.objects store.old) (S.objects store.new) (S.draft store.old)
         (S.draft store.new) }
-    ensures later { S.faults store.old ≤ S.faults store.new }
-    ensures out_later { O.faults out.old ≤ O.faults out.new }
-    ensures fault { result ≡ Err StreamFault.StoreFault → Rose (S.faults store.old) (S.faults store.new) }
-    ensures out_fault { result ≡ Err StreamFault.OutFault → Rose (O.faults out.old) (O.faults out.new) }
+    ensures cause { HasCauseOf StreamFault.StoreFault (S.faults store.old) (S.faults store.new) result }
+    ensures out_cause { HasCauseOf StreamFault.OutFault (O.faults out.old) (O.faults out.new) result }
 {
     shards.forget();
     for channel in 0..scale.channels {

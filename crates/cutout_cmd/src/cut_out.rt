@@ -1,6 +1,6 @@
 //! The command `cutout`.
 ghost use Rattle.std.specs.Prelude.{◌≡◌, ◌≢◌, ◌≤◌, ◌+◌, length, IfErr, IfSome, Some};
-ghost use Rattle.vol_base.specs.Causes.{Rose};
+ghost use Rattle.vol_base.specs.Causes.{HasCauseOf, Rose};
 ghost use Rattle.vol_base.specs.Outside.{Objects, OnlyReads};
 ghost use Rattle.command_base.specs.Ending.{EndsWell, IsCaused};
 ghost use Rattle.command_base.specs.Outlets.{outlets_of};
@@ -65,11 +65,8 @@ pub fn stream_part<S: Source, O: Outlet>(
         S.asked store.new ≤ S.asked store.old + parts_cost m reader.old.dataset reader.old.scale part.now) }
     ensures kept { OnlyReads (S.objects store.old) (S.objects store.new) (S.draft store.old)
         (S.draft store.new) }
-    ensures store_later { S.faults store.old ≤ S.faults store.new }
-    ensures out_later { O.faults out.old ≤ O.faults out.new }
-    ensures store_fault { result ≡ Err CutoutRefusal.StoreFault →
-        Rose (S.faults store.old) (S.faults store.new) }
-    ensures out_fault { result ≡ Err CutoutRefusal.OutFault → Rose (O.faults out.old) (O.faults out.new) }
+    ensures cause { HasCauseOf CutoutRefusal.StoreFault (S.faults store.old) (S.faults store.new) result }
+    ensures out_cause { HasCauseOf CutoutRefusal.OutFault (O.faults out.old) (O.faults out.new) result }
     ensures unwritten { Writes result part.now (O.written out.old) (O.written out.new) }
 {
     match reader.stream(alloc, store, part, out) {
@@ -94,11 +91,8 @@ fn cut_scale<S: Source, O: Outlet>(
         S.asked store.new ≤ S.asked store.old + parts_cost m dataset.now scale.now part.now) }
     ensures kept { OnlyReads (S.objects store.old) (S.objects store.new) (S.draft store.old)
         (S.draft store.new) }
-    ensures store_later { S.faults store.old ≤ S.faults store.new }
-    ensures out_later { O.faults out.old ≤ O.faults out.new }
-    ensures store_fault { result ≡ Err CutoutRefusal.StoreFault →
-        Rose (S.faults store.old) (S.faults store.new) }
-    ensures out_fault { result ≡ Err CutoutRefusal.OutFault → Rose (O.faults out.old) (O.faults out.new) }
+    ensures cause { HasCauseOf CutoutRefusal.StoreFault (S.faults store.old) (S.faults store.new) result }
+    ensures out_cause { HasCauseOf CutoutRefusal.OutFault (O.faults out.old) (O.faults out.new) result }
     ensures unwritten { Writes result part.now (O.written out.old) (O.written out.new) }
 {
     judge_part(scale, part)?;
@@ -125,11 +119,8 @@ fn cut_out<S: Source, O: Outlet>(
         AsksFor m dataset.now key.now part.now (S.asked store.old) (S.asked store.new)) }
     ensures kept { OnlyReads (S.objects store.old) (S.objects store.new) (S.draft store.old)
         (S.draft store.new) }
-    ensures store_later { S.faults store.old ≤ S.faults store.new }
-    ensures out_later { O.faults out.old ≤ O.faults out.new }
-    ensures store_fault { result ≡ Err CutoutRefusal.StoreFault →
-        Rose (S.faults store.old) (S.faults store.new) }
-    ensures out_fault { result ≡ Err CutoutRefusal.OutFault → Rose (O.faults out.old) (O.faults out.new) }
+    ensures cause { HasCauseOf CutoutRefusal.StoreFault (S.faults store.old) (S.faults store.new) result }
+    ensures out_cause { HasCauseOf CutoutRefusal.OutFault (O.faults out.old) (O.faults out.new) result }
     ensures unwritten { Writes result part.now (O.written out.old) (O.written out.new) }
 {
     let scale = read_scale(alloc, store, dataset, key)?;

@@ -1,6 +1,6 @@
 //! The command `generate`.
-ghost use Rattle.std.specs.Prelude.{◌≡◌, ◌≤◌, ◌<◌, ◌^◌, ℕ, List, Some, false, length, IfErr, IfSome};
-ghost use Rattle.vol_base.specs.Causes.{Rose};
+ghost use Rattle.std.specs.Prelude.{OnOk, ◌≡◌, ◌≤◌, ◌<◌, ◌^◌, ℕ, List, Some, false, length, IfErr, IfSome};
+ghost use Rattle.vol_base.specs.Causes.{HasCauseOf, Rose};
 ghost use Rattle.vol_base.specs.Outside.{Objects, OnlyReads};
 ghost use Rattle.vol_spec.specs.Grid.{whole as whole_of};
 ghost use Rattle.vol_spec.specs.Writable.{IsWritable};
@@ -62,8 +62,7 @@ fn sum_values<S: Source, const WIDTH: usize>(
     ensures refused { IfErr result IsUnsummed }
     ensures kept { OnlyReads (S.objects store.old) (S.objects store.new) (S.draft store.old)
         (S.draft store.new) }
-    ensures later { S.faults store.old ≤ S.faults store.new }
-    ensures fault { result ≡ Err CutoutRefusal.StoreFault → Rose (S.faults store.old) (S.faults store.new) }
+    ensures cause { HasCauseOf CutoutRefusal.StoreFault (S.faults store.old) (S.faults store.new) result }
 {
     let mut sums: SumOutlet<WIDTH> = SumOutlet::new();
     match stream_part(alloc, store, &mut sums, reader, &whole(scale)) {
@@ -85,8 +84,7 @@ fn sum_whole<S: Source>(
     ensures refused { IfErr result IsUnsummed }
     ensures kept { OnlyReads (S.objects store.old) (S.objects store.new) (S.draft store.old)
         (S.draft store.new) }
-    ensures later { S.faults store.old ≤ S.faults store.new }
-    ensures fault { result ≡ Err CutoutRefusal.StoreFault → Rose (S.faults store.old) (S.faults store.new) }
+    ensures cause { HasCauseOf CutoutRefusal.StoreFault (S.faults store.old) (S.faults store.new) result }
 {
     match scale.width {
         1 => sum_values::<S, 1>(alloc, store, reader, scale),
@@ -109,8 +107,7 @@ fn sum_scale<S: Source>(
     ensures refused { IfErr result IsUnsummed }
     ensures kept { OnlyReads (S.objects store.old) (S.objects store.new) (S.draft store.old)
         (S.draft store.new) }
-    ensures later { S.faults store.old ≤ S.faults store.new }
-    ensures fault { result ≡ Err CutoutRefusal.StoreFault → Rose (S.faults store.old) (S.faults store.new) }
+    ensures cause { HasCauseOf CutoutRefusal.StoreFault (S.faults store.old) (S.faults store.new) result }
 {
     let mut reader = Reader::open(alloc, dataset, scale)?;
     sum_whole(alloc, store, &mut reader, scale)
@@ -145,6 +142,7 @@ where
     ensures later { S.faults store.old ≤ S.faults store.new }
     ensures fault { IfErr result (λ refusal. generate_status refusal ≡ StoreStatus →
         Rose (S.faults store.old) (S.faults store.new)) }
+    ensures stands { OnOk result (S.faults store.new ≡ S.faults store.old) }
 {
     let mut list = Generator::new(scale, number, count);
     let written = match write_list(rt, alloc, store, &mut list, dataset, scale, workers, gate) {
@@ -185,6 +183,7 @@ where
     ensures later { S.faults store.old ≤ S.faults store.new }
     ensures fault { IfErr result (λ refusal. generate_status refusal ≡ StoreStatus →
         Rose (S.faults store.old) (S.faults store.new)) }
+    ensures stands { OnOk result (S.faults store.new ≡ S.faults store.old) }
 {
     match store.any_under(&find_folder(dataset, scale)) {
         Ok(false) => {}
@@ -228,6 +227,7 @@ where
     ensures later { S.faults store.old ≤ S.faults store.new }
     ensures fault { IfErr result (λ refusal. generate_status refusal ≡ StoreStatus →
         Rose (S.faults store.old) (S.faults store.new)) }
+    ensures stands { OnOk result (S.faults store.new ≡ S.faults store.old) }
 {
     let scale = match read_scale(alloc, store, dataset, key) {
         Ok(scale) => scale,

@@ -1,5 +1,5 @@
 //! Lists of writes that are made from a number, over stand-ins in memory. What each stores and prints was worked out from the
-//! rules of docs/generator.md by a program that has nothing in common with this one.
+//! rules of docs/statuses.md by a program that has nothing in common with this one.
 ghost use Rattle.std.specs.Prelude.{◌<◌, ◌≤◌, ◌^◌};
 
 use crate::run_generate;

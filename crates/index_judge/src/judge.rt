@@ -1,7 +1,7 @@
 //! A judge of whole indexes.
 ghost use Rattle.std.specs.Prelude.{◌≡◌, ◌<◌, ◌≤◌, ◌^◌, length, IfOk, IfSome, Err, Some};
 ghost use Rattle.std.specs.FinMap as map;
-ghost use Rattle.vol_base.specs.Causes.{Rose};
+ghost use Rattle.vol_base.specs.Causes.{HasCauseOf};
 ghost use Rattle.vol_base.specs.Outside.{OnlyReads};
 ghost use Rattle.vol_spec.specs.ShardNames.{shard_name};
 ghost use Rattle.index_judge.specs.Judging.{Says, wrong_in};
@@ -35,8 +35,7 @@ fn judge_index<S: Source>(
         Says (wrong_in (map.get m name.now) sharding.now home.now.shard home.now.minishard) result) }
     ensures kept { OnlyReads (S.objects store.old) (S.objects store.new) (S.draft store.old)
         (S.draft store.new) }
-    ensures later { S.faults store.old ≤ S.faults store.new }
-    ensures fault { result ≡ Err JudgeFault.NotRead → Rose (S.faults store.old) (S.faults store.new) }
+    ensures cause { HasCauseOf JudgeFault.NotRead (S.faults store.old) (S.faults store.new) result }
 {
     let span = match open_index(store, name, sharding, home.minishard) {
         Err(fault) => return Err(fault),
@@ -94,8 +93,7 @@ impl IndexJudge {
         ensures same { self.new.judged ≡ self.old.judged }
         ensures kept { OnlyReads (S.objects store.old) (S.objects store.new) (S.draft store.old)
             (S.draft store.new) }
-        ensures later { S.faults store.old ≤ S.faults store.new }
-        ensures fault { result ≡ Err JudgeFault.NotRead → Rose (S.faults store.old) (S.faults store.new) }
+        ensures cause { HasCauseOf JudgeFault.NotRead (S.faults store.old) (S.faults store.new) result }
     {
         let ids = self.ids.room();
         let starts = self.starts.room();
@@ -126,8 +124,7 @@ impl IndexJudge {
         ensures knows { Knows (S.objects store.old) dataset.now scale.now sharding.now self.new }
         ensures kept { OnlyReads (S.objects store.old) (S.objects store.new) (S.draft store.old)
             (S.draft store.new) }
-        ensures later { S.faults store.old ≤ S.faults store.new }
-        ensures fault { result ≡ Err JudgeFault.NotRead → Rose (S.faults store.old) (S.faults store.new) }
+        ensures cause { HasCauseOf JudgeFault.NotRead (S.faults store.old) (S.faults store.new) result }
     {
         let index = IndexKey {
             shard: home.shard,

@@ -1,6 +1,6 @@
 //! All rows of an index, read by 1,024 at a time and judged in order.
 ghost use Rattle.std.specs.Prelude.{◌≡◌, ◌≢◌, ◌+◌, ◌*◌, ◌<◌, ◌≤◌, ◌^◌, ℕ, length, Err, IfErr, OnOk};
-ghost use Rattle.vol_base.specs.Causes.{Rose};
+ghost use Rattle.vol_base.specs.Causes.{HasCauseOf};
 ghost use Rattle.vol_base.specs.Outside.{OnlyReads};
 ghost use Rattle.vol_spec.specs.Rows.{Columns, columns_of};
 ghost use Rattle.shard_reader.specs.Reading.{Holds, OnIndex};
@@ -71,8 +71,7 @@ pub fn read_rows<S: Source>(
     ensures placed { IsPlaced result }
     ensures kept { OnlyReads (S.objects store.old) (S.objects store.new) (S.draft store.old)
         (S.draft store.new) }
-    ensures later { S.faults store.old ≤ S.faults store.new }
-    ensures fault { result ≡ Err JudgeFault.NotRead → Rose (S.faults store.old) (S.faults store.new) }
+    ensures cause { HasCauseOf JudgeFault.NotRead (S.faults store.old) (S.faults store.new) result }
 {
     read_numbers(store, name, span, first, count, ids)?;
     read_numbers(store, name, span, span.rows + first, count, starts)?;
@@ -119,8 +118,7 @@ pub(crate) fn judge_rows<S: Source>(
         (columns_of bytes) sharding.now home.now.shard home.now.minishard span.now.rows) result) }
     ensures kept { OnlyReads (S.objects store.old) (S.objects store.new) (S.draft store.old)
         (S.draft store.new) }
-    ensures later { S.faults store.old ≤ S.faults store.new }
-    ensures fault { result ≡ Err JudgeFault.NotRead → Rose (S.faults store.old) (S.faults store.new) }
+    ensures cause { HasCauseOf JudgeFault.NotRead (S.faults store.old) (S.faults store.new) result }
 {
     let mut walk = Walk::new();
     while walk.rows() < span.rows {

@@ -2,7 +2,7 @@
 ghost use Rattle.std.specs.Prelude.{◌≡◌, ◌≤◌, length, IfOk};
 ghost use Rattle.std.specs.Option.{option_map};
 ghost use Rattle.httparse.specs.Spans.{IsRequestOf, IsRequestWithin};
-ghost use Rattle.vol_base.specs.Causes.{HasStoreCause};
+ghost use Rattle.vol_base.specs.Causes.{HasCauseOf};
 ghost use Rattle.vol_base.specs.Outside.{OnlyReads};
 ghost use Rattle.range_server.specs.Bodies.{WhereTold, held};
 ghost use Rattle.range_server.specs.Plans.{IsPlan};
@@ -26,7 +26,7 @@ fn find_object<S: Source>(
         option_map (λ bytes. bytes.items) object ≡ object_at m name.now)) }
     ensures kept { OnlyReads (S.objects store.old) (S.objects store.new) (S.draft store.old)
         (S.draft store.new) }
-    ensures cause { HasStoreCause (S.faults store.old) (S.faults store.new) result }
+    ensures cause { HasCauseOf StoreRefusal.Failed (S.faults store.old) (S.faults store.new) result }
 {
     match name {
         Some(name) => read_object(alloc, store, name),
@@ -72,7 +72,7 @@ pub(crate) fn plan_head<S: Source>(
     ensures object { IfOk result (λ r. WhereTold (S.objects store.old) (λ m. IsObject m r.1.items r.0)) }
     ensures kept { OnlyReads (S.objects store.old) (S.objects store.new) (S.draft store.old)
         (S.draft store.new) }
-    ensures cause { HasStoreCause (S.faults store.old) (S.faults store.new) result }
+    ensures cause { HasCauseOf StoreRefusal.Failed (S.faults store.old) (S.faults store.new) result }
 {
     let Ok(fields) = read_fields(alloc, front, spans, parts) else {
         return Err(StoreRefusal::OutOfMemory);

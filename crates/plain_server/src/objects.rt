@@ -2,7 +2,7 @@
 ghost use Rattle.std.specs.Prelude.{◌≡◌, length, IfOk};
 ghost use Rattle.std.specs.Option.{option_map};
 ghost use Rattle.std.specs.FinMap as map;
-ghost use Rattle.vol_base.specs.Causes.{HasStoreCause};
+ghost use Rattle.vol_base.specs.Causes.{HasCauseOf};
 ghost use Rattle.vol_base.specs.Outside.{OnlyReads};
 ghost use Rattle.range_server.specs.Bodies.{WhereTold};
 
@@ -29,7 +29,7 @@ pub(crate) fn read_object<S: Source>(
         option_map (λ bytes. bytes.items) object ≡ map.get m name.now)) }
     ensures kept { OnlyReads (S.objects store.old) (S.objects store.new) (S.draft store.old)
         (S.draft store.new) }
-    ensures cause { HasStoreCause (S.faults store.old) (S.faults store.new) result }
+    ensures cause { HasCauseOf StoreRefusal.Failed (S.faults store.old) (S.faults store.new) result }
 {
     let len = match store.size(name) {
         Ok(Some(len)) => len,

@@ -2,7 +2,7 @@
 ghost use Rattle.std.specs.Prelude.{◌≡◌, ◌≢◌, ◌++◌, ◌≤◌, [], ◌<◌, length, min, drop, take, true, Some, None, IfOk, IfSome, OnOk, MatchOption, if◌then◌else◌};
 ghost use Rattle.httparse.specs.Spans.{IsRequestOf, IsRequestWithin};
 ghost use Rattle.request_heads.specs.Heads.{HasNoHead};
-ghost use Rattle.vol_base.specs.Causes.{HasStoreCause};
+ghost use Rattle.vol_base.specs.Causes.{HasCauseOf};
 ghost use Rattle.vol_base.specs.Outside.{OnlyReads};
 ghost use Rattle.range_server.specs.Bodies.{WhereTold, bad_bytes};
 ghost use Rattle.range_server.specs.Replies.{AreReplies, EndsWith, Gained, GoesOn, closes_at, numbered, reply_to};
@@ -108,7 +108,7 @@ fn answer_next<S: Source>(
         (Some out.old.items) (Some out.new.items))) }
     ensures kept { OnlyReads (S.objects store.old) (S.objects store.new) (S.draft store.old)
         (S.draft store.new) }
-    ensures cause { HasStoreCause (S.faults store.old) (S.faults store.new) result }
+    ensures cause { HasCauseOf StoreRefusal.Failed (S.faults store.old) (S.faults store.new) result }
 {
     if rest.is_empty() {
         return Ok(None);
@@ -144,7 +144,7 @@ fn answer_all<S: Source>(
         AreReplies m dataset.now stream.now out.items)) }
     ensures kept { OnlyReads (S.objects store.old) (S.objects store.new) (S.draft store.old)
         (S.draft store.new) }
-    ensures cause { HasStoreCause (S.faults store.old) (S.faults store.new) result }
+    ensures cause { HasCauseOf StoreRefusal.Failed (S.faults store.old) (S.faults store.new) result }
 {
     let mut out = Vec::new(alloc);
     let mut at = 0;
@@ -181,7 +181,7 @@ pub fn plain_replies<S: Source>(
         AreReplies m dataset.now stream.now out.items)) }
     ensures kept { OnlyReads (S.objects store.old) (S.objects store.new) (S.draft store.old)
         (S.draft store.new) }
-    ensures cause { HasStoreCause (S.faults store.old) (S.faults store.new) result }
+    ensures cause { HasCauseOf StoreRefusal.Failed (S.faults store.old) (S.faults store.new) result }
 {
     let Ok(mut spans) = reserve_spans(alloc, 4096) else {
         return Err(StoreRefusal::OutOfMemory);

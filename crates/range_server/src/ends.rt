@@ -1,6 +1,6 @@
 //! The ends of a door, served one after the other.
-ghost use Rattle.std.specs.Prelude.{◌≡◌, ◌≢◌, ◌+◌, ◌≤◌, ◌++◌, List, length, Err, Some, IfErr, IsErrOf, IsSome, MatchBool, OnOk};
-ghost use Rattle.vol_base.specs.Causes.{Rose};
+ghost use Rattle.std.specs.Prelude.{◌≡◌, ◌≢◌, ◌+◌, ◌≤◌, ◌++◌, List, length, Err, Some, IfErr, IsSome, MatchBool, OnOk};
+ghost use Rattle.vol_base.specs.Causes.{HasCauseOf};
 ghost use Rattle.vol_base.specs.Outside.{Ended, OnlyReads};
 ghost use Rattle.range_server.specs.Bodies.{WhereTold};
 ghost use Rattle.range_server.specs.Serving.{AddsBy, AddsEnd, AddsServed, EndServed, EndsBy, GaveBefore, NotesGiven};
@@ -45,8 +45,7 @@ fn serve_end<D: Door, S: Source>(
     ensures kept { OnlyReads (S.objects store.old) (S.objects store.new) (S.draft store.old)
         (S.draft store.new) }
     ensures store_later { S.faults store.old ≤ S.faults store.new }
-    ensures later { D.faults door.old ≤ D.faults door.new }
-    ensures cause { IsErrOf result DoorFault → Rose (D.faults door.old) (D.faults door.new) }
+    ensures cause { HasCauseOf DoorFault (D.faults door.old) (D.faults door.new) result }
 {
     let mut end = match door.accept() {
         Ok(end) => end,
@@ -88,8 +87,7 @@ pub fn serve_ends<D: Door, S: Source>(
     ensures kept { OnlyReads (S.objects store.old) (S.objects store.new) (S.draft store.old)
         (S.draft store.new) }
     ensures store_later { S.faults store.old ≤ S.faults store.new }
-    ensures later { D.faults door.old ≤ D.faults door.new }
-    ensures cause { IsErrOf result DoorFault → Rose (D.faults door.old) (D.faults door.new) }
+    ensures cause { HasCauseOf DoorFault (D.faults door.old) (D.faults door.new) result }
 {
     for _ in 0..connections {
         match serve_end(alloc, door, store, dataset) {

@@ -6,7 +6,7 @@ ghost use Rattle.httparse.specs.Spans.{IsRequestOf, IsRequestWithin};
 ghost use Rattle.request_heads.specs.Asks.{bytes_of};
 ghost use Rattle.request_heads.specs.Words.{has_close};
 ghost use Rattle.std.specs.Option.{option_map};
-ghost use Rattle.vol_base.specs.Causes.{HasCause, HasStoreCause, Rose};
+ghost use Rattle.vol_base.specs.Causes.{HasCause, HasCauseOf, Rose};
 ghost use Rattle.vol_base.specs.Outside.{OnlyReads};
 ghost use Rattle.range_server.specs.Ranges.{range_in};
 ghost use Rattle.range_server.specs.Replies.{IsPlanAt, numbered};
@@ -195,7 +195,7 @@ pub(crate) fn plan_head<S: Source>(
         IsPlan m dataset.now received.now reply)) }
     ensures kept { OnlyReads (S.objects store.old) (S.objects store.new) (S.draft store.old)
         (S.draft store.new) }
-    ensures cause { HasStoreCause (S.faults store.old) (S.faults store.new) result }
+    ensures cause { HasCauseOf StoreRefusal.Failed (S.faults store.old) (S.faults store.new) result }
 {
     let Ok(fields) = read_fields(alloc, received, spans, parts) else {
         return Err(StoreRefusal::OutOfMemory);
@@ -286,7 +286,7 @@ pub(crate) fn plan_numbered<S: Source>(
     ensures last { IfOk result (λ reply. number ≡ 65535 → reply.close ≡ true) }
     ensures kept { OnlyReads (S.objects store.old) (S.objects store.new) (S.draft store.old)
         (S.draft store.new) }
-    ensures cause { HasStoreCause (S.faults store.old) (S.faults store.new) result }
+    ensures cause { HasCauseOf StoreRefusal.Failed (S.faults store.old) (S.faults store.new) result }
 {
     match plan_head(alloc, received, spans, parts, store, dataset) {
         Ok(reply) => Ok(number_reply(number, reply)),

@@ -1,6 +1,6 @@
 //! The command `reshard`.
 ghost use Rattle.std.specs.Prelude.{◌≡◌, ◌≤◌, length, false, None, Some, IfErr, IfOk, IfSome, OnOk};
-ghost use Rattle.vol_base.specs.Causes.{Rose};
+ghost use Rattle.vol_base.specs.Causes.{HasCauseOf, Rose};
 ghost use Rattle.vol_base.specs.Outside.{Objects, OnlyReads};
 ghost use Rattle.vol_spec.specs.Writable.{IsWritable};
 ghost use Rattle.shard_writer.specs.Writing.{Drops};
@@ -64,8 +64,7 @@ fn read_target<S: Source>(
     ensures writable { IfOk result IsWritable }
     ensures kept { OnlyReads (S.objects store.old) (S.objects store.new) (S.draft store.old)
         (S.draft store.new) }
-    ensures later { S.faults store.old ≤ S.faults store.new }
-    ensures fault { result ≡ Err ReshardRefusal.StoreFault → Rose (S.faults store.old) (S.faults store.new) }
+    ensures cause { HasCauseOf ReshardRefusal.StoreFault (S.faults store.old) (S.faults store.new) result }
 {
     let scale = match read_scale(alloc, store, dataset, key) {
         Ok(scale) => scale,
@@ -103,8 +102,7 @@ where
         OnlyReads (S.objects store.old) (S.objects store.new) (S.draft store.old) (S.draft store.new)) }
     ensures draft { OnOk result (Drops (S.draft store.old) (S.draft store.new)) }
     ensures unsharded { to.now.sharding ≡ None → Drops (S.draft store.old) (S.draft store.new) }
-    ensures later { S.faults store.old ≤ S.faults store.new }
-    ensures fault { result ≡ Err ReshardRefusal.StoreFault → Rose (S.faults store.old) (S.faults store.new) }
+    ensures cause { HasCauseOf ReshardRefusal.StoreFault (S.faults store.old) (S.faults store.new) result }
 {
     match reshard(
         rt,
@@ -147,8 +145,7 @@ where
     ensures draft { OnOk result (Drops (S.draft store.old) (S.draft store.new)) }
     ensures unsharded { IfSome (S.objects store.old) (λ m.
         DropsUnsharded (stored_scale m to_dataset.now to_key.now) (S.draft store.old) (S.draft store.new)) }
-    ensures later { S.faults store.old ≤ S.faults store.new }
-    ensures fault { result ≡ Err ReshardRefusal.StoreFault → Rose (S.faults store.old) (S.faults store.new) }
+    ensures cause { HasCauseOf ReshardRefusal.StoreFault (S.faults store.old) (S.faults store.new) result }
 {
     let to = read_target(alloc, store, to_dataset, to_key)?;
     copy_scale(
@@ -190,8 +187,7 @@ where
     ensures draft { OnOk result (Drops (S.draft store.old) (S.draft store.new)) }
     ensures unsharded { IfSome (S.objects store.old) (λ m.
         DropsUnsharded (stored_scale m to_dataset.now to_key.now) (S.draft store.old) (S.draft store.new)) }
-    ensures later { S.faults store.old ≤ S.faults store.new }
-    ensures fault { result ≡ Err ReshardRefusal.StoreFault → Rose (S.faults store.old) (S.faults store.new) }
+    ensures cause { HasCauseOf ReshardRefusal.StoreFault (S.faults store.old) (S.faults store.new) result }
 {
     let from = read_scale(alloc, store, from_dataset, from_key)?;
     copy_into(

@@ -1,6 +1,6 @@
 //! The copy of a scale.
 ghost use Rattle.std.specs.Prelude.{◌≡◌, ◌≤◌, ◌^◌, Err, false, length, IfErr, IfSome, None, OnOk};
-ghost use Rattle.vol_base.specs.Causes.{Rose};
+ghost use Rattle.vol_base.specs.Causes.{HasCauseOf};
 ghost use Rattle.vol_base.specs.Outside.{HaveBytes, any_under};
 ghost use Rattle.vol_spec.specs.CellNames.{folder_of};
 ghost use Rattle.vol_spec.specs.Copies.{AreOfOneVolume};
@@ -49,8 +49,7 @@ where
     ensures late { IfErr result IsLate }
     ensures draft { OnOk result (Drops (S.draft store.old) (S.draft store.new)) }
     ensures unsharded { scale.now.sharding ≡ None → Drops (S.draft store.old) (S.draft store.new) }
-    ensures later { S.faults store.old ≤ S.faults store.new }
-    ensures fault { result ≡ Err ReshardFault.StoreFault → Rose (S.faults store.old) (S.faults store.new) }
+    ensures cause { HasCauseOf ReshardFault.StoreFault (S.faults store.old) (S.faults store.new) result }
 {
     match write_scale(rt, alloc, store, dataset, scale, copier, workers, gate) {
         Ok(written) => Ok(written),
@@ -87,8 +86,7 @@ where
     ensures late { IfErr result IsLate }
     ensures draft { OnOk result (Drops (S.draft store.old) (S.draft store.new)) }
     ensures unsharded { to.now.sharding ≡ None → Drops (S.draft store.old) (S.draft store.new) }
-    ensures later { S.faults store.old ≤ S.faults store.new }
-    ensures fault { result ≡ Err ReshardFault.StoreFault → Rose (S.faults store.old) (S.faults store.new) }
+    ensures cause { HasCauseOf ReshardFault.StoreFault (S.faults store.old) (S.faults store.new) result }
 {
     match Copier::of(alloc, store, from_dataset, from, to) {
         Ok(mut copier) => put_copy(rt, alloc, store, to_dataset, to, &mut copier, workers, gate),
@@ -132,8 +130,7 @@ where
         (S.draft store.old) (S.draft store.new)) }
     ensures draft { OnOk result (Drops (S.draft store.old) (S.draft store.new)) }
     ensures unsharded { to.now.sharding ≡ None → Drops (S.draft store.old) (S.draft store.new) }
-    ensures later { S.faults store.old ≤ S.faults store.new }
-    ensures fault { result ≡ Err ReshardFault.StoreFault → Rose (S.faults store.old) (S.faults store.new) }
+    ensures cause { HasCauseOf ReshardFault.StoreFault (S.faults store.old) (S.faults store.new) result }
 {
     match judge_scales(from, to) {
         Ok(()) => {}

@@ -1,6 +1,6 @@
 //! What is judged before a scale is copied.
 ghost use Rattle.std.specs.Prelude.{◌≡◌, ◌≤◌, ◌↔◌, IfErr, IfSome, IsTrue, MatchOption, Err, length};
-ghost use Rattle.vol_base.specs.Causes.{Rose};
+ghost use Rattle.vol_base.specs.Causes.{HasCauseOf};
 ghost use Rattle.vol_base.specs.Outside.{HaveBytes, OnlyReads};
 ghost use Rattle.vol_spec.specs.Copies.{AreOfOneVolume};
 ghost use Rattle.write_plan.specs.Pairs.{cell_count};
@@ -96,8 +96,7 @@ pub(crate) fn judge_folder<S: Store>(
     ensures bytes { IfSome (S.objects store.old) HaveBytes }
     ensures kept { OnlyReads (S.objects store.old) (S.objects store.new) (S.draft store.old)
         (S.draft store.new) }
-    ensures later { S.faults store.old ≤ S.faults store.new }
-    ensures fault { result ≡ Err ReshardFault.StoreFault → Rose (S.faults store.old) (S.faults store.new) }
+    ensures cause { HasCauseOf ReshardFault.StoreFault (S.faults store.old) (S.faults store.new) result }
 {
     match store.any_under(&find_folder(dataset, scale)) {
         Ok(false) => Ok(()),

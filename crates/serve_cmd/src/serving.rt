@@ -1,6 +1,6 @@
 //! The command `serve`.
 ghost use Rattle.std.specs.Prelude.{◌≡◌, ◌≤◌, ◌⊎◌, IfSome, None};
-ghost use Rattle.vol_base.specs.Causes.{Rose};
+ghost use Rattle.vol_base.specs.Causes.{HasCauseOf, Rose};
 ghost use Rattle.vol_base.specs.Outside.{OnlyReads};
 ghost use Rattle.command_base.specs.Outlets.{outlets_of};
 ghost use Rattle.serve_cmd.specs.Servings.{AcceptsEnds, Announces, doorway, IsBoundTo, NotesEnds, PortTold, ServeLeaves, ServeShows, status_of, TellsFirst};
@@ -24,10 +24,8 @@ fn announce<O: Outlet, D: Door>(
     ensures bound { IsBoundTo port (D.bound door.new) }
     ensures served { D.served door.new ≡ D.served door.old }
     ensures accepted { D.accepted door.new ≡ D.accepted door.old }
-    ensures out_later { O.faults out.old ≤ O.faults out.new }
-    ensures door_later { D.faults door.old ≤ D.faults door.new }
-    ensures out_fault { result ≡ Err ServeRefusal.OutFault → Rose (O.faults out.old) (O.faults out.new) }
-    ensures door_fault { result ≡ Err ServeRefusal.DoorFault → Rose (D.faults door.old) (D.faults door.new) }
+    ensures out_cause { HasCauseOf ServeRefusal.OutFault (O.faults out.old) (O.faults out.new) result }
+    ensures door_cause { HasCauseOf ServeRefusal.DoorFault (D.faults door.old) (D.faults door.new) result }
 {
     let Ok(port) = door.listen(port) else {
         return Err(ServeRefusal::DoorFault);
@@ -67,10 +65,8 @@ fn serve<S: Source, O: Outlet, D: Door>(
     ensures kept { OnlyReads (S.objects store.old) (S.objects store.new) (S.draft store.old)
         (S.draft store.new) }
     ensures store_later { S.faults store.old ≤ S.faults store.new }
-    ensures out_later { O.faults out.old ≤ O.faults out.new }
-    ensures door_later { D.faults door.old ≤ D.faults door.new }
-    ensures out_fault { result ≡ Err ServeRefusal.OutFault → Rose (O.faults out.old) (O.faults out.new) }
-    ensures door_fault { result ≡ Err ServeRefusal.DoorFault → Rose (D.faults door.old) (D.faults door.new) }
+    ensures out_cause { HasCauseOf ServeRefusal.OutFault (O.faults out.old) (O.faults out.new) result }
+    ensures door_cause { HasCauseOf ServeRefusal.DoorFault (D.faults door.old) (D.faults door.new) result }
 {
     announce(alloc, out, door, port)?;
     match serve_ends(alloc, door, store, dataset, u64::from(connections)) {
@@ -116,7 +112,9 @@ pub fn run_serve<S: Source, O: Outlet, E: Outlet, D: Door>(
     ensures door_later { D.faults door.old ≤ D.faults door.new }
     ensures quiet { result ≡ Status.Ok → E.faults err.new ≡ E.faults err.old }
     ensures out_fault { result ≡ Status.OutFault → Rose (O.faults out.old) (O.faults out.new) }
+    ensures out_stands { result ≡ Status.Ok → O.faults out.new ≡ O.faults out.old }
     ensures door_fault { result ≡ Status.DoorFault → Rose (D.faults door.old) (D.faults door.new) }
+    ensures door_stands { result ≡ Status.Ok → D.faults door.new ≡ D.faults door.old }
 {
     match serve(alloc, store, out, door, dataset, port, connections) {
         Ok(()) => Status::Ok,

@@ -1,7 +1,7 @@
 //! The index of a minishard, appended in pieces.
 ghost use Rattle.std.specs.Prelude.{◌≡◌, ◌+◌, ◌*◌, ◌<◌, ◌≤◌, ◌^◌, ◌∷◌, IsSome, None, OnOk, OnErr, length, slice_index, take, drop};
 ghost use Rattle.std.specs.Option.{option_map};
-ghost use Rattle.vol_base.specs.Causes.{HasStoreCause};
+ghost use Rattle.vol_base.specs.Causes.{HasCauseOf};
 ghost use Rattle.vol_base.specs.Outside.{appended};
 ghost use Rattle.minishard.specs.Numbers.{with_number};
 ghost use Rattle.vol_spec.specs.IndexBytes.{AreRows, ends, ids, index_bytes, numbers, sizes, starts, stored};
@@ -131,7 +131,7 @@ fn append_numbers<S: Store>(
         (S.draft store.old)) }
     ensures refused { OnErr result (S.draft store.new ≡ None) }
     ensures objects { S.objects store.new ≡ S.objects store.old }
-    ensures cause { HasStoreCause (S.faults store.old) (S.faults store.new) result }
+    ensures cause { HasCauseOf StoreRefusal.Failed (S.faults store.old) (S.faults store.new) result }
 {
     let out = &mut piece[..8 * count];
     put_numbers(rows, column, from, count, out);
@@ -152,7 +152,7 @@ fn append_column<S: Store>(
         ≡ option_map (λ d. appended d (numbers (column_of column rows.now))) (S.draft store.old)) }
     ensures refused { OnErr result (S.draft store.new ≡ None) }
     ensures objects { S.objects store.new ≡ S.objects store.old }
-    ensures cause { HasStoreCause (S.faults store.old) (S.faults store.new) result }
+    ensures cause { HasCauseOf StoreRefusal.Failed (S.faults store.old) (S.faults store.new) result }
 {
     let most = piece.len() / 8;
     let mut done = 0;
@@ -177,7 +177,7 @@ pub(crate) fn append_index<S: Store>(
         ≡ option_map (λ d. appended d (index_bytes (stored rows.now))) (S.draft store.old)) }
     ensures refused { OnErr result (S.draft store.new ≡ None) }
     ensures objects { S.objects store.new ≡ S.objects store.old }
-    ensures cause { HasStoreCause (S.faults store.old) (S.faults store.new) result }
+    ensures cause { HasCauseOf StoreRefusal.Failed (S.faults store.old) (S.faults store.new) result }
 {
     append_column(store, rows, Column::Ids, piece)?;
     append_column(store, rows, Column::Starts, piece)?;

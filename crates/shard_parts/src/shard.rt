@@ -1,7 +1,7 @@
 //! The begin of a shard, the end of a minishard, the end of a shard.
 ghost use Rattle.std.specs.Prelude.{◌≡◌, ◌+◌, ◌*◌, ◌<◌, ◌≤◌, ◌^◌, [], if◌then◌else◌, IsSome, IsTrue, IfOk, IfSome, OnOk, OnErr, Some, None, length, replicate, vec_capacity};
 ghost use Rattle.std.specs.Option.{option_map};
-ghost use Rattle.vol_base.specs.Causes.{HasStoreCause};
+ghost use Rattle.vol_base.specs.Causes.{HasCauseOf};
 ghost use Rattle.vol_base.specs.Outside.{appended, finished, patched};
 ghost use Rattle.vol_spec.specs.Entries.{entry_bytes};
 ghost use Rattle.vol_spec.specs.IndexBytes.{AreRows, index_bytes, stored};
@@ -28,7 +28,7 @@ fn append_some<S: Store>(store: &mut S, count: usize, piece: &[u8]) -> Result<()
         ≡ option_map (λ d. appended d (replicate count 0)) (S.draft store.old)) }
     ensures refused { OnErr result (S.draft store.new ≡ None) }
     ensures objects { S.objects store.new ≡ S.objects store.old }
-    ensures cause { HasStoreCause (S.faults store.old) (S.faults store.new) result }
+    ensures cause { HasCauseOf StoreRefusal.Failed (S.faults store.old) (S.faults store.new) result }
 {
     store.append(&piece[..count])
 }
@@ -41,7 +41,7 @@ fn append_zeros<S: Store>(store: &mut S, count: usize, piece: &mut [u8]) -> Resu
         ≡ option_map (λ d. appended d (replicate count 0)) (S.draft store.old)) }
     ensures refused { OnErr result (S.draft store.new ≡ None) }
     ensures objects { S.objects store.new ≡ S.objects store.old }
-    ensures cause { HasStoreCause (S.faults store.old) (S.faults store.new) result }
+    ensures cause { HasCauseOf StoreRefusal.Failed (S.faults store.old) (S.faults store.new) result }
 {
     clear(piece);
     let mut done = 0;
@@ -73,7 +73,7 @@ fn begin_shard<S: Store>(
         (draft_of (S.objects store.old) name.now (shard_bytes bits []))) }
     ensures refused { OnErr result (S.draft store.new ≡ None) }
     ensures objects { S.objects store.new ≡ S.objects store.old }
-    ensures cause { HasStoreCause (S.faults store.old) (S.faults store.new) result }
+    ensures cause { HasCauseOf StoreRefusal.Failed (S.faults store.old) (S.faults store.new) result }
 {
     store.begin(name)?;
     append_zeros(store, entries_len(bits), piece)
@@ -98,7 +98,7 @@ pub fn begin_if<S: Store>(
         then Some (draft_of (S.objects store.old) name.now (shard_bytes bits [])) else S.draft store.old)) }
     ensures refused { OnErr result (S.draft store.new ≡ None) }
     ensures objects { S.objects store.new ≡ S.objects store.old }
-    ensures cause { HasStoreCause (S.faults store.old) (S.faults store.new) result }
+    ensures cause { HasCauseOf StoreRefusal.Failed (S.faults store.old) (S.faults store.new) result }
 {
     if fresh {
         begin_shard(store, name, bits, piece)
@@ -126,7 +126,7 @@ fn end_minishard<S: Store>(
         (entry_bytes (record { start = at; end = at + 24 * length rows.now }))) (S.draft store.old)) }
     ensures refused { OnErr result (S.draft store.new ≡ None) }
     ensures objects { S.objects store.new ≡ S.objects store.old }
-    ensures cause { HasStoreCause (S.faults store.old) (S.faults store.new) result }
+    ensures cause { HasCauseOf StoreRefusal.Failed (S.faults store.old) (S.faults store.new) result }
 {
     append_index(store, rows, piece)?;
     let entry = Entry {
@@ -166,7 +166,7 @@ pub fn end_if<S: Store>(
     ensures at { IfOk result (λ next. next ≡ (if ends then at + 24 * length rows.old.items else at)) }
     ensures refused { OnErr result (S.draft store.new ≡ None) }
     ensures objects { S.objects store.new ≡ S.objects store.old }
-    ensures cause { HasStoreCause (S.faults store.old) (S.faults store.new) result }
+    ensures cause { HasCauseOf StoreRefusal.Failed (S.faults store.old) (S.faults store.new) result }
 {
     if !ends {
         return Ok(at);
@@ -189,7 +189,7 @@ pub fn finish_if<S: Store>(store: &mut S, ends: bool) -> Result<(), StoreRefusal
     ensures draft { OnOk result (S.draft store.new ≡ (if ends then None else S.draft store.old)) }
     ensures refused { OnErr result (S.draft store.new ≡ None) }
     ensures kept { OnErr result (S.objects store.new ≡ S.objects store.old) }
-    ensures cause { HasStoreCause (S.faults store.old) (S.faults store.new) result }
+    ensures cause { HasCauseOf StoreRefusal.Failed (S.faults store.old) (S.faults store.new) result }
 {
     if ends { store.finish() } else { Ok(()) }
 }

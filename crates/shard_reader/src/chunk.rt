@@ -1,7 +1,7 @@
 //! The bytes of a chunk.
 ghost use Rattle.std.specs.Prelude.{◌≡◌, ◌+◌, ◌<◌, ◌≤◌, ◌^◌, length, Err, IfErr, OnOk, take};
 ghost use Rattle.shard_reader.specs.Reading.{OnObject};
-ghost use Rattle.vol_base.specs.Causes.{Rose};
+ghost use Rattle.vol_base.specs.Causes.{HasCauseOf};
 ghost use Rattle.vol_base.specs.Outside.{OnlyReads, part};
 
 use crate::bytes::{LookupFault, read_exact};
@@ -25,8 +25,7 @@ pub(crate) fn read_span<S: Source>(
     ensures kept { OnlyReads (S.objects store.old) (S.objects store.new) (S.draft store.old)
         (S.draft store.new) }
     ensures asked { S.asked store.new ≤ S.asked store.old + span.now.len }
-    ensures later { S.faults store.old ≤ S.faults store.new }
-    ensures fault { result ≡ Err LookupFault.NotRead → Rose (S.faults store.old) (S.faults store.new) }
+    ensures cause { HasCauseOf LookupFault.NotRead (S.faults store.old) (S.faults store.new) result }
 {
     if span.len == 0 {
         return Ok(());

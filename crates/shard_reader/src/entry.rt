@@ -1,9 +1,9 @@
 //! The entry of a minishard, read and judged.
-ghost use Rattle.std.specs.Prelude.{◌≡◌, ◌+◌, ◌*◌, ◌<◌, ◌≤◌, ◌^◌, Ok, Err, IfOk, IfSome, Some};
+ghost use Rattle.std.specs.Prelude.{◌≡◌, ◌+◌, ◌*◌, ◌<◌, ◌≤◌, ◌^◌, Ok, Err, IfOk, IfSome, Some, ◌≢◌, IfErr};
 ghost use Rattle.std.specs.Option.{ForSome};
 ghost use Rattle.std.specs.FinMap as map;
 ghost use Rattle.shard_reader.specs.Reading.{Opens};
-ghost use Rattle.vol_base.specs.Causes.{Rose};
+ghost use Rattle.vol_base.specs.Causes.{HasCauseOf};
 ghost use Rattle.vol_base.specs.Outside.{OnlyReads};
 ghost use Rattle.vol_spec.specs.Entries.{base_of, judged_entry};
 
@@ -46,8 +46,8 @@ pub fn open_index<S: Source>(
     ensures kept { OnlyReads (S.objects store.old) (S.objects store.new) (S.draft store.old)
         (S.draft store.new) }
     ensures asked { S.asked store.new ≤ S.asked store.old + 16 }
-    ensures later { S.faults store.old ≤ S.faults store.new }
-    ensures fault { result ≡ Err LookupFault.NotRead → Rose (S.faults store.old) (S.faults store.new) }
+    ensures cause { HasCauseOf LookupFault.NotRead (S.faults store.old) (S.faults store.new) result }
+    ensures still { IfErr result (λ fault. fault ≢ LookupFault.NotRead → S.faults store.new ≡ S.faults store.old) }
 {
     let len = match store.size(name) {
         Err(_) => return Err(LookupFault::NotRead),

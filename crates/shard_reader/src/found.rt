@@ -1,7 +1,7 @@
 //! The chunk of an id, in an index whose place is known.
-ghost use Rattle.std.specs.Prelude.{◌≡◌, ◌+◌, ◌*◌, ◌<◌, ◌≤◌, ◌^◌, ◌-◌, ℕ, Err, IfOk, IfSome};
+ghost use Rattle.std.specs.Prelude.{◌≡◌, ◌+◌, ◌*◌, ◌<◌, ◌≤◌, ◌^◌, ◌-◌, ℕ, Err, IfOk, IfSome, ◌≢◌, IfErr};
 ghost use Rattle.shard_reader.specs.Reading.{Answers, EndsAt, EndsIn, IsOpened, IsWindow, OnIndex, OnObject, resumed};
-ghost use Rattle.vol_base.specs.Causes.{Rose};
+ghost use Rattle.vol_base.specs.Causes.{HasCauseOf};
 ghost use Rattle.vol_base.specs.Outside.{OnlyReads};
 ghost use Rattle.vol_spec.specs.Entries.{base_of};
 ghost use Rattle.vol_spec.specs.FoundChunks.{found, span_of};
@@ -80,8 +80,8 @@ pub(crate) fn find_chunk<S: Source>(
     ensures again { OnIndex (S.objects store.old) name.now opened.now.index.at opened.now.index.rows (λ bytes.
         (r : ℕ) → EndsAt (columns_of bytes) id r → window.old.before.rows ≤ r →
         r < window.old.before.rows + window.old.count → S.asked store.new ≡ S.asked store.old) }
-    ensures later { S.faults store.old ≤ S.faults store.new }
-    ensures fault { result ≡ Err LookupFault.NotRead → Rose (S.faults store.old) (S.faults store.new) }
+    ensures cause { HasCauseOf LookupFault.NotRead (S.faults store.old) (S.faults store.new) result }
+    ensures still { IfErr result (λ fault. fault ≢ LookupFault.NotRead → S.faults store.new ≡ S.faults store.old) }
 {
     let row = match window.find(store, name, &opened.index, id) {
         Ok(row) => row,

@@ -1,9 +1,9 @@
 //! A reader of shards, which keeps the index that it opened last.
-ghost use Rattle.std.specs.Prelude.{◌≡◌, ◌≢◌, ◌+◌, ◌*◌, ◌<◌, ◌≤◌, ◌^◌, ◌-◌, length, None, Some, Ok, Err, IfOk, IfSome, OnErr};
+ghost use Rattle.std.specs.Prelude.{◌≡◌, ◌≢◌, ◌+◌, ◌*◌, ◌<◌, ◌≤◌, ◌^◌, ◌-◌, length, None, Some, Ok, Err, IfOk, IfSome, OnErr, IfErr};
 ghost use Rattle.std.specs.FinMap as map;
 ghost use Rattle.shard_reader.specs.Keeping.{IsKept, IsOf};
 ghost use Rattle.shard_reader.specs.Reading.{Answers, chunk_bytes, chunk_cost, cost_of, found_of, Gets, IsWindow, OnIndex, Opens};
-ghost use Rattle.vol_base.specs.Causes.{Rose};
+ghost use Rattle.vol_base.specs.Causes.{HasCauseOf};
 ghost use Rattle.vol_base.specs.Outside.{OnlyReads};
 ghost use Rattle.vol_spec.specs.Places.{shard_of};
 ghost use Rattle.vol_spec.specs.ShardNames.{shard_name};
@@ -101,8 +101,8 @@ impl ShardReader {
         ensures kept { OnlyReads (S.objects store.old) (S.objects store.new) (S.draft store.old)
             (S.draft store.new) }
         ensures asked { S.asked store.new ≤ S.asked store.old + 16 }
-        ensures later { S.faults store.old ≤ S.faults store.new }
-        ensures fault { result ≡ Err LookupFault.NotRead → Rose (S.faults store.old) (S.faults store.new) }
+        ensures cause { HasCauseOf LookupFault.NotRead (S.faults store.old) (S.faults store.new) result }
+        ensures still { IfErr result (λ fault. fault ≢ LookupFault.NotRead → S.faults store.new ≡ S.faults store.old) }
     {
         if let Some(opened) = kept_of(&self.kept, place) {
             return Ok(Some(opened));
@@ -148,8 +148,8 @@ impl ShardReader {
         ensures keeps { Keeps (S.objects store.old) dataset.now scale.now sharding.now self.new }
         ensures kept { OnlyReads (S.objects store.old) (S.objects store.new) (S.draft store.old)
             (S.draft store.new) }
-        ensures later { S.faults store.old ≤ S.faults store.new }
-        ensures fault { result ≡ Err LookupFault.NotRead → Rose (S.faults store.old) (S.faults store.new) }
+        ensures cause { HasCauseOf LookupFault.NotRead (S.faults store.old) (S.faults store.new) result }
+        ensures still { IfErr result (λ fault. fault ≢ LookupFault.NotRead → S.faults store.new ≡ S.faults store.old) }
 
         // The bytes asked for: an entry and an index, less what is kept of them, and none where the look-up
         // ends at a row that is kept.
@@ -215,8 +215,7 @@ impl ShardReader {
             (map.get m (shard_name dataset.now scale.now (shard_of sharding.now id)))))) }
         ensures kept { OnlyReads (S.objects store.old) (S.objects store.new) (S.draft store.old)
             (S.draft store.new) }
-        ensures later { S.faults store.old ≤ S.faults store.new }
-        ensures fault { result ≡ Err LookupFault.NotRead → Rose (S.faults store.old) (S.faults store.new) }
+        ensures cause { HasCauseOf LookupFault.NotRead (S.faults store.old) (S.faults store.new) result }
         ensures asked { IfSome (S.objects store.old) (λ m.
             S.asked store.new ≤ S.asked store.old + chunk_cost
             (map.get m (shard_name dataset.now scale.now (shard_of sharding.now id))) sharding.now limit id) }

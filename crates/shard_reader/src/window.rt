@@ -1,7 +1,7 @@
 //! Windows of an index: up to 1,024 of its rows, side by side, read at once.
 ghost use Rattle.std.specs.Prelude.{◌≡◌, ◌≢◌, ◌+◌, ◌-◌, ◌*◌, ◌<◌, ◌≤◌, ◌^◌, length, take, drop, Ok, Err, OnOk, OnErr, IfErr, IfOk, IfSome, true, ℕ};
 ghost use Rattle.shard_reader.specs.Reading.{Answers, EndsAt, EndsIn, EndsSeen, Holds, HoldsNumbers, IsAt, IsWindow, OnIndex, resumed, resumes, serves, sizes_of, starts_of, Tells};
-ghost use Rattle.vol_base.specs.Causes.{Rose};
+ghost use Rattle.vol_base.specs.Causes.{HasCauseOf};
 ghost use Rattle.vol_base.specs.Outside.{OnlyReads};
 ghost use Rattle.vol_spec.specs.FoundChunks.{of_index};
 ghost use Rattle.vol_spec.specs.Rows.{Columns, columns_of, find_in};
@@ -33,8 +33,8 @@ pub fn read_numbers<S: Source>(
     ensures kept { OnlyReads (S.objects store.old) (S.objects store.new) (S.draft store.old)
         (S.draft store.new) }
     ensures asked { S.asked store.new ≤ S.asked store.old + 8 * count }
-    ensures later { S.faults store.old ≤ S.faults store.new }
-    ensures fault { result ≡ Err LookupFault.NotRead → Rose (S.faults store.old) (S.faults store.new) }
+    ensures cause { HasCauseOf LookupFault.NotRead (S.faults store.old) (S.faults store.new) result }
+    ensures still { IfErr result (λ fault. fault ≢ LookupFault.NotRead → S.faults store.new ≡ S.faults store.old) }
 {
     match read_exact(store, name, index.at + 8 * from, &mut out[..8 * count]) {
         Err(_) => Err(LookupFault::NotRead),
@@ -65,8 +65,8 @@ fn read_column<S: Source>(
     ensures kept { OnlyReads (S.objects store.old) (S.objects store.new) (S.draft store.old)
         (S.draft store.new) }
     ensures asked { S.asked store.new ≤ S.asked store.old + 8 * count }
-    ensures later { S.faults store.old ≤ S.faults store.new }
-    ensures fault { result ≡ Err LookupFault.NotRead → Rose (S.faults store.old) (S.faults store.new) }
+    ensures cause { HasCauseOf LookupFault.NotRead (S.faults store.old) (S.faults store.new) result }
+    ensures still { IfErr result (λ fault. fault ≢ LookupFault.NotRead → S.faults store.new ≡ S.faults store.old) }
 {
     match read_numbers(store, name, index, from, count, &mut columns[place..]) {
         Ok(()) => Ok(()),
@@ -97,8 +97,8 @@ fn read_columns<S: Source>(
     ensures kept { OnlyReads (S.objects store.old) (S.objects store.new) (S.draft store.old)
         (S.draft store.new) }
     ensures asked { S.asked store.new ≤ S.asked store.old + 24 * count }
-    ensures later { S.faults store.old ≤ S.faults store.new }
-    ensures fault { result ≡ Err LookupFault.NotRead → Rose (S.faults store.old) (S.faults store.new) }
+    ensures cause { HasCauseOf LookupFault.NotRead (S.faults store.old) (S.faults store.new) result }
+    ensures still { IfErr result (λ fault. fault ≢ LookupFault.NotRead → S.faults store.new ≡ S.faults store.old) }
 {
     match read_column(store, name, index, first, count, columns, 0) {
         Ok(()) => {}
@@ -138,8 +138,8 @@ fn read_rows<S: Source>(
     ensures kept { OnlyReads (S.objects store.old) (S.objects store.new) (S.draft store.old)
         (S.draft store.new) }
     ensures asked { S.asked store.new ≤ S.asked store.old + 24 * count }
-    ensures later { S.faults store.old ≤ S.faults store.new }
-    ensures fault { result ≡ Err LookupFault.NotRead → Rose (S.faults store.old) (S.faults store.new) }
+    ensures cause { HasCauseOf LookupFault.NotRead (S.faults store.old) (S.faults store.new) result }
+    ensures still { IfErr result (λ fault. fault ≢ LookupFault.NotRead → S.faults store.new ≡ S.faults store.old) }
 {
     read_columns(store, name, index, first, count, columns, 8192)
 }
@@ -234,8 +234,8 @@ impl Window {
             (S.draft store.new) }
         ensures asked { OnOk result (S.asked store.new ≤ S.asked store.old + 24 * self.new.count) }
         ensures asked_err { S.asked store.new ≤ S.asked store.old + 24 * (index.now.rows - walk.now.rows) }
-        ensures later { S.faults store.old ≤ S.faults store.new }
-        ensures fault { result ≡ Err LookupFault.NotRead → Rose (S.faults store.old) (S.faults store.new) }
+        ensures cause { HasCauseOf LookupFault.NotRead (S.faults store.old) (S.faults store.new) result }
+        ensures still { IfErr result (λ fault. fault ≢ LookupFault.NotRead → S.faults store.new ≡ S.faults store.old) }
     {
         self.clear();
         let first = walk.rows();
@@ -317,8 +317,8 @@ impl Window {
         ensures again { OnIndex (S.objects store.old) name.now index.now.at index.now.rows (λ bytes. (r : ℕ) →
             EndsAt (columns_of bytes) id r → r < self.old.before.rows + self.old.count →
             S.asked store.new ≡ S.asked store.old) }
-        ensures later { S.faults store.old ≤ S.faults store.new }
-        ensures fault { result ≡ Err LookupFault.NotRead → Rose (S.faults store.old) (S.faults store.new) }
+        ensures cause { HasCauseOf LookupFault.NotRead (S.faults store.old) (S.faults store.new) result }
+        ensures still { IfErr result (λ fault. fault ≢ LookupFault.NotRead → S.faults store.new ≡ S.faults store.old) }
     {
         let mut walk = self.before.duplicate();
         match self.look(&mut walk, id) {
@@ -392,8 +392,8 @@ impl Window {
         ensures again { OnIndex (S.objects store.old) name.now index.now.at index.now.rows (λ bytes. (r : ℕ) →
             EndsAt (columns_of bytes) id r → self.old.before.rows ≤ r →
             r < self.old.before.rows + self.old.count → S.asked store.new ≡ S.asked store.old) }
-        ensures later { S.faults store.old ≤ S.faults store.new }
-        ensures fault { result ≡ Err LookupFault.NotRead → Rose (S.faults store.old) (S.faults store.new) }
+        ensures cause { HasCauseOf LookupFault.NotRead (S.faults store.old) (S.faults store.new) result }
+        ensures still { IfErr result (λ fault. fault ≢ LookupFault.NotRead → S.faults store.new ≡ S.faults store.old) }
     {
         if self.serves(index.rows, id) {
             return self.find_behind(store, name, index, id);

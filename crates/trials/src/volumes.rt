@@ -116,7 +116,7 @@ pub(crate) const LABELS: Volume = Volume {
     verified: "cells 1 stored 1 absent 0\n",
 };
 
-// The byte of a write's values at a place.
+/// The byte of a write's values at a place.
 pub(crate) fn byte_at(write: &Write, place: u64) -> u8 {
     let steps = (place % 256) as u8;
     write.first.wrapping_add(write.step.wrapping_mul(steps))

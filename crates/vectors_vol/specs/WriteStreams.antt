@@ -1,4 +1,4 @@
--- The stream that a list of writes stands in (docs/stream.md).
+-- The stream that a list of writes stands in (docs/statuses.md).
 use Rattle.std.specs.Prelude.{ℕ, ◌+◌, ◌^◌, nat_lt, List, [], ◌∷◌, ◌++◌, length, flat_map, Option, Some, None, Result, if◌then◌else◌}
 use Rattle.std.specs.Int.{w64, cast_unsigned}
 use Rattle.byteorder.specs.Endian.{little_bytes}

@@ -1,6 +1,6 @@
 //! A judge of cells.
-ghost use Rattle.std.specs.Prelude.{◌≡◌, ◌≤◌, length, Err, IfOk, IfSome, Some};
-ghost use Rattle.vol_base.specs.Causes.{Rose};
+ghost use Rattle.std.specs.Prelude.{◌≤◌, length, Err, IfOk, IfSome, Some};
+ghost use Rattle.vol_base.specs.Causes.{HasCauseOf};
 ghost use Rattle.vol_base.specs.Outside.{OnlyReads};
 ghost use Rattle.vol_spec.specs.Grid.{IsCell};
 ghost use Rattle.vol_spec.specs.StoredBytes.{object_of};
@@ -66,8 +66,7 @@ impl CellJudge {
         ensures serves { Serves (S.objects store.old) dataset.now scale.now self.new }
         ensures kept { OnlyReads (S.objects store.old) (S.objects store.new) (S.draft store.old)
             (S.draft store.new) }
-        ensures later { S.faults store.old ≤ S.faults store.new }
-        ensures fault { result ≡ Err JudgeFault.NotRead → Rose (S.faults store.old) (S.faults store.new) }
+        ensures cause { HasCauseOf JudgeFault.NotRead (S.faults store.old) (S.faults store.new) result }
     {
         match scale.sharding {
             None => Ok(()),
@@ -94,8 +93,7 @@ impl CellJudge {
         ensures serves { Serves (S.objects store.old) dataset.now scale.now self.new }
         ensures kept { OnlyReads (S.objects store.old) (S.objects store.new) (S.draft store.old)
             (S.draft store.new) }
-        ensures later { S.faults store.old ≤ S.faults store.new }
-        ensures fault { result ≡ Err JudgeFault.NotRead → Rose (S.faults store.old) (S.faults store.new) }
+        ensures cause { HasCauseOf JudgeFault.NotRead (S.faults store.old) (S.faults store.new) result }
     {
         match self.judge_index(store, dataset, scale, cell) {
             Ok(()) => {}

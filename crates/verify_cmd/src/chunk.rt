@@ -1,7 +1,7 @@
 //! The chunk of a cell, read and judged.
 ghost use Rattle.std.specs.Prelude.{◌≡◌, ◌+◌, ◌<◌, ◌≤◌, length, Err, IfSome, None};
 ghost use Rattle.std.specs.Result.{result_err};
-ghost use Rattle.vol_base.specs.Causes.{Rose};
+ghost use Rattle.vol_base.specs.Causes.{HasCauseOf};
 ghost use Rattle.vol_base.specs.Outside.{OnlyReads};
 ghost use Rattle.vol_spec.specs.Chunks.{chunk_in};
 ghost use Rattle.vol_spec.specs.Encodings.{chunk_fault};
@@ -83,8 +83,7 @@ pub(crate) fn judge_chunk<S: Source>(
     ensures keeps { KeepsShards (S.objects store.old) dataset.now scale.now shards.new }
     ensures kept { OnlyReads (S.objects store.old) (S.objects store.new) (S.draft store.old)
         (S.draft store.new) }
-    ensures later { S.faults store.old ≤ S.faults store.new }
-    ensures fault { result ≡ Err LookupFault.NotRead → Rose (S.faults store.old) (S.faults store.new) }
+    ensures cause { HasCauseOf LookupFault.NotRead (S.faults store.old) (S.faults store.new) result }
 {
     let limit = chunk_limit(scale, cell);
     let room = &mut chunk[..limit as usize + 1];

@@ -1,6 +1,6 @@
 //! The command `verify`.
 ghost use Rattle.std.specs.Prelude.{◌≡◌, ◌≤◌, length, Err, IfSome, Some};
-ghost use Rattle.vol_base.specs.Causes.{Rose};
+ghost use Rattle.vol_base.specs.Causes.{HasCauseOf, Rose};
 ghost use Rattle.vol_base.specs.Outside.{Objects, OnlyReads};
 ghost use Rattle.vol_spec.specs.Grid.{whole as whole_of};
 ghost use Rattle.command_base.specs.Ending.{EndsWell, IsCaused};
@@ -66,8 +66,7 @@ fn judge_scale<S: Source>(
     ensures asked { IsAsked result part.now }
     ensures kept { OnlyReads (S.objects store.old) (S.objects store.new) (S.draft store.old)
         (S.draft store.new) }
-    ensures later { S.faults store.old ≤ S.faults store.new }
-    ensures fault { result ≡ Err VerifyRefusal.StoreFault → Rose (S.faults store.old) (S.faults store.new) }
+    ensures cause { HasCauseOf VerifyRefusal.StoreFault (S.faults store.old) (S.faults store.new) result }
 {
     let chosen = pick_part(scale, part);
     match verify(alloc, store, dataset, scale, &chosen) {
@@ -91,8 +90,7 @@ fn judge_stored<S: Source>(
     ensures asked { IsAsked result part.now }
     ensures kept { OnlyReads (S.objects store.old) (S.objects store.new) (S.draft store.old)
         (S.draft store.new) }
-    ensures later { S.faults store.old ≤ S.faults store.new }
-    ensures fault { result ≡ Err VerifyRefusal.StoreFault → Rose (S.faults store.old) (S.faults store.new) }
+    ensures cause { HasCauseOf VerifyRefusal.StoreFault (S.faults store.old) (S.faults store.new) result }
 {
     match read_scale(alloc, store, dataset, key) {
         Ok(scale) => judge_scale(alloc, store, dataset, &scale, part),

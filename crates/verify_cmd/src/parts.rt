@@ -1,6 +1,6 @@
 //! The judgement of a part of a scale.
 ghost use Rattle.std.specs.Prelude.{◌≡◌, ◌≢◌, ◌↔◌, ◌+◌, ◌<◌, ◌≤◌, ◌^◌, ℕ, length, Err, IfOk, IfSome, None};
-ghost use Rattle.vol_base.specs.Causes.{Rose};
+ghost use Rattle.vol_base.specs.Causes.{HasCauseOf};
 ghost use Rattle.vol_base.specs.Outside.{Objects, OnlyReads};
 ghost use Rattle.vol_spec.specs.Grid.{cells_in, Inside};
 ghost use Rattle.vol_spec.specs.Verdicts.{Sound};
@@ -62,8 +62,7 @@ fn judge_cells<S: Source>(
     ensures memory { result ≢ Err VerifyFault.OutOfMemory }
     ensures kept { OnlyReads (S.objects store.old) (S.objects store.new) (S.draft store.old)
         (S.draft store.new) }
-    ensures later { S.faults store.old ≤ S.faults store.new }
-    ensures fault { result ≡ Err VerifyFault.StoreFault → Rose (S.faults store.old) (S.faults store.new) }
+    ensures cause { HasCauseOf VerifyFault.StoreFault (S.faults store.old) (S.faults store.new) result }
 {
     tell_cells(scale, part);
     let mut report = Report {
@@ -103,8 +102,7 @@ pub fn verify<S: Source>(
     ensures both { IfOk result (λ report. report.stored + report.absent ≡ report.cells) }
     ensures kept { OnlyReads (S.objects store.old) (S.objects store.new) (S.draft store.old)
         (S.draft store.new) }
-    ensures later { S.faults store.old ≤ S.faults store.new }
-    ensures fault { result ≡ Err VerifyFault.StoreFault → Rose (S.faults store.old) (S.faults store.new) }
+    ensures cause { HasCauseOf VerifyFault.StoreFault (S.faults store.old) (S.faults store.new) result }
     // Where there is no memory, nothing was read.
     ensures unread { result ≡ Err VerifyFault.OutOfMemory → (S.asked store.new ≡ S.asked store.old) ×
         (S.faults store.new ≡ S.faults store.old) }

@@ -6,7 +6,7 @@ ghost use Rattle.vol_base.specs.Stored.{objects_of};
 ghost use Rattle.std.specs.Prelude.{◌↔◌, IsErr, IfErr, nat_eq, List, drop};
 ghost use Rattle.std.specs.List.{list_any};
 ghost use Rattle.vol_base.specs.Bytes.{AreBytes};
-ghost use Rattle.vol_base.specs.Causes.{HasCause, HasStoreCause, counted, is_count};
+ghost use Rattle.vol_base.specs.Causes.{HasCause, HasCauseOf, counted, is_count};
 ghost use Rattle.vol_base.specs.Outside.{HaveBytes, KeepsRest, OnlyReads, Reads, part, asked_after, is_under, any_under, begun, appended, patched, finished, overwritten};
 
 use crate::calls::tick;
@@ -279,7 +279,7 @@ impl Store for MemoryStore {
         ensures refused { OnErr result (draft_of self.new ≡ None) }
         ensures objects { Some self.new.objects ≡ Some self.old.objects }
         ensures asked { counted self.new.asked ≡ counted self.old.asked }
-        ensures cause { HasStoreCause (counted self.old.faults) (counted self.new.faults) result }
+        ensures cause { HasCauseOf StoreRefusal.Failed (counted self.old.faults) (counted self.new.faults) result }
         ensures fails { IsErr result ↔ IsTrue (fails self.old) }
         ensures ok { OnOk result (self.new ≡ record (called self.old) { writing = Some (name.now, []) }) }
         ensures err { OnErr result (self.new ≡ record (failed self.old) { writing = None }) }
@@ -302,7 +302,7 @@ impl Store for MemoryStore {
         ensures refused { OnErr result (draft_of self.new ≡ None) }
         ensures objects { Some self.new.objects ≡ Some self.old.objects }
         ensures asked { counted self.new.asked ≡ counted self.old.asked }
-        ensures cause { HasStoreCause (counted self.old.faults) (counted self.new.faults) result }
+        ensures cause { HasCauseOf StoreRefusal.Failed (counted self.old.faults) (counted self.new.faults) result }
         ensures fails { IsTrue (fails self.old) → IsErr result }
         ensures refusal { IfErr result (λ refusal. FailsAs refusal (fails self.old)) }
         ensures ok { OnOk result (self.new ≡ record (called self.old) {
@@ -335,7 +335,7 @@ impl Store for MemoryStore {
         ensures refused { OnErr result (draft_of self.new ≡ None) }
         ensures objects { Some self.new.objects ≡ Some self.old.objects }
         ensures asked { counted self.new.asked ≡ counted self.old.asked }
-        ensures cause { HasStoreCause (counted self.old.faults) (counted self.new.faults) result }
+        ensures cause { HasCauseOf StoreRefusal.Failed (counted self.old.faults) (counted self.new.faults) result }
         ensures fails { IsErr result ↔ IsTrue (fails self.old) }
         ensures ok { OnOk result (self.new ≡ record (called self.old) {
           writing =
@@ -363,7 +363,7 @@ impl Store for MemoryStore {
         ensures draft { draft_of self.new ≡ None }
         ensures refused { OnErr result (Some self.new.objects ≡ Some self.old.objects) }
         ensures asked { counted self.new.asked ≡ counted self.old.asked }
-        ensures cause { HasStoreCause (counted self.old.faults) (counted self.new.faults) result }
+        ensures cause { HasCauseOf StoreRefusal.Failed (counted self.old.faults) (counted self.new.faults) result }
         ensures fails { IsTrue (fails self.old) → IsErr result }
         ensures refusal { IfErr result (λ refusal. FailsAs refusal (fails self.old)) }
         ensures ok { OnOk result (self.new ≡ record (called self.old) {

@@ -6,7 +6,7 @@
 ghost use Rattle.std.specs.Prelude.{◌≡◌, ◌≢◌, ◌+◌, ◌<◌, ◌≤◌, ◌^◌, [], ◌∷◌, ◌++◌, List, take, drop, Option, Some, None, ℕ, length, IfOk, IfSome, OnOk, OnErr, IsSome, IsTrue};
 ghost use Rattle.std.specs.Option.{option_map};
 ghost use Rattle.std.specs.FinMap as map;
-ghost use Rattle.vol_base.specs.Causes.{HasCause, HasStoreCause, IsCount};
+ghost use Rattle.vol_base.specs.Causes.{HasCause, HasCauseOf, IsCount};
 ghost use Rattle.vol_base.specs.Outside.{Objects, Draft, Ended, Notes, HaveBytes, IsCourse, IsTold, Gives, KeepsRest, OnlyReads, Reads, asked_after, any_under, begun, appended, patched, finished};
 
 use crate::Name;
@@ -92,7 +92,7 @@ pub trait Store: Source {
         ensures refused { OnErr result (Self.draft self.new ≡ None) }
         ensures objects { Self.objects self.new ≡ Self.objects self.old }
         ensures asked { Self.asked self.new ≡ Self.asked self.old }
-        ensures cause { HasStoreCause (Self.faults self.old) (Self.faults self.new) result };
+        ensures cause { HasCauseOf StoreRefusal.Failed (Self.faults self.old) (Self.faults self.new) result };
 
     /// Puts bytes behind those of the object being written. After a refusal none is being written.
     fn append(&mut self, piece: &[u8]) -> Result<(), StoreRefusal>
@@ -102,7 +102,7 @@ pub trait Store: Source {
         ensures refused { OnErr result (Self.draft self.new ≡ None) }
         ensures objects { Self.objects self.new ≡ Self.objects self.old }
         ensures asked { Self.asked self.new ≡ Self.asked self.old }
-        ensures cause { HasStoreCause (Self.faults self.old) (Self.faults self.new) result };
+        ensures cause { HasCauseOf StoreRefusal.Failed (Self.faults self.old) (Self.faults self.new) result };
 
     /// Overwrites bytes of the object being written, from the byte `at` on. After a refusal none
     /// is being written.
@@ -114,7 +114,7 @@ pub trait Store: Source {
         ensures refused { OnErr result (Self.draft self.new ≡ None) }
         ensures objects { Self.objects self.new ≡ Self.objects self.old }
         ensures asked { Self.asked self.new ≡ Self.asked self.old }
-        ensures cause { HasStoreCause (Self.faults self.old) (Self.faults self.new) result };
+        ensures cause { HasCauseOf StoreRefusal.Failed (Self.faults self.old) (Self.faults self.new) result };
 
     /// Puts the object being written among the objects, in place of one of its name. Afterwards
     /// none is being written.
@@ -125,7 +125,7 @@ pub trait Store: Source {
         ensures draft { Self.draft self.new ≡ None }
         ensures refused { OnErr result (Self.objects self.new ≡ Self.objects self.old) }
         ensures asked { Self.asked self.new ≡ Self.asked self.old }
-        ensures cause { HasStoreCause (Self.faults self.old) (Self.faults self.new) result };
+        ensures cause { HasCauseOf StoreRefusal.Failed (Self.faults self.old) (Self.faults self.new) result };
 
     /// A store that tells its objects tells the object being written too, and bytes that are told
     /// have the length that is told.

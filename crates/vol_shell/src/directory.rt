@@ -4,7 +4,7 @@ ghost use Rattle.std.specs.Fs.{IsFile, IsDir, file_type};
 ghost use Rattle.std.specs.IoError.{error_kind};
 ghost use Rattle.std.specs.List.{ends_with};
 ghost use Rattle.std.specs.Result.{result_ok};
-ghost use Rattle.vol_base.specs.Causes.{HasStoreCause};
+ghost use Rattle.vol_base.specs.Causes.{HasCauseOf};
 ghost use Rattle.vol_base.specs.Outside.{KeepsRest};
 ghost use Rattle.vol_base.specs.declared.outside.Got.TheVariants.{Bytes};
 ghost use Rattle.vol_shell.specs.Absences.{says_absent};
@@ -343,7 +343,7 @@ fn go_on(
 ) -> Result<(), StoreRefusal>
     ensures writing { writing.new ≡ result_ok written }
     ensures refused { IsOk result ↔ IsOk written }
-    ensures cause { HasStoreCause faults.old faults.new result }
+    ensures cause { HasCauseOf StoreRefusal.Failed faults.old faults.new result }
 {
     match written {
         Ok(unfinished) => {

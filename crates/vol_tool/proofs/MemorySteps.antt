@@ -82,14 +82,17 @@ caused before count later = record {
   feed = λ e. absurd (cc e);
   out = λ e. absurd (cc e);
   door = λ e. absurd (cc e);
+  feed_stands = λ e. absurd (cc e);
+  out_stands = λ e. absurd (cc e);
+  door_stands = λ e. absurd (cc e);
   quiet = λ e. absurd (cc e);
 }
 
 pub memory_causes : (command : Option Command) (before : Faults) (count : ℕ) → before.err ≤ count → Causes command NoMemory before (record before { err = count })
 memory_causes None before count later = (caused before count later, refl, refl, refl, refl)
-memory_causes (Some (Cutout dataset key part)) before count later = (caused before count later, refl, refl)
-memory_causes (Some (Write dataset key workers)) before count later = (caused before count later, refl)
-memory_causes (Some (Generate dataset key number writes workers)) before count later = (caused before count later, refl, refl)
-memory_causes (Some (Verify dataset key part)) before count later = (caused before count later, refl, refl)
-memory_causes (Some (Reshard dataset key to_dataset to_key workers)) before count later = (caused before count later, refl, refl)
+memory_causes (Some (Cutout dataset key part)) before count later = (caused before count later, λ e. absurd (cc e), refl, refl)
+memory_causes (Some (Write dataset key workers)) before count later = (caused before count later, λ e. absurd (cc e), refl)
+memory_causes (Some (Generate dataset key number writes workers)) before count later = (caused before count later, λ e. absurd (cc e), refl, refl)
+memory_causes (Some (Verify dataset key part)) before count later = (caused before count later, λ e. absurd (cc e), refl, refl)
+memory_causes (Some (Reshard dataset key to_dataset to_key workers)) before count later = (caused before count later, λ e. absurd (cc e), refl, refl)
 memory_causes (Some (Serve dataset port connections)) before count later = (caused before count later, refl)

@@ -123,24 +123,32 @@ Keeps (Some (Serve dataset port connections)) status before after =
     AcceptsEnds status connections before.door after.door
     × TellsFirst before.out after.out before.door after.door
 
--- no count falls, a fault comes only where its count rose, and at success nothing was told, so nothing failed to be
+-- no count falls, a fault comes only where its count rose, and at success no call of the feed, the outlets and the door failed
 pub record AreCaused (status : Status) (before after : Faults) : Type 0 where
   pub later : IsLater before after
   pub store : status ≡ StoreFault → Rose before.store after.store
   pub feed : status ≡ FeedFault → Rose before.feed after.feed
   pub out : status ≡ OutFault → Rose before.out after.out
   pub door : status ≡ DoorFault → Rose before.door after.door
+  pub feed_stands : status ≡ Ok → after.feed ≡ before.feed
+  pub out_stands : status ≡ Ok → after.out ≡ before.out
+  pub door_stands : status ≡ Ok → after.door ≡ before.door
   pub quiet : status ≡ Ok → after.err ≡ before.err
 
--- Why it failed, and what it doesn't use.
+-- at success no call of the store failed
+abbrev pub StoreStands : Status → Faults → Faults → Type 0
+StoreStands status before after = status ≡ Ok → after.store ≡ before.store
+
+-- Why it failed, and what it doesn't use. Of a server, a store that fails ends a connection and not the call.
 abbrev pub Causes : Option Command → Status → Faults → Faults → Type 0
 Causes None status before after =
     AreCaused status before after × (after.store ≡ before.store) × (after.feed ≡ before.feed) ×
     (after.out ≡ before.out)
     × (after.door ≡ before.door)
 Causes (Some (Write dataset key workers)) status before after = AreCaused status before after ×
-    (after.door ≡ before.door)
+    StoreStands status before after × (after.door ≡ before.door)
 Causes (Some (Serve dataset port connections)) status before after = AreCaused status before after ×
     (after.feed ≡ before.feed)
 Causes (Some other) status before after =
-    AreCaused status before after × (after.feed ≡ before.feed) × (after.door ≡ before.door)
+    AreCaused status before after × StoreStands status before after × (after.feed ≡ before.feed) ×
+    (after.door ≡ before.door)

@@ -1,7 +1,7 @@
 //! Writing a list of writes, and the command `write`.
 ghost use Rattle.std.specs.Prelude.{◌≡◌, ◌≤◌, ◌^◌, ℕ, List, All, Some, [], false, length, IfErr, IfSome};
 ghost use Rattle.std.specs.Option.{option_map};
-ghost use Rattle.vol_base.specs.Causes.{Rose};
+ghost use Rattle.vol_base.specs.Causes.{HasCauseOf, Rose};
 ghost use Rattle.vol_base.specs.Outside.{any_under, Objects, OnlyReads};
 ghost use Rattle.vol_spec.specs.CellNames.{folder_of};
 ghost use Rattle.vol_spec.specs.Writable.{IsWritable};
@@ -60,8 +60,7 @@ where
     ensures draft { Drops (S.draft store.old) (S.draft store.new) }
     ensures kept { IfErr result (λ refusal. KeepsPlan refusal (S.objects store.old) (S.objects store.new)
         (S.draft store.old) (S.draft store.new)) }
-    ensures later { S.faults store.old ≤ S.faults store.new }
-    ensures fault { result ≡ Err WriteRefusal.StoreFault → Rose (S.faults store.old) (S.faults store.new) }
+    ensures cause { HasCauseOf WriteRefusal.StoreFault (S.faults store.old) (S.faults store.new) result }
 {
     match write_scale(rt, alloc, store, dataset, scale, plan, workers, gate) {
         Ok(written) => Ok(written),
@@ -92,8 +91,7 @@ where
     ensures draft { Drops (S.draft store.old) (S.draft store.new) }
     ensures kept { IfErr result (λ refusal. KeepsPlan refusal (S.objects store.old) (S.objects store.new)
         (S.draft store.old) (S.draft store.new)) }
-    ensures later { S.faults store.old ≤ S.faults store.new }
-    ensures fault { result ≡ Err WriteRefusal.StoreFault → Rose (S.faults store.old) (S.faults store.new) }
+    ensures cause { HasCauseOf WriteRefusal.StoreFault (S.faults store.old) (S.faults store.new) result }
 {
     let mut plan = Plan::of(alloc, scale, writes)?;
     put_plan(rt, alloc, store, dataset, scale, &mut plan, workers, gate)
@@ -124,11 +122,8 @@ where
     ensures draft { Drops (S.draft store.old) (S.draft store.new) }
     ensures kept { IfErr result (λ refusal. KeepsStore refusal (S.objects store.old) (S.objects store.new)
         (S.draft store.old) (S.draft store.new)) }
-    ensures later { S.faults store.old ≤ S.faults store.new }
-    ensures feed_later { F.faults feed.old ≤ F.faults feed.new }
-    ensures store_fault { result ≡ Err WriteRefusal.StoreFault →
-        Rose (S.faults store.old) (S.faults store.new) }
-    ensures feed_fault { result ≡ Err WriteRefusal.FeedFault → Rose (F.faults feed.old) (F.faults feed.new) }
+    ensures cause { HasCauseOf WriteRefusal.StoreFault (S.faults store.old) (S.faults store.new) result }
+    ensures feed_cause { HasCauseOf WriteRefusal.FeedFault (F.faults feed.old) (F.faults feed.new) result }
 {
     let writes = read_writes(alloc, feed, scale)?;
     tell_chunks(dataset, scale);
@@ -158,11 +153,8 @@ where
     ensures draft { Drops (S.draft store.old) (S.draft store.new) }
     ensures kept { IfErr result (λ refusal. KeepsStore refusal (S.objects store.old) (S.objects store.new)
         (S.draft store.old) (S.draft store.new)) }
-    ensures later { S.faults store.old ≤ S.faults store.new }
-    ensures feed_later { F.faults feed.old ≤ F.faults feed.new }
-    ensures store_fault { result ≡ Err WriteRefusal.StoreFault →
-        Rose (S.faults store.old) (S.faults store.new) }
-    ensures feed_fault { result ≡ Err WriteRefusal.FeedFault → Rose (F.faults feed.old) (F.faults feed.new) }
+    ensures cause { HasCauseOf WriteRefusal.StoreFault (S.faults store.old) (S.faults store.new) result }
+    ensures feed_cause { HasCauseOf WriteRefusal.FeedFault (F.faults feed.old) (F.faults feed.new) result }
 {
     match store.any_under(&find_folder(dataset, scale)) {
         Ok(false) => {}
@@ -196,11 +188,8 @@ where
     ensures draft { Drops (S.draft store.old) (S.draft store.new) }
     ensures kept { IfErr result (λ refusal. KeepsStore refusal (S.objects store.old) (S.objects store.new)
         (S.draft store.old) (S.draft store.new)) }
-    ensures later { S.faults store.old ≤ S.faults store.new }
-    ensures feed_later { F.faults feed.old ≤ F.faults feed.new }
-    ensures store_fault { result ≡ Err WriteRefusal.StoreFault →
-        Rose (S.faults store.old) (S.faults store.new) }
-    ensures feed_fault { result ≡ Err WriteRefusal.FeedFault → Rose (F.faults feed.old) (F.faults feed.new) }
+    ensures cause { HasCauseOf WriteRefusal.StoreFault (S.faults store.old) (S.faults store.new) result }
+    ensures feed_cause { HasCauseOf WriteRefusal.FeedFault (F.faults feed.old) (F.faults feed.new) result }
 {
     let scale = read_scale(alloc, store, dataset, key)?;
     judge_limit(&scale)?;
@@ -245,6 +234,7 @@ where
         (O.faults out.new) (E.faults err.old) (E.faults err.new) }
     ensures feed_later { F.faults feed.old ≤ F.faults feed.new }
     ensures feed_fault { result ≡ Status.FeedFault → Rose (F.faults feed.old) (F.faults feed.new) }
+    ensures feed_stands { result ≡ Status.Ok → F.faults feed.new ≡ F.faults feed.old }
 {
     let written = match write_objects(rt, alloc, store, feed, dataset, key, workers, gate) {
         Ok(written) => written,

@@ -1,8 +1,7 @@
 -- The jobs of a writer, and what preparing them answers (this project's).
-use Rattle.std.specs.Prelude.{◌≡◌, ◌≢◌, ℕ, ◌/◌, ◌^◌, ◌≤◌, ◌<◌, min, max, List, [], length, map, slice_index_or, Option, Some, None, Result, Ok, Err, ⊤, IsErrOf}
+use Rattle.std.specs.Prelude.{◌≡◌, ◌≢◌, ℕ, ◌/◌, ◌^◌, ◌≤◌, ◌<◌, min, max, List, [], length, map, slice_index_or, Option, Some, None, Result, Ok, Err, ⊤}
 use Rattle.std.specs.FinMap as fin
 use Rattle.std.specs.List.{range_with_len}
-use Rattle.vol_base.specs.Causes.{Rose}
 use Rattle.vol_base.specs.Outside.{Objects}
 use Rattle.vol_base.specs.declared.faults.Fault.{Fault}
 use Rattle.vol_spec.specs.BoxValues.{first_some}
@@ -102,8 +101,3 @@ abbrev pub Prepares : Result ⊤ PrepareFault → Option (List ℕ × Fault) →
 Prepares (Ok done) first = first ≡ None
 Prepares (Err StoreFault) first = Unit {0}
 Prepares (Err (Damaged cell fault)) first = first ≡ Some (cell, fault)
-
--- the store's count of faults doesn't fall, and a fault of the store comes only where it rose
-pub record HasPrepareCause {A : Type 0} (before now : ℕ) (result : Result A PrepareFault) : Type 0 where
-  pub later : before ≤ now
-  pub failed : IsErrOf result StoreFault → Rose before now

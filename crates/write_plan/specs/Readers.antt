@@ -1,8 +1,7 @@
 -- What readers of a feed do (this project's). What is left before and after a call is an option: it is there
 -- where the feed tells it.
-use Rattle.std.specs.Prelude.{◌≡◌, ℕ, ◌+◌, ◌^◌, ◌≤◌, IsTrue, Bool, true, false, List, length, take, drop, Option, IfSome, Result, Ok, Err, IsErrOf}
+use Rattle.std.specs.Prelude.{◌≡◌, ℕ, ◌+◌, ◌^◌, ◌≤◌, IsTrue, Bool, true, false, List, length, take, drop, Option, IfSome, Result, Ok, Err}
 use Rattle.std.specs.Option.{option_map}
-use Rattle.vol_base.specs.Causes.{Rose}
 use Rattle.vol_base.specs.declared.boxes.Box3.{Box3}
 use Rattle.vol_spec.specs.Grid.{Inside}
 use Rattle.vol_spec.specs.Raw.{raw_len}
@@ -53,11 +52,6 @@ Refused read before fault = IsTrue (of_stream fault) → IfSome before (λ bytes
 abbrev pub Answers : {A : Type 0} → Result A PlanFault → Result A PlanFault → Type 0
 Answers (Ok value) read = read ≡ Ok value
 Answers (Err fault) read = IsTrue (of_stream fault) → read ≡ Err fault
-
--- the feed's count of faults doesn't fall, and a fault of the feed comes only where it rose
-pub record HasFeedCause {A : Type 0} (before now : ℕ) (result : Result A PlanFault) : Type 0 where
-  pub later : before ≤ now
-  pub failed : IsErrOf result FeedFault → Rose before now
 
 -- the box lies inside the scale, its values have so many bytes, and those before leave room for them
 pub record IsSized (s : Scale) (before : ℕ) (b : Box3) (len : ℕ) : Type 0 where

@@ -1,10 +1,10 @@
 //! Bytes of a feed, into buffers.
 ghost use Rattle.std.specs.Prelude.{◌≡◌, ◌<◌, ◌≤◌, IsTrue, length, drop, IfOk, IfErr, IfSome, OnOk, OnErr};
 ghost use Rattle.std.specs.Option.{option_map};
-ghost use Rattle.vol_base.specs.Causes.{HasCause};
+ghost use Rattle.vol_base.specs.Causes.{HasCause, HasCauseOf};
 ghost use Rattle.vol_base.specs.Bytes.{AreBytes};
 ghost use Rattle.write_plan.specs.Reading.{front};
-ghost use Rattle.write_plan.specs.Readers.{Came, Took, Gave, Refused, HasFeedCause, of_stream};
+ghost use Rattle.write_plan.specs.Readers.{Came, Took, Gave, Refused, of_stream};
 
 use crate::fault::PlanFault;
 use std::alloc::Global;
@@ -43,7 +43,7 @@ pub(crate) fn read_front<F: Feed>(
     ensures bytes { AreBytes buffer.new }
     ensures refused { IfErr result (Refused (front (length buffer.old) fault) (F.left feed.old)) }
     ensures took { Took (length buffer.old) (F.left feed.old) (F.left feed.new) }
-    ensures cause { HasFeedCause (F.faults feed.old) (F.faults feed.new) result }
+    ensures cause { HasCauseOf PlanFault.FeedFault (F.faults feed.old) (F.faults feed.new) result }
 {
     if fill(feed, buffer)? < buffer.len() {
         return Err(fault);
@@ -65,7 +65,7 @@ pub(crate) fn read_values<F: Feed>(
     ensures bytes { IfOk result (λ bytes. AreBytes bytes.items) }
     ensures refused { IfErr result (Refused (front len fault) (F.left feed.old)) }
     ensures took { Took len (F.left feed.old) (F.left feed.new) }
-    ensures cause { HasFeedCause (F.faults feed.old) (F.faults feed.new) result }
+    ensures cause { HasCauseOf PlanFault.FeedFault (F.faults feed.old) (F.faults feed.new) result }
 {
     let mut bytes = vec![in alloc; 0; len]?;
     read_front(feed, &mut bytes, fault)?;

@@ -1,9 +1,10 @@
 //! Where a writer gets the bytes of its chunks.
 ghost use Rattle.std.specs.Prelude.{◌≡◌, ◌-◌, ◌<◌, ◌≤◌, List, ℕ, Option, length, IfSome, IsOk, IsSome, IsSomeAnd, OnOk, Some};
+ghost use Rattle.vol_base.specs.Causes.{HasCauseOf};
 ghost use Rattle.vol_base.specs.Outside.{Objects};
 ghost use Rattle.vol_spec.specs.StoredLists.{AreJobs};
 ghost use Rattle.vol_spec.specs.declared.scale.Scale.{Scale};
-ghost use Rattle.write_plan.specs.Jobs.{AreReady, FitsJob, HasPrepareCause, KeepsOthers, Prepares, Work, jobs_fault, jobs_of, window_of};
+ghost use Rattle.write_plan.specs.Jobs.{AreReady, FitsJob, KeepsOthers, Prepares, Work, jobs_fault, jobs_of, window_of};
 
 use crate::jobs::JobList;
 use vol_base::{Fault, Store};
@@ -54,7 +55,7 @@ pub trait Chunks {
         ensures apart { (dataset : List ℕ) (s : Scale) → apart self.old dataset s → apart self.new dataset s }
         ensures objects { S.objects store.new ≡ S.objects store.old }
         ensures draft { S.draft store.new ≡ S.draft store.old }
-        ensures cause { HasPrepareCause (S.faults store.old) (S.faults store.new) result };
+        ensures cause { HasCauseOf PrepareFault.StoreFault (S.faults store.old) (S.faults store.new) result };
 
     /// Puts the raw bytes of a job that is prepared.
     fn fill(&self, job: u64, raw: &mut [u8])

@@ -1,5 +1,6 @@
 //! Plans of overlapping writes.
 ghost use Rattle.std.specs.Prelude.{◌≡◌, ◌<◌, ◌^◌, ◌↔◌, ℕ, Err, All, IfOk, length};
+ghost use Rattle.vol_base.specs.Causes.{HasCauseOf};
 ghost use Rattle.vol_spec.specs.Encodings.{raw_size};
 ghost use Rattle.vol_spec.specs.Grid.{IsCell, cell_box};
 ghost use Rattle.vol_spec.specs.Raw.{raw_at};
@@ -126,7 +127,7 @@ impl From<OutOfMemory> for PlanRefusal {
 
 impl Chunks for Plan {
     ghost use Rattle.std.specs.Prelude.{◌≡◌, ◌-◌, ◌≤◌, ℕ, IsOk, IsSome, OnOk, IfSome, length};
-    ghost use Rattle.write_plan.specs.Jobs.{AreReady, HasPrepareCause, Prepares, jobs_fault};
+    ghost use Rattle.write_plan.specs.Jobs.{AreReady, Prepares, jobs_fault};
     ghost use Rattle.write_plan.specs.Plans.{planned_cells, ready_of, work_of};
     ghost use Rattle.write_plan.specs.PlanLaws.{met_jobs, plan_fits, plan_keeps, ready_fits};
 
@@ -168,7 +169,7 @@ impl Chunks for Plan {
         ensures work { work_of self.new ≡ work_of self.old }
         ensures objects { S.objects _store.new ≡ S.objects _store.old }
         ensures draft { S.draft _store.new ≡ S.draft _store.old }
-        ensures cause { HasPrepareCause (S.faults _store.old) (S.faults _store.new) result }
+        ensures cause { HasCauseOf PrepareFault.StoreFault (S.faults _store.old) (S.faults _store.new) result }
     {
         Ok(())
     }

@@ -1,5 +1,6 @@
-//! The stream of box writes, this project's own format (docs/stream.md).
+//! The stream of box writes, this project's own format (docs/statuses.md).
 ghost use Rattle.std.specs.Prelude.{◌≡◌, ◌+◌, ◌-◌, ◌*◌, ◌<◌, ◌≤◌, ◌^◌, ℕ, [], false, IsTrue, Ok, Err, Some, length, IfOk, IfErr, IfSome, OnOk, OnErr};
+ghost use Rattle.vol_base.specs.Causes.{HasCauseOf};
 ghost use Rattle.std.specs.Int.{w64, from_le_bytes};
 ghost use Rattle.std.specs.List.{All};
 ghost use Rattle.std.specs.Option.{option_map};
@@ -10,7 +11,7 @@ ghost use Rattle.vol_spec.specs.Grid.{Inside};
 ghost use Rattle.vol_spec.specs.Raw.{raw_len};
 ghost use Rattle.write_plan.specs.Stream.{is_empty, is_within, magic, head_number, box_of, writes_of};
 ghost use Rattle.write_plan.specs.Reading.{judged, box_at, write_at, writes_at, marked, count_at};
-ghost use Rattle.write_plan.specs.Readers.{Took, Gave, Refused, Answers, HasFeedCause, IsJudged, IsSized, of_stream};
+ghost use Rattle.write_plan.specs.Readers.{Took, Gave, Refused, Answers, IsJudged, IsSized, of_stream};
 ghost use Rattle.write_plan.specs.WriteLists.{IsWriteOf, write_in, writes_in, total};
 ghost use Rattle.write_plan.specs.declared.fault.PlanFault.TheVariants.{TrailingBytes};
 
@@ -101,7 +102,7 @@ fn read_part<F: Feed>(
     ensures refused { IfErr result (Refused (box_at scale.now number before) (F.left feed.old)) }
     ensures fits { IfOk result (λ r. IsSized scale.now before r.0 r.1) }
     ensures took { Took 48 (F.left feed.old) (F.left feed.new) }
-    ensures cause { HasFeedCause (F.faults feed.old) (F.faults feed.new) result }
+    ensures cause { HasCauseOf PlanFault.FeedFault (F.faults feed.old) (F.faults feed.new) result }
 {
     let mut head = [0; 48];
     read_front(feed, &mut head, PlanFault::Truncated { write: number })?;
@@ -128,7 +129,7 @@ fn read_write<F: Feed>(
     ensures took { IfOk result (λ write. Took (48 + length write.bytes.items) (F.left feed.old)
         (F.left feed.new)) }
     ensures took_err { OnErr result (Took (48 + (2 ^ 30 - before)) (F.left feed.old) (F.left feed.new)) }
-    ensures cause { HasFeedCause (F.faults feed.old) (F.faults feed.new) result }
+    ensures cause { HasCauseOf PlanFault.FeedFault (F.faults feed.old) (F.faults feed.new) result }
 {
     let (part, len) = read_part(feed, scale, number, before)?;
     let bytes = read_values(alloc, feed, len, PlanFault::Truncated { write: number })?;
@@ -151,7 +152,7 @@ fn read_list<F: Feed>(
     ensures small { IfOk result (λ writes. total (writes_in writes.items) ≤ 2 ^ 30) }
     ensures count { IfOk result (λ writes. length writes.items ≡ count) }
     ensures took { Took (48 * 65536 + 2 ^ 30) (F.left feed.old) (F.left feed.new) }
-    ensures cause { HasFeedCause (F.faults feed.old) (F.faults feed.new) result }
+    ensures cause { HasCauseOf PlanFault.FeedFault (F.faults feed.old) (F.faults feed.new) result }
 {
     let mut writes = Vec::new(alloc);
     let mut before = 0;
@@ -174,7 +175,7 @@ fn read_mark<F: Feed>(feed: &mut F) -> Result<(), PlanFault>
     ensures gave { OnOk result (option_map marked (F.left feed.old) ≡ option_map Ok (F.left feed.new)) }
     ensures refused { IfErr result (Refused marked (F.left feed.old)) }
     ensures took { Took 4 (F.left feed.old) (F.left feed.new) }
-    ensures cause { HasFeedCause (F.faults feed.old) (F.faults feed.new) result }
+    ensures cause { HasCauseOf PlanFault.FeedFault (F.faults feed.old) (F.faults feed.new) result }
 {
     let mut head = [0; 4];
     read_front(feed, &mut head, PlanFault::BadMagic)?;
@@ -190,7 +191,7 @@ fn read_count<F: Feed>(feed: &mut F) -> Result<u32, PlanFault>
     ensures refused { IfErr result (Refused count_at (F.left feed.old)) }
     ensures small { IfOk result (λ count. count ≤ 65536) }
     ensures took { Took 8 (F.left feed.old) (F.left feed.new) }
-    ensures cause { HasFeedCause (F.faults feed.old) (F.faults feed.new) result }
+    ensures cause { HasCauseOf PlanFault.FeedFault (F.faults feed.old) (F.faults feed.new) result }
 {
     read_mark(feed)?;
     let mut bytes = [0; 4];
@@ -209,7 +210,7 @@ fn read_end<F: Feed>(feed: &mut F) -> Result<(), PlanFault>
     ensures refused { IfErr result (λ e. IsTrue (of_stream e) → (e ≡ TrailingBytes) ×
         IfSome (F.left feed.old) (λ bytes. 0 < length bytes)) }
     ensures took { Took 1 (F.left feed.old) (F.left feed.new) }
-    ensures cause { HasFeedCause (F.faults feed.old) (F.faults feed.new) result }
+    ensures cause { HasCauseOf PlanFault.FeedFault (F.faults feed.old) (F.faults feed.new) result }
 {
     let mut byte = [0];
     match feed.read(&mut byte)? {
@@ -229,7 +230,7 @@ pub fn read_writes<F: Feed>(alloc: Global, feed: &mut F, scale: &Scale) -> Resul
     ensures fits { IfOk result (All (IsWriteOf scale.now)) }
     ensures bytes { IfOk result (All (λ w. AreBytes w.1)) }
     ensures took { Took (2 ^ 30 + 48 * 65536 + 9) (F.left feed.old) (F.left feed.new) }
-    ensures cause { HasFeedCause (F.faults feed.old) (F.faults feed.new) result }
+    ensures cause { HasCauseOf PlanFault.FeedFault (F.faults feed.old) (F.faults feed.new) result }
 {
     let count = read_count(feed)?;
     let items = read_list(alloc, feed, scale, count)?;

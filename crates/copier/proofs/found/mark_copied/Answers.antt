@@ -45,7 +45,7 @@ loop-cell-preserved g c = record {
     same_objects = c.mark_source.ensures.kept.same_objects ∙ c.loop-cell.invariant.kept.same_objects;
     same_draft = c.mark_source.ensures.kept.same_draft ∙ c.loop-cell.invariant.kept.same_draft;
   };
-  later = omega (arith, c.mark_source.ensures.cause.later, c.loop-cell.invariant.later);
+  later = omega (arith, c.in-Ok.ensures.cause.stands, c.loop-cell.invariant.later);
 }
 
 pub returns-clause-marks : goal.returns-clause-marks

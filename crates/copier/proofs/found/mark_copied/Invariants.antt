@@ -1,4 +1,4 @@
-use Rattle.std.proofs.Common.{◌≡◌, ◌≤◌, ◌++◌, Some}
+use Rattle.std.proofs.Common.{◌≡◌, ◌++◌, Some}
 use Rattle.std.specs.Prelude.{filter}
 use Rattle.std.specs.List.{list_any}
 use Rattle.vol_base.specs.Outside.{Objects, OnlyReads}
@@ -15,5 +15,5 @@ invariant-loop-cell g l = record {
       → AddsMarks l.to (λ c. list_any (λ source. meets l.to (cell_box l.from source) c) (filter (λ source. is_there (chunk_in m l.fn.reader.dataset l.from source)) l.yielded)) l.fn.marks l.marks;
   same : l.reader ≡ l.fn.reader;
   kept : OnlyReads (g.S.Source.objects l.fn.store) (g.S.Source.objects l.store) (g.S.Source.draft l.fn.store) (g.S.Source.draft l.store);
-  later : g.S.Source.faults l.fn.store ≤ g.S.Source.faults l.store;
+  later : g.S.Source.faults l.store ≡ g.S.Source.faults l.fn.store;
 }

@@ -42,7 +42,7 @@ loop-k-preserved g c =
         same_objects = c.read_frame.ensures.kept.same_objects ∙ c.loop-k.invariant.kept.same_objects;
         same_draft = c.read_frame.ensures.kept.same_draft ∙ c.loop-k.invariant.kept.same_draft;
       };
-      later = omega (arith, c.read_frame.ensures.cause.later, c.loop-k.invariant.later);
+      later = omega (arith, c.in-Ok.ensures.cause.stands, c.loop-k.invariant.later);
     }
 
 pub loop-k-init : goal.loop-k-init

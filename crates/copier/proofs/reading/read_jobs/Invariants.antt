@@ -1,4 +1,4 @@
-use Rattle.std.proofs.Common.{◌≡◌, ◌≤◌, length, map, Some}
+use Rattle.std.proofs.Common.{◌≡◌, length, map, Some}
 use Rattle.std.specs.Prelude.{All}
 use Rattle.vol_base.specs.Outside.{Objects, OnlyReads}
 use Rattle.write_plan.specs.Jobs.{cells_in}
@@ -13,5 +13,5 @@ invariant-loop-k g l = record {
   read : (m : Objects) → g.S.Source.objects l.fn.store ≡ Some m → AreRead m l.fn.reader.dataset l.fn.reader.scale l.to (cells_in l.jobs) l.first l.k (map (λ f. f.items) l.frames);
   same : l.reader ≡ l.fn.reader;
   kept : OnlyReads (g.S.Source.objects l.fn.store) (g.S.Source.objects l.store) (g.S.Source.draft l.fn.store) (g.S.Source.draft l.store);
-  later : g.S.Source.faults l.fn.store ≤ g.S.Source.faults l.store;
+  later : g.S.Source.faults l.store ≡ g.S.Source.faults l.fn.store;
 }

@@ -44,7 +44,7 @@ loop-cell-preserved g c =
         same_objects = c.read_one.ensures.kept.same_objects ∙ c.loop-cell.invariant.kept.same_objects;
         same_draft = c.read_one.ensures.kept.same_draft ∙ c.loop-cell.invariant.kept.same_draft;
       };
-      later = omega (arith, c.read_one.ensures.later, c.loop-cell.invariant.later);
+      later = omega (arith, c.in-Ok.ensures.cause.stands, c.loop-cell.invariant.later);
     }
 
 pub read_one-requires-clause-cell : goal.read_one-requires-clause-cell

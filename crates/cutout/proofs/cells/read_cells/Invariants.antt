@@ -13,5 +13,5 @@ invariant-loop-cell g l = record {
   keeps : KeepsShards (g.S.Source.objects l.fn.store) l.dataset l.scale l.shards;
   asked : IfSome (g.S.Source.objects l.fn.store) (λ m. g.S.Source.asked l.store ≤ g.S.Source.asked l.fn.store + costs m l.dataset l.scale l.yielded);
   kept : OnlyReads (g.S.Source.objects l.fn.store) (g.S.Source.objects l.store) (g.S.Source.draft l.fn.store) (g.S.Source.draft l.store);
-  later : g.S.Source.faults l.fn.store ≤ g.S.Source.faults l.store;
+  later : g.S.Source.faults l.store ≡ g.S.Source.faults l.fn.store;
 }

@@ -60,8 +60,8 @@ loop-number-preserved g c =
         same_objects = c.stream_piece.ensures.kept.same_objects ∙ inv.kept.same_objects;
         same_draft = c.stream_piece.ensures.kept.same_draft ∙ inv.kept.same_draft;
       };
-      later = omega (arith, inv.later, c.stream_piece.ensures.later);
-      out_later = omega (arith, inv.out_later, c.stream_piece.ensures.out_later);
+      later = omega (arith, inv.later, c.in-Ok.ensures.cause.stands);
+      out_later = omega (arith, inv.out_later, c.in-Ok.ensures.out_cause.stands);
     }
 
 pub returns-in-Err-clause-streams : goal.returns-in-Err-clause-streams

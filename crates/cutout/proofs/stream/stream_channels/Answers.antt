@@ -34,8 +34,8 @@ loop-channel-preserved g c =
         same_objects = c.stream_channel.ensures.kept.same_objects ∙ inv.kept.same_objects;
         same_draft = c.stream_channel.ensures.kept.same_draft ∙ inv.kept.same_draft;
       };
-      later = omega (arith, inv.later, c.stream_channel.ensures.later);
-      out_later = omega (arith, inv.out_later, c.stream_channel.ensures.out_later);
+      later = omega (arith, inv.later, c.in-Ok.ensures.cause.stands);
+      out_later = omega (arith, inv.out_later, c.in-Ok.ensures.out_cause.stands);
     }
 
 pub returns-in-Err-clause-streams : goal.returns-in-Err-clause-streams

@@ -14,6 +14,6 @@ invariant-loop-channel g l = record {
   asked : IfSome (g.S.Source.objects l.fn.store) (λ m. g.S.Source.asked l.store ≤ g.S.Source.asked l.fn.store + l.channel * cost m l.dataset l.scale l.part);
   keeps : KeepsShards (g.S.Source.objects l.fn.store) l.dataset l.scale l.shards;
   kept : OnlyReads (g.S.Source.objects l.fn.store) (g.S.Source.objects l.store) (g.S.Source.draft l.fn.store) (g.S.Source.draft l.store);
-  later : g.S.Source.faults l.fn.store ≤ g.S.Source.faults l.store;
-  out_later : g.O.Outlet.faults l.fn.out ≤ g.O.Outlet.faults l.out;
+  later : g.S.Source.faults l.store ≡ g.S.Source.faults l.fn.store;
+  out_later : g.O.Outlet.faults l.out ≡ g.O.Outlet.faults l.fn.out;
 }

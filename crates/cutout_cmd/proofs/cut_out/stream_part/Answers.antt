@@ -27,15 +27,23 @@ returns-in-Err-clause-cuts g c =
 pub returns-in-Err-clause-broken : goal.returns-in-Err-clause-broken
 returns-in-Err-clause-broken g c = subst IsBroken (sym c.as_refusal.ensures) (broken_comes c.in-Err.fault (λ e. c.stream.ensures.outside.0 (c.in-Err.is ∙ ap Err e) c.requires.part.0))
 
-pub returns-in-Err-clause-store_fault : goal.returns-in-Err-clause-store_fault
-returns-in-Err-clause-store_fault g c = λ is.
-    let told : c.as_refusal.result ≡ StoreFault = cc is in
-    c.stream.ensures.fault (c.in-Err.is ∙ ap Err (broken_store c.in-Err.fault (λ e. c.stream.ensures.outside.0 (c.in-Err.is ∙ ap Err e) c.requires.part.0) (sym c.as_refusal.ensures ∙ told)))
+pub returns-in-Err-clause-cause : goal.returns-in-Err-clause-cause
+returns-in-Err-clause-cause g c = record {
+  later = c.stream.ensures.cause.later;
+  failed = λ is.
+      let told : c.as_refusal.result ≡ StoreFault = cc is in
+      c.stream.ensures.cause.failed (c.in-Err.is ∙ ap Err (broken_store c.in-Err.fault (λ e. c.stream.ensures.outside.0 (c.in-Err.is ∙ ap Err e) c.requires.part.0) (sym c.as_refusal.ensures ∙ told)));
+  stands = tt;
+}
 
-pub returns-in-Err-clause-out_fault : goal.returns-in-Err-clause-out_fault
-returns-in-Err-clause-out_fault g c = λ is.
-    let told : c.as_refusal.result ≡ OutFault = cc is in
-    c.stream.ensures.out_fault (c.in-Err.is ∙ ap Err (broken_out c.in-Err.fault (λ e. c.stream.ensures.outside.0 (c.in-Err.is ∙ ap Err e) c.requires.part.0) (sym c.as_refusal.ensures ∙ told)))
+pub returns-in-Err-clause-out_cause : goal.returns-in-Err-clause-out_cause
+returns-in-Err-clause-out_cause g c = record {
+  later = c.stream.ensures.out_cause.later;
+  failed = λ is.
+      let told : c.as_refusal.result ≡ OutFault = cc is in
+      c.stream.ensures.out_cause.failed (c.in-Err.is ∙ ap Err (broken_out c.in-Err.fault (λ e. c.stream.ensures.outside.0 (c.in-Err.is ∙ ap Err e) c.requires.part.0) (sym c.as_refusal.ensures ∙ told)));
+  stands = tt;
+}
 
 pub returns-in-Err-clause-unwritten : goal.returns-in-Err-clause-unwritten
 returns-in-Err-clause-unwritten g c =

@@ -13,4 +13,4 @@ returns-in-Err-clause-sums g c =
     broken_told c.in-Err.refusal (g.S.Source.objects c.args.store.now) c.args.reader.now.dataset c.args.scale.now c.args.reader.now.scale c.whole.result _ _ c.requires.scale c.whole.ensures c.in-Err.ensures.cuts
 
 pub returns-in-Err-clause-refused : goal.returns-in-Err-clause-refused
-returns-in-Err-clause-refused g c = broken_unsummed c.in-Err.refusal c.in-Err.ensures.broken (λ e. never_rose (c.stream_part.ensures.out_fault (c.in-Err.is ∙ ap Err e)))
+returns-in-Err-clause-refused g c = broken_unsummed c.in-Err.refusal c.in-Err.ensures.broken (λ e. never_rose (c.stream_part.ensures.out_cause.failed (c.in-Err.is ∙ ap Err e)))

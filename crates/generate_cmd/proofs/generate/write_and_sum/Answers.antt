@@ -8,7 +8,7 @@ use Rattle.generate_cmd.proofs.generate.write_and_sum.Goals as goal
 pub returns-in-Err-clause-generates : goal.returns-in-Err-clause-generates
 returns-in-Err-clause-generates g c key =
     unwritten_told c.in-Err.refusal (g.S.Source.objects c.args.store.now) (g.S.Source.objects c.write_list.new.store) (writes_of c.new-list.result c.args.scale.now) (drawn c.args.number c.args.count) c.args.dataset.now key c.args.scale.now
-    c.requires.small.1 (λ fed. never_rose (c.write_list.ensures.feed_fault (c.in-Err.is ∙ ap Err fed))) c.new-list.ensures.read c.in-Err.ensures.judges
+    c.requires.small.1 (λ fed. never_rose (c.write_list.ensures.feed_cause.failed (c.in-Err.is ∙ ap Err fed))) c.new-list.ensures.read c.in-Err.ensures.judges
     (subst (λ r. IfSome (g.S.Source.objects c.args.store.now) (λ m. WritesScale r m (g.S.Source.objects c.write_list.new.store) (writes_of c.new-list.result c.args.scale.now) c.args.dataset.now key c.args.scale.now)) c.in-Err.is (c.write_list.ensures.writes key))
 
 pub returns-in-Ok-sum_scale-clause-generates : goal.returns-in-Ok-sum_scale-clause-generates

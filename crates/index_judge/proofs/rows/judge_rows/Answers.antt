@@ -41,7 +41,7 @@ loop-walk-preserved g c = record {
     same_objects = c.in-Ok.ensures.kept.same_objects ∙ c.loop-walk.invariant.kept.same_objects;
     same_draft = c.in-Ok.ensures.kept.same_draft ∙ c.loop-walk.invariant.kept.same_draft;
   };
-  later = omega (arith, c.in-Ok.ensures.later, c.loop-walk.invariant.later);
+  later = omega (arith, c.in-Ok.ensures.cause.stands, c.loop-walk.invariant.later);
 }
 
 pub returns-clause-judged : goal.returns-clause-judged

@@ -19,7 +19,7 @@ loop-number-preserved g c =
       reached = λ m told. reached_next m c.args.dataset.now c.args.stream.now c.loop-number.number c.loop-number.at c.in-Ok-Some.len rest c.loop-number.out.items c.answer_next.new.out.items (tail_is c.loop-number.at c.args.stream.now)
           (c.loop-number.invariant.reached m told) (on m (c.loop-number.invariant.kept.same_objects ∙ told));
       kept = record { same_objects = c.answer_next.ensures.kept.same_objects ∙ c.loop-number.invariant.kept.same_objects; same_draft = c.answer_next.ensures.kept.same_draft ∙ c.loop-number.invariant.kept.same_draft };
-      later = omega (arith, c.loop-number.invariant.later, c.answer_next.ensures.cause.later);
+      later = omega (arith, c.loop-number.invariant.later, c.in-Ok-Some.ensures.cause.stands);
     }
   where
     below : {n : ℕ} → n < 65536 → (n + 1 ≡ 65536 → ⊥) → n + 1 < 65536

@@ -11,5 +11,5 @@ invariant-loop-number g l = record {
   alive : l.number < 65536;
   reached : WhereTold (g.S.Source.objects l.fn.store) (λ m. HasReached m l.dataset l.number l.stream (Some (drop l.at l.stream)) (Some []) (Some l.out.items));
   kept : OnlyReads (g.S.Source.objects l.fn.store) (g.S.Source.objects l.store) (g.S.Source.draft l.fn.store) (g.S.Source.draft l.store);
-  later : g.S.Source.faults l.fn.store ≤ g.S.Source.faults l.store;
+  later : g.S.Source.faults l.store ≡ g.S.Source.faults l.fn.store;
 }

@@ -26,7 +26,7 @@ loop-preserved g c = record {
   bound = c.serve_end.ensures.bound ∙ c.loop.invariant.bound;
   kept = record { same_objects = c.serve_end.ensures.kept.same_objects ∙ c.loop.invariant.kept.same_objects; same_draft = c.serve_end.ensures.kept.same_draft ∙ c.loop.invariant.kept.same_draft };
   store_later = omega (arith, c.loop.invariant.store_later, c.serve_end.ensures.store_later);
-  later = omega (arith, c.loop.invariant.later, c.serve_end.ensures.later);
+  later = omega (arith, c.loop.invariant.later, c.in-Ok.ensures.cause.stands);
 }
 
 pub returns-in-Err-clause-cut : goal.returns-in-Err-clause-cut

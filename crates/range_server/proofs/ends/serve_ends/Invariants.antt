@@ -13,5 +13,5 @@ invariant-loop g l = record {
   bound : g.D.Door.bound l.door ≡ g.D.Door.bound l.fn.door;
   kept : OnlyReads (g.S.Source.objects l.fn.store) (g.S.Source.objects l.store) (g.S.Source.draft l.fn.store) (g.S.Source.draft l.store);
   store_later : g.S.Source.faults l.fn.store ≤ g.S.Source.faults l.store;
-  later : g.D.Door.faults l.fn.door ≤ g.D.Door.faults l.door;
+  later : g.D.Door.faults l.door ≡ g.D.Door.faults l.fn.door;
 }

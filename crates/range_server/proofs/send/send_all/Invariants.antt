@@ -8,7 +8,7 @@ invariant-loop-done g l = record {
   gained : Gains (g.L.Link.sent l.fn.link) (g.L.Link.sent l.link) (take l.done l.bytes);
   left : g.L.Link.left l.link ≡ g.L.Link.left l.fn.link;
   stream : g.L.Link.stream l.link ≡ g.L.Link.stream l.fn.link;
-  later : g.L.Link.faults l.fn.link ≤ g.L.Link.faults l.link;
+  later : g.L.Link.faults l.link ≡ g.L.Link.faults l.fn.link;
 }
 
 abbrev pub decreases-loop-done : goal.decreases-loop-done

@@ -8,7 +8,7 @@ invariant-loop-parts g l = record {
   pending : pending l.buffer l.there (g.L.Link.left l.link) ≡ pending l.fn.buffer l.fn.len (g.L.Link.left l.fn.link);
   sent : g.L.Link.sent l.link ≡ g.L.Link.sent l.fn.link;
   stream : g.L.Link.stream l.link ≡ g.L.Link.stream l.fn.link;
-  later : g.L.Link.faults l.fn.link ≤ g.L.Link.faults l.link;
+  later : g.L.Link.faults l.link ≡ g.L.Link.faults l.fn.link;
 }
 
 abbrev pub decreases-loop-parts : goal.decreases-loop-parts

@@ -22,3 +22,6 @@ pub returns-in-Err-Damaged-clause-copies : goal.returns-in-Err-Damaged-clause-co
 returns-in-Err-Damaged-clause-copies g c =
     copied_damaged (g.S.Source.objects c.args.store.now) (g.S.Source.objects c.write_scale.new.store) c.args.copier.now c.args.dataset.now c.args.scale.now c.in-Err-Damaged.cell c.in-Err-Damaged.field-0 c.in-Err-Damaged.fault c.requires.scale c.requires.copied
     c.in-Err-Damaged.ensures.front c.in-Err-Damaged.ensures.spares c.in-Err-Damaged.field-0-is c.in-Err-Damaged.ensures.answer
+
+pub returns-in-Ok-clause-cause : goal.returns-in-Ok-clause-cause
+returns-in-Ok-clause-cause g c = record { later = c.write_scale.ensures.cause.later; failed = λ told. absurd (cc told); stands = c.in-Ok.ensures.cause.stands }

@@ -1,4 +1,4 @@
-use Rattle.std.proofs.Common.{◌≡◌, arith, false, subst, sym}
+use Rattle.std.proofs.Common.{◌≡◌, OnOk, arith, false, subst, sym}
 use Rattle.vol_base.specs.Outside.{HaveBytes, any_under}
 use Rattle.vol_spec.specs.CellNames.{folder_of}
 use Rattle.vol_spec.specs.Copies.{AreOfOneVolume}
@@ -38,5 +38,9 @@ pub returns-in-Ok-clause-unsharded : goal.returns-in-Ok-clause-unsharded
 returns-in-Ok-clause-unsharded g c = λ unsharded.
     subst (λ draft. Drops draft (g.S.Source.draft c.put_copy.new.store)) c.of.ensures.kept.same_draft (c.put_copy.ensures.unsharded unsharded)
 
-pub returns-in-Ok-clause-fault : goal.returns-in-Ok-clause-fault
-returns-in-Ok-clause-fault g c = λ failed. omega (arith, c.put_copy.ensures.fault failed, c.of.ensures.cause.later)
+pub returns-in-Ok-clause-cause : goal.returns-in-Ok-clause-cause
+returns-in-Ok-clause-cause g c = record {
+  later = omega (arith, c.put_copy.ensures.cause.later, c.of.ensures.cause.later);
+  failed = λ failed. omega (arith, c.put_copy.ensures.cause.failed failed, c.of.ensures.cause.later);
+  stands = subst (λ n. OnOk c.put_copy.result (g.S.Source.faults c.put_copy.new.store ≡ n)) c.in-Ok.ensures.cause.stands c.put_copy.ensures.cause.stands;
+}

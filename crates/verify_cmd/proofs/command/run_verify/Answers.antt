@@ -12,4 +12,4 @@ pub returns-in-Err-clause-complete : goal.returns-in-Err-clause-complete
 returns-in-Err-clause-complete g c = λ m told can kept written.
     verify_complete c.in-Err.refusal c.report.result m c.args.dataset.now c.args.key.now c.args.part.now
     (outlets_of g.O.Outlet.written g.O.Outlet.faults g.E.Outlet.written g.E.Outlet.faults c.args.out.now c.args.out.now c.args.err.now c.report.new.err)
-    (from_told _ _ m told c.in-Err.ensures.judges) can (λ is. kept (c.judge_stored.ensures.fault (c.in-Err.is ∙ ap Err is))) c.report.ensures.told
+    (from_told _ _ m told c.in-Err.ensures.judges) can (λ is. kept (c.judge_stored.ensures.cause.failed (c.in-Err.is ∙ ap Err is))) c.report.ensures.told

@@ -43,7 +43,7 @@ loop-cell-preserved g c =
         same_objects = c.judge.ensures.kept.same_objects ∙ c.loop-cell.invariant.kept.same_objects;
         same_draft = c.judge.ensures.kept.same_draft ∙ c.loop-cell.invariant.kept.same_draft;
       };
-      later = omega (arith, c.judge.ensures.later, c.loop-cell.invariant.later);
+      later = omega (arith, c.in-Ok.ensures.cause.stands, c.loop-cell.invariant.later);
     }
 
 pub returns-in-Err-clause-verified : goal.returns-in-Err-clause-verified

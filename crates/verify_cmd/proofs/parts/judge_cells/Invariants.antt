@@ -1,4 +1,4 @@
-use Rattle.std.proofs.Common.{◌≡◌, ◌≤◌, ◌+◌, ◌++◌, length, Some}
+use Rattle.std.proofs.Common.{◌≡◌, ◌+◌, ◌++◌, length, Some}
 use Rattle.vol_base.specs.Outside.{Objects, OnlyReads}
 use Rattle.vol_spec.specs.Grid.{cells_in}
 use Rattle.verify_cmd.specs.Judges.{Serves}
@@ -13,5 +13,5 @@ invariant-loop-cell g l = record {
   sound : (m : Objects) → g.S.Source.objects l.fn.store ≡ Some m → SoundSoFar m l.dataset l.scale l.yielded l.report;
   serves : Serves (g.S.Source.objects l.fn.store) l.dataset l.scale l.judge;
   kept : OnlyReads (g.S.Source.objects l.fn.store) (g.S.Source.objects l.store) (g.S.Source.draft l.fn.store) (g.S.Source.draft l.store);
-  later : g.S.Source.faults l.fn.store ≤ g.S.Source.faults l.store;
+  later : g.S.Source.faults l.store ≡ g.S.Source.faults l.fn.store;
 }

@@ -6,5 +6,5 @@ pub loop-done-preserved : goal.loop-done-preserved
 loop-done-preserved g c = record {
   within = omega (arith, c.in-Ok.ensures.some);
   gained = gained-next _ _ _ c.args.bytes.now c.loop-done.done c.in-Ok.count (length c.args.bytes.now - c.loop-done.done) c.loop-done.invariant.gained (omega (arith, c.in-Ok.ensures.some)) (omega (arith, c.in-Ok.ensures.some)) c.in-Ok.ensures.written;
-  later = omega (arith, c.loop-done.invariant.later, c.write.ensures.cause.later);
+  later = omega (arith, c.loop-done.invariant.later, c.in-Ok.ensures.cause.stands);
 }

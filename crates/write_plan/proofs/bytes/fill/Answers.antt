@@ -18,5 +18,5 @@ loop-done-preserved g c = record {
   came = came_more (g.F.Feed.left c.args.feed.now) (g.F.Feed.left c.loop-done.feed) c.loop-done.done c.in-Ok.n (length c.loop-done.buffer - c.loop-done.done) c.loop-done.buffer c.read.new.out c.loop-done.invariant.left
       (grind (arith, common_steps, c.in-Ok.ensures.within)) (grind (arith, common_steps, c.in-Ok.ensures.within)) (grind (arith, common_steps, c.in-Ok.ensures.within, c.read.auto.out)) c.loop-done.invariant.came c.in-Ok.ensures.read;
   left = c.in-Ok.ensures.left ∙ ap (option_map (drop c.in-Ok.n)) c.loop-done.invariant.left ∙ drop_twice (g.F.Feed.left c.args.feed.now) c.loop-done.done c.in-Ok.n;
-  later = omega (arith, c.loop-done.invariant.later, c.read.ensures.cause.later);
+  later = omega (arith, c.loop-done.invariant.later, c.in-Ok.ensures.cause.stands);
 }

@@ -8,7 +8,7 @@ invariant-loop-done g l = record {
   within : l.done ≤ length l.buffer;
   came : Came l.done (g.F.Feed.left l.fn.feed) l.buffer;
   left : g.F.Feed.left l.feed ≡ option_map (drop l.done) (g.F.Feed.left l.fn.feed);
-  later : g.F.Feed.faults l.fn.feed ≤ g.F.Feed.faults l.feed;
+  later : g.F.Feed.faults l.feed ≡ g.F.Feed.faults l.fn.feed;
 }
 
 abbrev pub decreases-loop-done : goal.decreases-loop-done

@@ -28,7 +28,7 @@ loop-number-preserved g c =
       fits = subst (All (IsWriteOf s)) (sym e) (All-push (IsWriteOf s) (writes_in c.loop-number.writes.items) (write_in c.in_ok-write.write) inv.fits c.in_ok-write.ensures.fits);
       bytes = subst (All (λ (w : BoxWrite). AreBytes w.1)) (sym e) (All-push (λ (w : BoxWrite). AreBytes w.1) (writes_in c.loop-number.writes.items) (write_in c.in_ok-write.write) inv.bytes c.in_ok-write.ensures.bytes);
       took = took_more (48 * c.loop-number.number + c.loop-number.before) (48 + length c.in_ok-write.write.bytes.items) _ _ _ _ inv.took c.in_ok-write.ensures.took (omega (arith, c.len.ensures));
-      later = omega (arith, inv.later, c.read_write.ensures.cause.later);
+      later = omega (arith, inv.later, c.in_ok-write.ensures.cause.stands);
     }
 
 pub returns-in_err-write-clause-refused : goal.returns-in_err-write-clause-refused

@@ -16,5 +16,5 @@ invariant-loop-number g l = record {
   fits : All (IsWriteOf l.scale) (writes_in l.writes.items);
   bytes : All (λ w. AreBytes w.1) (writes_in l.writes.items);
   took : Took (48 * l.number + l.before) (g.F.Feed.left l.fn.feed) (g.F.Feed.left l.feed);
-  later : g.F.Feed.faults l.fn.feed ≤ g.F.Feed.faults l.feed;
+  later : g.F.Feed.faults l.feed ≡ g.F.Feed.faults l.fn.feed;
 }

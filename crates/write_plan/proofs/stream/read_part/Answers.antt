@@ -25,6 +25,7 @@ returns-in_err-len-clause-cause g c =
     record {
       later = c.read_front.ensures.cause.later;
       failed = λ h. absurd (not_feed c.from_residual-in_err-len.result c.in_err-len.field-0.0 c.in_err-len.ensures.0 (p.1 ∙ ap Err p.2) h);
+      stands = rw p.1 tt;
     }
 
 pub returns-clause-gave : goal.returns-clause-gave

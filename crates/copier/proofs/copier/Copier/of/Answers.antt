@@ -43,4 +43,4 @@ returns-clause-jobs g c =
     (subst (λ name. IfSome (g.S.Source.objects c.args.store.now) (λ m. c.in-Ok-find_copied.cells.items ≡ copied_cells m name c.args.from.now c.args.to.now)) c.in-Ok.ensures.dataset c.in-Ok-find_copied.ensures.copied))
 
 pub returns-clause-cause : goal.returns-clause-cause
-returns-clause-cause g c = record { later = c.find_copied.ensures.cause.later; failed = λ told. absurd (cc told) }
+returns-clause-cause g c = record { later = c.find_copied.ensures.cause.later; failed = λ told. absurd (cc told); stands = c.in-Ok-find_copied.ensures.cause.stands }

@@ -73,7 +73,7 @@ loop-walk-preserved g c =
         same_draft = c.in-Ok.ensures.kept.same_draft ∙ c.loop-walk.invariant.kept.same_draft;
       };
       asked = omega (arith, c.in-Ok.ensures.asked, c.loop-walk.invariant.asked, on);
-      later = omega (arith, c.in-Ok.ensures.later, c.loop-walk.invariant.later);
+      later = omega (arith, c.in-Ok.ensures.cause.stands, c.loop-walk.invariant.later);
     }
 
 pub returns-clause-found : goal.returns-clause-found
