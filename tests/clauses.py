@@ -1,14 +1,16 @@
 #!/usr/bin/env python3
-"""Checks that every clause, law and definition that a page names stands in the code.
+"""Checks that every clause, law, edit and name that a page has stands in the code, and that every link leads somewhere.
 
     tests/clauses.py
 
-It reads README.md, docs/ and crates/, and runs nothing. Checked are
+It reads README.md, docs/, tests/ and crates/, and runs nothing. Checked are
 
-- in docs/layers.md and in each table whose head names its call: what stands as `name`: in the row of a call is a clause of the call;
+- in docs/layers.md: it has each crate once, and the clauses and the edits that it names are those of the crate;
+- in each table whose head names its call: what stands as `name`: in the row of a call is a clause of the call;
 - on each page: what stands as a clause or a law, alone or `of` a call, and each column of clauses;
-- in docs/theorem.md: each part is a clause of `run`, and each clause has a part;
-- in docs/definitions.md: what is defined stands in the module that is said to have it.
+- in docs/theorem.md: each part is a clause of `run`, and each clause has a part; what is said to stand in a module is defined there;
+- on the pages about the code: each name between backquotes is a word of the crates, a crate or a script;
+- on each page: a link to a file, or to a part of a page, leads to one that is there.
 
 The last line is 'N passed, N failed', and the status is 1 where a name failed.
 """
@@ -99,18 +101,31 @@ def wrong_in_row(code, crates, calls, text):
 
 
 def judge_layers(code):
-    """The table of crates: a row of a crate, in bold, and the rows of its calls."""
-    crate = None
-    for line in (ROOT / "docs/layers.md").read_text().splitlines():
-        if bold := re.match(r"\| \*\*(\w+)\*\*", line):
-            crate = bold[1]
-            yield f"the crate {crate}", [] if (CRATES / crate).is_dir() else [f"there is no crate {crate}"]
-        elif not line.startswith("|"):
-            crate = None
-        elif crate:
-            first, says = cells_of(line)[:2]
-            calls = names_in(first.split(" of ")[-1].split(" as ")[0])
-            yield f"{crate}: {first}", list(wrong_in_row(code, [crate], calls, says))
+    """The list of crates: behind their names, in bold, what they promise, the clauses of their calls, and edits."""
+    text = (ROOT / "docs/layers.md").read_text()
+    listed = []
+    for part in re.findall(r"^- (.*?)(?=^- |^$|\Z)", text, re.M | re.S):
+        part = " ".join(part.split())
+        crates = re.findall(r"\*\*(\w+)\*\*", part)
+        listed += crates
+        wrong = [f"there is no crate {crate}" for crate in crates if not (CRATES / crate).is_dir()]
+        for clauses in re.findall(r"Clauses: (.*?)\.(?: |$)", part):
+            for call in clauses.split("; "):
+                owner, *names = names_in(call)
+                known = code.of(crates, owner)
+                if known is None:
+                    wrong.append(f"there is no {owner} in {', '.join(crates)}")
+                else:
+                    wrong += [f"{owner} has no clause {name}" for name in names if name not in known]
+        for edits in re.findall(r"Edits: (.*?)\.(?: |$)", part):
+            wrong += [
+                f"there is no edit {edit}"
+                for edit in names_in(edits)
+                if not any((CRATES / crate / "must-fail" / f"{edit}.edit").exists() for crate in crates)
+            ]
+        yield f"docs/layers.md: {', '.join(crates)}", wrong
+    for crate in sorted({path.name for path in CRATES.iterdir() if path.is_dir()} | set(listed)):
+        yield f"docs/layers.md: {crate}", [] if listed.count(crate) == 1 else [f"it is listed {listed.count(crate)} times"]
 
 
 def judge_tables(code, page, lines):
@@ -162,9 +177,10 @@ def judge_theorem(code):
     clauses = code.of(["vol_tool"], "run")
     for name in sorted({*parts, *clauses}):
         yield f"docs/theorem.md: {name}", [] if name in parts and name in clauses else [f"{name} is a clause, or a part, alone"]
-    for name, module in re.findall(r"`(\w+)` in\s+`specs/(\w+)\.antt`", text):
-        known = is_defined(name, defined_in("vol_tool", module) or "")
-        yield f"docs/theorem.md: {name}", [] if known else [f"{name} isn't defined in {module}"]
+    for names, crate, module in re.findall(rf"({NAMES}) in\s+(\w+)'s\s+`specs/(\w+)\.antt`", text):
+        for name in names_in(names):
+            known = is_defined(name, defined_in(crate, module) or "")
+            yield f"docs/theorem.md: {name}", [] if known else [f"{name} isn't defined in {module}"]
 
 
 def judge_words(code, page, text):
@@ -185,28 +201,51 @@ def is_defined(name, text):
     return re.search(rf"^\s*(?:\w+ )*{re.escape(name)}(?: |$)", text, re.M)
 
 
-def judge_definitions():
-    """The tables of definitions: their modules stand in the heading, or in a column."""
-    crates, modules = [], []
-    in_column = False
-    for line in (ROOT / "docs/definitions.md").read_text().splitlines():
-        if line.startswith("## "):
-            words = re.findall(r"\w+", line)
-            crates = [word for word in words if (CRATES / word).is_dir()]
-            modules = [word for word in words if any(defined_in(crate, word) for crate in crates)]
-        elif line.startswith("| Name"):
-            in_column = "Module" in line
-        elif line.startswith("| `"):
-            cells = cells_of(line)
-            here, there = modules, crates
-            if in_column:
-                words = re.findall(r"\w+", cells[1])
-                there = [word for word in words if (CRATES / word).is_dir()] or crates
-                here = [word for word in words if not (CRATES / word).is_dir()]
-            texts = [text for crate in there for module in here if (text := defined_in(crate, module))]
-            for name in re.findall(r"`(\w+)[^`]*`", cells[0]):
-                wrong = [] if any(is_defined(name, text) for text in texts) else [f"{name} isn't defined in {', '.join(here)}"]
-                yield f"docs/definitions.md: {name}", wrong
+def words_of_code():
+    """The words of the crates and of the scripts, and what crates, edits and scripts are called."""
+    found = {path.name for path in CRATES.iterdir()}
+    for path in [*CRATES.glob("*/src/**/*.rt"), *CRATES.glob("*/specs/*.antt"), *CRATES.glob("*/proofs/*.antt")]:
+        found |= {path.stem, *re.findall(r"\w+", path.read_text())}
+    found |= {path.stem for path in CRATES.glob("*/must-fail/*.edit")}
+    for folder in ("tests", "bin", "examples"):
+        for path in (ROOT / folder).iterdir():
+            if path.is_file() and path.suffix != ".md":
+                found |= {path.name, path.stem, *re.findall(r"\w+", path.read_text())}
+    return found
+
+
+def judge_names():
+    """The names between backquotes on the pages about the code."""
+    known = words_of_code() | NOT_OURS
+    for name in ("theorem", "trusted", "layers", "map", "round", "DECISIONS", "serving"):
+        text = (ROOT / f"docs/{name}.md").read_text()
+        wrong = sorted({word for names in re.findall(r"`([A-Za-z_][\w:]*)`", text) for word in names.split("::") if word not in known})
+        yield f"docs/{name}.md: names", [f"there is no {word} in the code" for word in wrong]
+
+
+# members of requests, and tools
+NOT_OURS = {"rayon", "fsync"}
+
+
+def slug(heading):
+    """What a heading is called in a link."""
+    return re.sub(r"[^\w\- ]", "", heading.lower()).replace(" ", "-")
+
+
+def judge_links(page, path, text):
+    """The links of a page that lead to a file, or to a part of a page."""
+    text = re.sub(r"^```.*?^```$", "", text, flags=re.M | re.S)
+    for link in re.findall(r"\]\(([^)\s]+)\)", text):
+        if re.match(r"\w+:", link):
+            continue
+        name, _, part = link.partition("#")
+        target = path.parent / name if name else path
+        wrong = []
+        if not target.exists():
+            wrong.append(f"there is no {name}")
+        elif part and part not in map(slug, re.findall(r"^#+ (.*)$", target.read_text(), re.M)):
+            wrong.append(f"{target.name} has no part {part}")
+        yield f"{page}: {link}", wrong
 
 
 def judge_all():
@@ -217,8 +256,9 @@ def judge_all():
         yield from judge_tables(code, page, text.splitlines())
         yield from judge_lists(code, page, text.splitlines())
         yield from judge_words(code, page, " ".join(text.split()))
+        yield from judge_links(page, path, text)
     yield from judge_theorem(code)
-    yield from judge_definitions()
+    yield from judge_names()
 
 
 def main():

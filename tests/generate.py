@@ -1,6 +1,6 @@
 #!/usr/bin/env python3
 """Runs the built vol_tool's command generate, and compares what it prints and stores with a list of writes that is made here
-from the rules of docs/generator.md, and with what write stores of that list.
+from the rules of docs/statuses.md, and with what write stores of that list.
 
     tests/generate.py [PROGRAM]
 

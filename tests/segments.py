@@ -1,4 +1,4 @@
-"""A plain model of segmentation chunks, after docs/segmentation.md: voxel by voxel, and word by word."""
+"""A plain model of segmentation chunks, after docs/format.md: voxel by voxel, and word by word."""
 import dataclasses
 import itertools
 

@@ -1,6 +1,6 @@
 #!/usr/bin/env python3
 """Checks that docs/trusted.md lists exactly the modules of definitions, and the types of the code, that the contract of `run`
-reaches, and that each word that it names for a module is defined there.
+reaches, and that each word that it names for some modules is defined in one of them.
 
     tests/trusted.py
 
@@ -37,21 +37,20 @@ def find_reached():
 
 
 def read_page():
-    """The rows of the page's tables: whether it is of types, the crate, the name and the sentence."""
+    """The rows of the page's tables: whether it is of types, the crate, the names and, of modules, the sentence."""
     is_type = False
     for line in (ROOT / "docs/trusted.md").read_text().splitlines():
         if line.startswith("| Crate"):
             is_type = "| File |" in line
-        elif line.startswith("| ") and line.count(" | ") == 2:
-            crate, names, says = (cell.strip() for cell in line.strip().strip("|").split(" | "))
-            for name in names.split(", "):
-                yield is_type, crate, name, says
+        elif line.startswith("| ") and line.count(" | ") == (1 if is_type else 2):
+            crate, names, *says = (cell.strip() for cell in line.strip().strip("|").split(" | "))
+            yield is_type, crate, names.split(", "), " ".join(says)
 
 
-def undefined(crate, name, says):
-    """The words of a sentence that the module doesn't define. What is cited of the code or of a port is no word of its."""
-    path = path_of(crate, name)
-    text = path.read_text() if path.exists() else ""
+def undefined(crate, names, says):
+    """The words of a sentence that the modules don't define. What is cited of the code or of a port is no word of theirs."""
+    paths = [path_of(crate, name) for name in names]
+    text = "\n".join(path.read_text() for path in paths if path.exists())
     for word in re.findall(r"`(\w+)`", says):
         if not re.search(rf"^\s*(?:\w+ )*{word}(?: |$)", text, re.M) and word not in NOT_DEFINED:
             yield word
@@ -64,16 +63,17 @@ NOT_DEFINED = {"cutout", "write", "generate", "serve", "verify", "run", "serde_j
 def judge_all():
     modules, files = find_reached()
     listed = {False: set(), True: set()}
-    for is_type, crate, name, says in read_page():
-        wrong = []
-        if (crate, name) not in (files if is_type else modules):
-            wrong.append("it isn't reached")
-        if (crate, name) in listed[is_type]:
-            wrong.append("it is listed twice")
+    for is_type, crate, names, says in read_page():
+        for name in names:
+            wrong = []
+            if (crate, name) not in (files if is_type else modules):
+                wrong.append("it isn't reached")
+            if (crate, name) in listed[is_type]:
+                wrong.append("it is listed twice")
+            listed[is_type].add((crate, name))
+            yield f"{crate} {name}", wrong
         if not is_type:
-            wrong += [f"{word} isn't defined there" for word in undefined(crate, name, says)]
-        listed[is_type].add((crate, name))
-        yield f"{crate} {name}", wrong
+            yield f"{crate} {', '.join(names)}: words", [f"{word} isn't defined there" for word in undefined(crate, names, says)]
     for crate, name in sorted(modules - listed[False]) + sorted(files - listed[True]):
         yield f"{crate} {name}", ["it isn't listed"]
 
