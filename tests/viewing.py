@@ -243,7 +243,8 @@ def differences(width, found, wanted):
 
 
 def environment(program):
-    return {**os.environ, "VOL_TOOL": str(program), "PYTHONPATH": str(EXAMPLES), "PYTHONDONTWRITEBYTECODE": "1"}
+    path = os.pathsep.join(filter(None, [str(EXAMPLES), os.environ.get("PYTHONPATH")]))
+    return {**os.environ, "VOL_TOOL": str(program), "PYTHONPATH": path, "PYTHONDONTWRITEBYTECODE": "1"}
 
 
 @contextlib.contextmanager
