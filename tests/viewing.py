@@ -8,6 +8,7 @@ refuses, here), and each picture of the page is compared, pixel by pixel, with o
 browser's screenshots are left. Where no Chromium is installed the page isn't tried, and without numpy no arrays of numpy; a line says so.
 The last line is 'N passed, N failed', and the status is 1 where a case failed.
 """
+import collections
 import contextlib
 import dataclasses
 import http.client
@@ -542,6 +543,22 @@ def shows(program, browser, title, scale, view, folder):
 
 
 @case
+def shows_far_cells(program, browser, folder):
+    """Chunk ids of more than 32 bits, of a grid with one layer: a corner is stored of a scale that is otherwise absent."""
+    length = 1 << 20
+    part = [(length - 24, length - 2), (length - 20, length), (0, 3)]
+    empty = Scale("uint16", (length, length, 3), (4, 4, 4), collections.defaultdict(int), sharding=Sharding(1, True, 2, 3))
+    for number, voxel in enumerate(itertools.product(*(range(*ends) for ends in part))):
+        empty.values[empty.place(voxel, 0)] = number * 40 + 1
+    store(program, folder, empty, part)
+    view = View((length - 12, length - 10, 1), 6, 0, (0, 60000))
+    with viewing(program, folder, "d") as (link, _):
+        open_view(browser, link, view.query(empty))
+        want_pictures(browser, empty, view)
+        want_calm(browser)
+
+
+@case
 def shows_shardings(program, browser, folder):
     view = View((4, 5, 6), 5, 0, (0, 300))
     for number, sharding in enumerate(SHARDINGS):
@@ -930,6 +947,7 @@ def shows_served(program, browser, folder):
 
 PAGE_CASES = [
     ("shardings of every kind", shows_shardings),
+    ("chunk ids of more than 32 bits", shows_far_cells),
     ("values under the pointer", tells_values),
     ("wheel, keys, click and drag", moves),
     ("fingers", moves_by_fingers),
