@@ -1,5 +1,5 @@
 #!/usr/bin/env python3
-"""Stores arrays as scales of volumes with vol_tool, and reads boxes of them back as arrays.
+"""Stores arrays as scales of volumes with vol_tool, reads boxes of them back as arrays, and shows them.
 
     volume.py put ARRAY.npy DATASET KEY [--axes AXES] [--offset X,Y,Z] [--resolution X,Y,Z] [--chunk X,Y,Z]
               [--encoding raw|compressed_segmentation] [--block X,Y,Z] [--sharding PRESHIFT,HASH,MINISHARD_BITS,SHARD_BITS]
@@ -7,39 +7,62 @@
     volume.py get DATASET KEY BOX OUT.npy [--axes AXES]
     volume.py add DATASET KEY KEY2 [--chunk X,Y,Z] [--encoding raw|compressed_segmentation] [--block X,Y,Z]
               [--sharding PRESHIFT,HASH,MINISHARD_BITS,SHARD_BITS]
+    volume.py view DATASET [KEY] [--port P]
 
 `put` writes a whole array into the scale KEY, whose folder has to be empty. It makes DATASET/info where there is none, and
 adds the scale to one that has no such scale, for which it wants --resolution; the layout of a scale that is there stays, whatever the
 options say. `get` reads a
 box, as [x0:x1,y0:y1,z0:z1] or `all`. `add` adds to DATASET/info a scale KEY2 of the same voxels as KEY in another layout, and stores
-nothing: `vol_tool reshard DATASET KEY DATASET KEY2` fills it.
+nothing: `vol_tool reshard DATASET KEY DATASET KEY2` fills it. `view` shows slices through the scales on a page of this machine alone,
+whose address it prints, until it is ended by Ctrl-C.
+
+As a module (its folder is named in PYTHONPATH) it has `read` and `write`, for arrays of numpy, where that is installed, or for files as
+numpy.save writes them:
+
+    import volume
+    volume.write("cells", "8_8_40", labels, resolution=(8, 8, 40), encoding="compressed_segmentation")
+    box = volume.read("cells", "8_8_40", "[40:70,50:80,18:22]")
 
 Arrays are of uint8, uint16, uint32 or uint64 and have the axes z, y, x, or channel, z, y, x (AXES is czyx); with `--axes xyzc`
 they have x, y, z, or x, y, z, channel, as CloudVolume's, and with `--axes zyxc` z, y, x, channel. `put` refuses an array that looks so
 where no axes are named. HASH is identity or murmur. Numbers that begin with `-` want a `=`:
---offset=-3,0,0. The program is the one beside this script, or the one that the variable VOL_TOOL names. Nothing but Python's
-standard library is wanted, and an array is never whole in memory. The status is vol_tool's; it is 1 where this script refuses, and 2
+--offset=-3,0,0. The program is the one beside this script, or the one that the variable VOL_TOOL names. The commands want nothing but
+Python's standard library, and have no array whole in memory. The status is vol_tool's; it is 1 where this script refuses, and 2
 where it can't read its words.
 """
 import argparse
 import array
 import ast
 import contextlib
+import http.client
+import http.server
 import json
 import math
 import mmap
+import operator
 import os
 import pathlib
 import re
+import signal
+import socketserver
 import struct
 import subprocess
 import sys
 import tempfile
+import threading
+import urllib.parse
 
-PROGRAM = os.environ.get("VOL_TOOL") or pathlib.Path(__file__).resolve().parent.parent / "bin" / "vol_tool"
+HERE = pathlib.Path(__file__).resolve().parent
+PROGRAM = os.environ.get("VOL_TOOL") or HERE.parent / "bin" / "vol_tool"
+PAGE = HERE / "slices.html"
 MAGIC = b"\x93NUMPY"
 WIDTHS = {"u1": 1, "u2": 2, "u4": 4, "u8": 8}
 CODES = {1: "B", 2: "H", 4: "I", 8: "Q"}
+
+# The orders of axes that have a name, each without the channels too.
+AXES = {"czyx": "czyx", "zyx": "czyx", "xyzc": "xyzc", "xyz": "xyzc", "zyxc": "zyxc"}
+ENCODINGS = ("raw", "compressed_segmentation")
+HASHES = {"identity": "identity", "murmur": "murmurhash3_x86_128"}
 
 # How many bytes are handed on at once.
 PIECE = 1 << 20
@@ -60,30 +83,40 @@ MOST_BYTES = 1 << 30
 MOST_CHANNELS = 1024
 MOST_CHUNK_BYTES = 1 << 27
 MOST_PADDED = 1 << 22
+MOST_CHUNK = 1 << 40
+MOST_BLOCK = 1 << 24
+MOST_OFFSET = 1 << 40
+MOST_WORKERS = 16
+MOST_CONNECTIONS = 1 << 16
+
+# How many peers `view` has at once, and how long a silent one is waited for, in seconds.
+MOST_PEERS = 16
+PATIENCE = 10
 
 
 class Refused(Exception):
     """Why the script refuses, in a line."""
 
 
-class Array:
-    """An array in a file, as numpy.save writes it; `strides` has how many values lie between neighbours on x, y, z and
-    between channels."""
+class Ended(Refused):
+    """What vol_tool said where it ended with another status than 0, which is `status`."""
 
-    def __init__(self, path, axes):
-        with open(path, "rb") as file:
-            header, begin = read_header(file, path)
-            descr, shape = header["descr"], header["shape"]
-            if not isinstance(descr, str) or descr[1:] not in WIDTHS or descr[0] not in "<>|":
-                raise Refused(f"{path} has values of the type {descr}, and only uint8, uint16, uint32 and uint64 are stored")
-            if len(shape) not in (3, 4) or 0 in shape:
-                raise Refused(f"{path} has the shape {shape}, and 3 or 4 axes are wanted, none of them empty")
-            self.values = mmap.mmap(file.fileno(), 0, access=mmap.ACCESS_READ)
-        self.begin = begin
+    def __init__(self, status, line):
+        super().__init__(line)
+        self.status = status
+
+
+class Array:
+    """An array of which the header, as numpy.save writes one, and the bytes of the values are given; `strides` has how many
+    values lie between neighbours on x, y, z and between channels. `name` is what a refusal calls it."""
+
+    def __init__(self, name, header, values, axes):
+        descr, shape = header["descr"], header["shape"]
+        self.values = values
         self.width = WIDTHS[descr[1:]]
         self.is_swapped = self.width > 1 and descr[0] == (">" if sys.byteorder == "little" else "<")
         if axes is None and len(shape) == 4 and shape[3] <= FEW_CHANNELS < shape[0]:
-            raise Refused(f"{path} has the shape {shape}: is the last axis the channels (--axes zyxc), or x (--axes czyx)?")
+            raise Refused(f"{name} has the shape {shape}: is the last axis the channels (--axes zyxc), or x (--axes czyx)?")
         axes = axes or "czyx"
         names = axes if len(shape) == 4 else axes.replace("c", "")
         lengths = dict(zip(names, shape))
@@ -95,8 +128,8 @@ class Array:
             strides[axis] = stride
             stride *= length
         self.strides = [strides[axis] for axis in "xyzc"]
-        if len(self.values) - begin < stride * self.width:
-            raise Refused(f"{path} is shorter than its header says")
+        if len(values) < stride * self.width:
+            raise Refused(f"{name} is shorter than its header says")
 
     def bytes(self):
         return math.prod(self.size) * self.channels * self.width
@@ -106,12 +139,11 @@ class Array:
         x, y, z = self.size
         in_order = self.strides[:3] == [1, x, x * y] and self.strides[3] in (0, x * y * z)
         if in_order and not self.is_swapped:
-            end = self.begin + self.bytes()
-            for at in range(self.begin, end, PIECE):
-                yield self.values[at : min(at + PIECE, end)]
+            for at in range(0, self.bytes(), PIECE):
+                yield self.values[at : min(at + PIECE, self.bytes())]
             return
         code = CODES[self.width]
-        values = memoryview(self.values)[self.begin : self.begin + self.bytes()].cast("B").cast(code)
+        values = self.values[: self.bytes()].cast(code)
         step, *others = self.strides
         for channel in range(self.channels):
             for k in range(z):
@@ -121,6 +153,43 @@ class Array:
                     if self.is_swapped:
                         row.byteswap()
                     yield row.tobytes()
+
+
+def check_header(name, header):
+    """Refuses an array of another type or shape than is stored."""
+    descr, shape = header["descr"], header["shape"]
+    if not isinstance(descr, str) or descr[1:] not in WIDTHS or descr[0] not in "<>|":
+        raise Refused(f"{name} has values of the type {descr}, and only uint8, uint16, uint32 and uint64 are stored")
+    if len(shape) not in (3, 4) or 0 in shape:
+        raise Refused(f"{name} has the shape {shape}, and 3 or 4 axes are wanted, none of them empty")
+
+
+def open_array(path, axes):
+    """An array in a file, as numpy.save writes it."""
+    with open(path, "rb") as file:
+        header, begin = read_header(file, path)
+        check_header(path, header)
+        values = memoryview(mmap.mmap(file.fileno(), 0, access=mmap.ACCESS_READ))
+    return Array(path, header, values[begin:], axes)
+
+
+def import_numpy():
+    try:
+        import numpy  # pylint: disable=import-outside-toplevel
+    except ImportError:
+        raise Refused("numpy isn't installed: name a file instead, as numpy.save writes it") from None
+    return numpy
+
+
+def array_of(values, axes):
+    """An array of numpy's, or what numpy makes one of."""
+    numpy = import_numpy()
+    values = numpy.asarray(values)
+    by_columns = values.flags.f_contiguous and not values.flags.c_contiguous
+    header = {"descr": values.dtype.str, "fortran_order": by_columns, "shape": values.shape}
+    check_header("the array", header)
+    in_rows = numpy.ascontiguousarray(values.T if by_columns else values)
+    return Array("the array", header, memoryview(in_rows.reshape(-1).view(numpy.uint8)), axes)
 
 
 def read_header(file, path):
@@ -152,34 +221,45 @@ def run_tool(words, **streams):
     return subprocess.Popen([PROGRAM, *words], **streams)
 
 
-def numbers(count, least, most):
-    """Reads so many numbers between commas."""
+def check_numbers(found, least, most):
+    """Three numbers that are given, each from a least to a most."""
+    if len(found) != 3 or not all(least <= number <= most for number in found):
+        raise ValueError(f"three numbers from {least} to {most} are wanted, and not {found}")
+    return found
 
-    def read(text):
-        found = [int(word) for word in text.split(",")]
-        if len(found) != count or not all(least <= number <= most for number in found):
-            raise ValueError
-        return found
 
-    read.__name__ = f"{count} numbers from {least} to {most}"
-    return read
+def numbers(least, most):
+    """Reads three numbers between commas."""
+
+    def read_numbers(text):
+        return check_numbers([int(word) for word in text.split(",")], least, most)
+
+    read_numbers.__name__ = f"3 numbers from {least} to {most}"
+    return read_numbers
+
+
+def lengths_of(found):
+    """Three lengths that are given, whole ones or with a point."""
+    found = [float(length) for length in found]
+    if len(found) != 3 or not all(0 < length < math.inf for length in found):
+        raise ValueError(f"three lengths over 0 are wanted, and not {found}")
+    return [int(length) if length.is_integer() else length for length in found]
 
 
 def lengths(text):
-    """Reads three lengths between commas, whole ones or with a point."""
-    found = [float(word) for word in text.split(",")]
-    if len(found) != 3 or not all(0 < length < math.inf for length in found):
-        raise ValueError
-    return [int(length) if length.is_integer() else length for length in found]
+    """Reads three lengths between commas."""
+    return lengths_of(text.split(","))
 
 
 def sharding_of(text):
     """The scale's member `sharding`."""
     preshift, name, minishard_bits, shard_bits = text.split(",")
+    if name not in HASHES:
+        raise ValueError(f"the hash is identity or murmur, and not {name}")
     return {
         "@type": "neuroglancer_uint64_sharded_v1",
         "preshift_bits": int(preshift),
-        "hash": {"identity": "identity", "murmur": "murmurhash3_x86_128"}[name],
+        "hash": HASHES[name],
         "minishard_bits": int(minishard_bits),
         "shard_bits": int(shard_bits),
         "minishard_index_encoding": "raw",
@@ -190,7 +270,7 @@ def sharding_of(text):
 def sharding_words(text):
     try:
         return sharding_of(text)
-    except (KeyError, ValueError):
+    except ValueError:
         raise argparse.ArgumentTypeError("PRESHIFT,identity|murmur,MINISHARD_BITS,SHARD_BITS are wanted") from None
 
 
@@ -301,10 +381,8 @@ def put_back(path, before):
         path.write_bytes(before)
 
 
-def put(words):
-    check_name(words.dataset)
-    check_name(words.key)
-    values = Array(words.array, words.axes)
+def store(values, words, **streams):
+    """Writes an array into a scale, which is added to the info where it isn't there; gives the program's status."""
     check_limits(values)
     path = pathlib.Path(words.dataset) / "info"
     volume, scale, is_there = info_with(path, values, words)
@@ -315,7 +393,7 @@ def put(words):
     begin = scale.get("voxel_offset", [0, 0, 0])
     head = b"PVW1" + struct.pack("<I3q3Q", 1, *begin, *values.size)
     try:
-        tool = run_tool(["write", words.dataset, words.key, f"--workers={words.workers}"], stdin=subprocess.PIPE)
+        tool = run_tool(["write", words.dataset, words.key, f"--workers={words.workers}"], stdin=subprocess.PIPE, **streams)
     except OSError:
         if not is_there:
             put_back(path, before)
@@ -331,15 +409,27 @@ def put(words):
     return status
 
 
-def box_of(words, scale):
-    if words.box == "all":
+def put(words):
+    check_name(words.dataset)
+    check_name(words.key)
+    return store(open_array(words.array, words.axes), words)
+
+
+def box_text(spans):
+    """The text of a box, of which the begin and the end on x, y and z are given."""
+    return "[" + ",".join(f"{begin}:{end}" for begin, end in spans) + "]"
+
+
+def box_of(text, scale):
+    """The text of a box, which may be `all`, and its sides."""
+    if text == "all":
         begin = scale.get("voxel_offset", [0, 0, 0])
-        words.box = "[" + ",".join(f"{at}:{at + side}" for at, side in zip(begin, scale["size"])) + "]"
-    axes = re.fullmatch(r"\[(-?\d+):(-?\d+),(-?\d+):(-?\d+),(-?\d+):(-?\d+)\]", words.box)
+        text = box_text((at, at + side) for at, side in zip(begin, scale["size"]))
+    axes = re.fullmatch(r"\[(-?\d+):(-?\d+),(-?\d+):(-?\d+),(-?\d+):(-?\d+)\]", text)
     if not axes:
-        raise Refused(f"{words.box} is no box: [x0:x1,y0:y1,z0:z1] or `all` is wanted")
+        raise Refused(f"{text} is no box: [x0:x1,y0:y1,z0:z1] or `all` is wanted")
     ends = [int(number) for number in axes.groups()]
-    return [ends[axis + 1] - ends[axis] for axis in (0, 2, 4)]
+    return text, [ends[axis + 1] - ends[axis] for axis in (0, 2, 4)]
 
 
 def interleave(source, out, size, channels, width):
@@ -355,41 +445,133 @@ def interleave(source, out, size, channels, width):
         out.write(row.tobytes())
 
 
-def cut_interleaved(words, out, size, channels, width):
+def cut(words, box, out, errors=None):
+    """Writes the values of a box into an open file; gives the program's status."""
+    command = ["cutout", words.dataset, words.key, box]
+    return run_tool(command, stdin=subprocess.DEVNULL, stdout=out, stderr=errors).wait()
+
+
+def cut_interleaved(words, box, out, size, channels, width, errors):
     """Cuts a box out by way of a file beside the array."""
     with tempfile.TemporaryFile(dir=pathlib.Path(words.out).resolve().parent) as source:
-        status = run_tool(["cutout", words.dataset, words.key, words.box], stdin=subprocess.DEVNULL, stdout=source).wait()
+        status = cut(words, box, source, errors)
         if status == 0:
             interleave(source, out, size, channels, width)
     return status
 
 
-def get(words):
+def open_scale(words):
+    """What is read of the info of a data set, and the scale in it that is named."""
     check_name(words.dataset)
     path = pathlib.Path(words.dataset) / "info"
     volume = read_info(path)
-    scale = find_scale(path, volume, words.key)
-    x, y, z = box_of(words, scale)
+    return volume, find_scale(path, volume, words.key), width_of(path, volume)
+
+
+def get(words, errors=None):
+    volume, scale, width = open_scale(words)
+    box, (x, y, z) = box_of(words.box, scale)
     channels = volume["num_channels"]
     # Values with x fastest are an array of x, y, z in numpy's order of columns, and one of z, y, x in its order of rows.
     # Those of several channels behind x are put side by side.
     by_columns = words.axes == "xyzc"
     lengths_by_axis = {"x": x, "y": y, "z": z, "c": channels}
     shape = [lengths_by_axis[axis] for axis in words.axes if axis != "c" or channels > 1]
-    width = width_of(path, volume)
-    part = words.out + ".part"
+    part = f"{words.out}.part"
     with open(part, "wb") as out:
         write_header(out, f"{'|' if width == 1 else '<'}u{width}", shape, by_columns)
         out.flush()
         if words.axes == "zyxc" and channels > 1:
-            status = cut_interleaved(words, out, [x, y, z], channels, width)
+            status = cut_interleaved(words, box, out, [x, y, z], channels, width, errors)
         else:
-            status = run_tool(["cutout", words.dataset, words.key, words.box], stdin=subprocess.DEVNULL, stdout=out).wait()
+            status = cut(words, box, out, errors)
     if status == 0:
         os.replace(part, words.out)
     else:
         os.remove(part)
     return status
+
+
+def check_choice(name, given, known):
+    if given not in known:
+        raise ValueError(f"{name} is one of {', '.join(known)}, and not {given}")
+    return given
+
+
+def check_end(status, errors):
+    """Raises the last line that the program wrote into a file of errors, where its status isn't 0."""
+    if status != 0:
+        errors.seek(0)
+        lines = errors.read().decode(errors="replace").splitlines()
+        raise Ended(status, lines[-1] if lines else f"vol_tool ended with status {status}")
+
+
+def write(
+    dataset, key, array, *, axes=None, resolution=None, offset=(0, 0, 0), chunk=(64, 64, 64), encoding="raw", block=(8, 8, 8),
+    sharding=None, workers=None,
+):  # fmt: skip
+    """
+    Writes a whole array into a scale, as the command `put` does, whose options have the other words.
+
+    The array is one of numpy's, or the path of a file as numpy.save writes it. What has three numbers is in the order x, y, z;
+    `sharding` is a text as the option takes it. Refused is raised, with the reason, where the script refuses, and Ended, which is
+    one, with the program's line and its status, where that isn't 0.
+    """
+    words = argparse.Namespace(
+        dataset=dataset,
+        key=key,
+        axes=None if axes is None else AXES[check_choice("axes", axes, AXES)],
+        resolution=None if resolution is None else lengths_of(resolution),
+        offset=check_numbers([operator.index(number) for number in offset], -MOST_OFFSET, MOST_OFFSET),
+        chunk=check_numbers([operator.index(number) for number in chunk], 1, MOST_CHUNK),
+        encoding=check_choice("encoding", encoding, ENCODINGS),
+        block=check_numbers([operator.index(number) for number in block], 1, MOST_BLOCK),
+        sharding=None if sharding is None else sharding_of(sharding),
+        workers=count_workers() if workers is None else workers,
+    )
+    check_name(dataset)
+    check_name(key)
+    values = open_array(array, words.axes) if isinstance(array, (str, os.PathLike)) else array_of(array, words.axes)
+    with tempfile.TemporaryFile() as errors:
+        check_end(store(values, words, stdout=subprocess.DEVNULL, stderr=errors), errors)
+
+
+def cut_array(words, errors):
+    """The values of a box, as an array of numpy's with the axes channel, z, y, x."""
+    numpy = import_numpy()
+    volume, scale, width = open_scale(words)
+    box, (x, y, z) = box_of(words.box, scale)
+    values = bytearray()
+    tool = run_tool(["cutout", words.dataset, words.key, box], stdin=subprocess.DEVNULL, stdout=subprocess.PIPE, stderr=errors)
+    with tool.stdout as stream:
+        while piece := stream.read(PIECE):
+            values += piece
+    check_end(tool.wait(), errors)
+    return numpy.frombuffer(values, f"<u{width}").reshape(volume["num_channels"], z, y, x)
+
+
+def read(dataset, key, box="all", out=None, *, axes="czyx"):
+    """
+    Reads a box as an array of numpy's with these axes, of which that of a single channel is left out.
+
+    The box is a text as the command `get` takes it, or three pairs, of x, y and z: the first voxel, and one past the last. Where
+    `out` is the path of a file the array is written into it, as by numpy.save, and numpy isn't needed. Refused and Ended are raised
+    as by `write`.
+    """
+    axes = AXES[check_choice("axes", axes, AXES)]
+    if not isinstance(box, str):
+        box = box_text((operator.index(begin), operator.index(end)) for begin, end in box)
+    words = argparse.Namespace(dataset=dataset, key=key, box=box, out=out, axes=axes)
+    with tempfile.TemporaryFile() as errors:
+        if out is not None:
+            check_end(get(words, errors), errors)
+            return None
+        values = cut_array(words, errors)
+    if len(values) == 1:
+        values = values[0]
+    if axes == "xyzc":
+        return values.T
+    return values.transpose(1, 2, 3, 0) if axes == "zyxc" and values.ndim == 4 else values
 
 
 def add(words):
@@ -409,25 +591,206 @@ def add(words):
     return 0
 
 
+class Served:
+    """The program's server over a data set. It serves one connection after the other, so one is kept for all requests, which take
+    turns; where it or the server has ended, it is begun anew, until it is over."""
+
+    def __init__(self, dataset):
+        self.dataset = dataset
+        self.turn = threading.Lock()
+        self.life = threading.Lock()
+        self.is_over = False
+        self.tool = None
+        self.link = None
+
+    def begin(self):
+        """Begins the server, at a free port of the loopback address, and in a group of its own, since a script may stand around it."""
+        own = {name: value for name, value in os.environ.items() if name != "VOL_TOOL_ADDRESS"}
+        words = ["serve", self.dataset, "--port=0", f"--connections={MOST_CONNECTIONS}"]
+        with self.life:
+            if self.is_over:
+                raise Refused("the server is over")
+            self.tool = run_tool(words, stdin=subprocess.DEVNULL, stdout=subprocess.PIPE, env=own, start_new_session=True)
+            line = self.tool.stdout.readline().split()
+        if len(line) != 2:
+            raise Ended(self.tool.wait(), "vol_tool serve doesn't begin")
+        self.link = http.client.HTTPConnection("127.0.0.1", int(line[1]), timeout=PATIENCE)
+
+    def end(self):
+        """Ends the server for good."""
+        with self.life:
+            self.is_over = True
+            if self.tool is not None and self.tool.poll() is None:
+                os.killpg(self.tool.pid, signal.SIGTERM)
+                self.tool.wait()
+
+    def drop_link(self):
+        if self.link is not None:
+            self.link.close()
+
+    def connect(self):
+        """Connects to the server; one that nobody listens for has ended, or is about to."""
+        if self.tool.poll() is None:
+            with contextlib.suppress(ConnectionRefusedError):
+                self.link.connect()
+                return
+            self.tool.wait(PATIENCE)
+        self.begin()
+        self.link.connect()
+
+    def ask_once(self, method, target, fields):
+        try:
+            if self.link.sock is None:
+                self.connect()
+            self.link.request(method, target, headers=fields)
+            return self.link.getresponse()
+        except (OSError, http.client.HTTPException):
+            self.drop_link()
+            raise
+
+    def ask(self, method, target, fields):
+        """The reply to a request; whoever has the turn calls it. A connection that was kept may have ended: then there is another try."""
+        try:
+            return self.ask_once(method, target, fields)
+        except (OSError, http.client.HTTPException):
+            return self.ask_once(method, target, fields)
+
+
+class Peer(http.server.BaseHTTPRequestHandler):
+    """A request of the page: for itself, or for an object of the data set, which the program's server is asked for."""
+
+    protocol_version = "HTTP/1.1"
+    timeout = PATIENCE
+    disable_nagle_algorithm = True
+    passed_on = ("Content-Length", "Content-Type", "Content-Range", "Accept-Ranges")
+
+    def do_GET(self):  # pylint: disable=invalid-name
+        # Another site's page may have this address under a name of its own.
+        host = urllib.parse.urlsplit(f"//{self.headers.get('Host', '')}").hostname
+        target = self.path.partition("?")[0]
+        if host not in ("127.0.0.1", "localhost"):
+            self.send_error(403)
+        elif target == "/":
+            self.send_page()
+        elif re.fullmatch(r"[A-Za-z0-9_./-]+", target):
+            with self.server.served.turn:
+                self.pass_on(target)
+        else:
+            self.send_error(404)
+
+    do_HEAD = do_GET
+
+    def log_message(self, *_):  # pylint: disable=arguments-differ
+        pass
+
+    def send_fields(self, status, fields):
+        self.send_response(status)
+        for name, value in {**fields, "Cache-Control": "no-store", "Connection": "close"}.items():
+            self.send_header(name, value)
+        self.end_headers()
+
+    def send_page(self):
+        page = self.server.page
+        self.send_fields(200, {"Content-Type": "text/html; charset=utf-8", "Content-Length": str(len(page))})
+        if self.command == "GET":
+            self.wfile.write(page)
+
+    def pass_on(self, target):
+        """Hands the reply of the program's server on, piece by piece. Where the page is gone its rest isn't waited for."""
+        served = self.server.served
+        asked = {name: self.headers[name] for name in ("Range",) if name in self.headers}
+        try:
+            reply = served.ask(self.command, target, asked)
+        except (OSError, http.client.HTTPException, subprocess.TimeoutExpired, Refused):
+            self.send_error(502)
+            return
+        try:
+            self.send_fields(reply.status, {name: reply.headers[name] for name in self.passed_on if name in reply.headers})
+            while piece := reply.read(1 << 16):
+                self.wfile.write(piece)
+        except (OSError, http.client.HTTPException):
+            served.drop_link()
+
+
+class Front(socketserver.ThreadingTCPServer):
+    """The page and the objects of a data set, for at most so many peers of this machine at once."""
+
+    allow_reuse_address = True
+    daemon_threads = True
+
+    def __init__(self, port, page, served):
+        self.page, self.served = page, served
+        self.room = threading.BoundedSemaphore(MOST_PEERS)
+        super().__init__(("127.0.0.1", port), Peer)
+
+    def process_request(self, request, client_address):
+        self.room.acquire()  # pylint: disable=consider-using-with
+        super().process_request(request, client_address)
+
+    def process_request_thread(self, request, client_address):
+        try:
+            super().process_request_thread(request, client_address)
+        finally:
+            self.room.release()
+
+    def handle_error(self, request, client_address):
+        """A peer that is gone is no news."""
+
+
+def stop(*_):
+    raise KeyboardInterrupt
+
+
+def view(words):
+    check_name(words.dataset)
+    path = pathlib.Path(words.dataset) / "info"
+    volume = read_info(path)
+    if words.key is not None:
+        find_scale(path, volume, words.key)
+    served = Served(words.dataset)
+    with contextlib.suppress(KeyboardInterrupt), contextlib.ExitStack() as at_end:
+        for number in (signal.SIGINT, signal.SIGTERM, signal.SIGHUP):
+            signal.signal(number, stop)
+        at_end.callback(served.end)
+        served.begin()
+        front = at_end.enter_context(Front(words.port, PAGE.read_bytes(), served))
+        scale = f"?scale={urllib.parse.quote(words.key)}" if words.key is not None else ""
+        print(f"http://127.0.0.1:{front.server_address[1]}/{scale}", flush=True)
+        front.serve_forever()
+    return 0
+
+
+def port(text):
+    """Reads a port."""
+    number = int(text)
+    if not 0 <= number < 1 << 16:
+        raise ValueError
+    return number
+
+
+def count_workers():
+    return min(MOST_WORKERS, os.cpu_count() or 1)
+
+
 def add_layout(parser):
     """The options that name a layout."""
-    parser.add_argument("--chunk", type=numbers(3, 1, 1 << 40), default=[64, 64, 64], help="voxels of a chunk (64,64,64)")
-    parser.add_argument("--encoding", choices=["raw", "compressed_segmentation"], default="raw")
-    parser.add_argument("--block", type=numbers(3, 1, 1 << 24), default=[8, 8, 8], help="voxels of a block (8,8,8)")
+    parser.add_argument("--chunk", type=numbers(1, MOST_CHUNK), default=[64, 64, 64], help="voxels of a chunk (64,64,64)")
+    parser.add_argument("--encoding", choices=ENCODINGS, default="raw")
+    parser.add_argument("--block", type=numbers(1, MOST_BLOCK), default=[8, 8, 8], help="voxels of a block (8,8,8)")
     parser.add_argument("--sharding", type=sharding_words, help="PRESHIFT,identity|murmur,MINISHARD_BITS,SHARD_BITS (no shards)")
 
 
 def read_words():
     whole = argparse.ArgumentParser(description=__doc__, formatter_class=argparse.RawDescriptionHelpFormatter)
-    commands = whole.add_subparsers(required=True, metavar="put|get|add")
+    commands = whole.add_subparsers(required=True, metavar="put|get|add|view")
     one = commands.add_parser("put", help="writes an array into a scale")
     one.add_argument("array")
     one.add_argument("dataset")
     one.add_argument("key")
-    one.add_argument("--offset", type=numbers(3, -(1 << 40), 1 << 40), default=[0, 0, 0], help="the first voxel (0,0,0)")
+    one.add_argument("--offset", type=numbers(-MOST_OFFSET, MOST_OFFSET), default=[0, 0, 0], help="the first voxel (0,0,0)")
     one.add_argument("--resolution", type=lengths, help="nanometres of a voxel, wanted for a new scale")
     add_layout(one)
-    one.add_argument("--workers", type=int, choices=range(1, 17), default=min(16, os.cpu_count() or 1), metavar="N")
+    one.add_argument("--workers", type=int, choices=range(1, MOST_WORKERS + 1), default=count_workers(), metavar="N")
     one.set_defaults(job=put)
     two = commands.add_parser("get", help="reads a box as an array")
     two.add_argument("dataset")
@@ -435,16 +798,21 @@ def read_words():
     two.add_argument("box")
     two.add_argument("out")
     two.set_defaults(job=get)
-    one.add_argument("--axes", choices=["czyx", "zyx", "xyzc", "xyz", "zyxc"], help="the array's axes (czyx)")
-    two.add_argument("--axes", choices=["czyx", "zyx", "xyzc", "xyz", "zyxc"], default="czyx", help="the array's axes (czyx)")
+    one.add_argument("--axes", choices=AXES, help="the array's axes (czyx)")
+    two.add_argument("--axes", choices=AXES, default="czyx", help="the array's axes (czyx)")
     three = commands.add_parser("add", help="adds a scale of the same voxels in another layout")
     three.add_argument("dataset")
     three.add_argument("key")
     three.add_argument("to_key", metavar="key2")
     add_layout(three)
     three.set_defaults(job=add, axes="czyx")
+    four = commands.add_parser("view", help="shows slices through the scales on a page of this machine")
+    four.add_argument("dataset")
+    four.add_argument("key", nargs="?")
+    four.add_argument("--port", type=port, default=0, metavar="P", help="the page's port (any free one)")
+    four.set_defaults(job=view, axes=None)
     words = whole.parse_args()
-    words.axes = {"zyx": "czyx", "xyz": "xyzc"}.get(words.axes, words.axes)
+    words.axes = AXES.get(words.axes)
     return words
 
 

@@ -6,7 +6,8 @@ Those of the README's first screen have to be among them.
 
 PROGRAM is crates/vol_tool/out/vol_tool if it is left out. The page's blocks of `sh` are run by one bash in a temporary home; a block of
 `text` is the output of the block before it. A block of `python` is saved under the name in its first line; where a module that it imports
-isn't installed it is only compiled, and run otherwise, unless a block of `sh` runs it. The port 8080 stands for a free one. It wants bash.
+isn't installed it is only compiled, and run otherwise, unless a block of `sh` runs it. The ports 8080 and 8081 stand for free ones. It
+wants bash.
 The last line is 'N passed, N failed', and the status is 1 where a line of the README or a block failed.
 """
 import array
@@ -26,13 +27,13 @@ from program import LIMIT, ROOT, shorten, tell_all
 
 GUIDE = ROOT / "docs" / "guide.md"
 BLOCK = re.compile(r"^```(\w+)\n(.*?)^```$", re.MULTILINE | re.DOTALL)
-PORT = "8080"
+PORTS = ["8080", "8081"]
 
 # what stands between the outputs of two blocks
 MARK = "-- block {}"
 
-# Waits until a port takes connections.
-WAIT = 'until (: </dev/tcp/127.0.0.1/{}) 2>/dev/null; do sleep 0.1; done'
+# Waits until a server answers at a port.
+WAIT = r"until (exec 9<>/dev/tcp/127.0.0.1/{} && printf 'GET / HTTP/1.0\r\n\r\n' >&9 && read -r _ <&9) 2>/dev/null; do sleep 0.1; done"
 
 
 def save(path, descr, code, shape, value_of):
@@ -44,16 +45,20 @@ def save(path, descr, code, shape, value_of):
     path.write_bytes(b"\x93NUMPY\x01\x00" + struct.pack("<H", len(text)) + text.encode() + values.tobytes())
 
 
-def free_port():
-    with socket.socket() as door:
-        door.bind(("127.0.0.1", 0))
-        return str(door.getsockname()[1])
+def free_ports(count):
+    doors = [socket.create_server(("127.0.0.1", 0)) for _ in range(count)]
+    ports = [str(door.getsockname()[1]) for door in doors]
+    for door in doors:
+        door.close()
+    return ports
 
 
-def read_guide(port):
+def read_guide():
     """Its blocks: the language, the text, and of `sh` the output that is due."""
+    free = dict(zip(PORTS, free_ports(len(PORTS))))
+    guide = re.sub(rf"\b({'|'.join(PORTS)})\b", lambda port: free[port[0]], GUIDE.read_text())
     blocks = []
-    for language, text in BLOCK.findall(GUIDE.read_text().replace(PORT, port)):
+    for language, text in BLOCK.findall(guide):
         if language == "text":
             blocks[-1][2] = text
         else:
@@ -71,13 +76,13 @@ def lacks_module(text):
     return any(importlib.util.find_spec(module) is None for module in found)
 
 
-def lines_of(number, block, port, is_run):
+def lines_of(number, block, is_run):
     """The lines of bash for a block."""
     language, text, _ = block
     yield f"echo {shlex.quote(MARK.format(number))}"
     if language == "sh":
         yield text
-        if f"--port={port}" in text:
+        for port in re.findall(r"--port=(\d+)", text):
             yield WAIT.format(port)
         if number == 0:
             yield 'PATH="$GUIDE_BIN:$PATH"'
@@ -100,13 +105,13 @@ def prepare(home, program):
     (home / "bin" / "vol_tool").symlink_to(program)
 
 
-def run_guide(program, home, blocks, port):
+def run_guide(program, home, blocks):
     """The status, the output and the standard error of the whole guide."""
     scripts = "".join(text for language, text, _ in blocks if language == "sh")
     lines = ["set -e -o pipefail", "trap 'kill $(jobs -p) 2>/dev/null || :' EXIT"]
     for number, block in enumerate(blocks):
         is_run = block[0] == "python" and f"python3 {name_of(block[1])}" in scripts
-        lines += lines_of(number, block, port, is_run)
+        lines += lines_of(number, block, is_run)
     lines.append(f"echo {shlex.quote(MARK.format(len(blocks)))}")
     script, out, err = home / "guide.sh", home / "out", home / "err"
     script.write_text("\n".join(lines) + "\n")
@@ -133,12 +138,11 @@ def judge_readme():
 
 def judge_all(program):
     yield from judge_readme()
-    port = free_port()
-    blocks = read_guide(port)
+    blocks = read_guide()
     with tempfile.TemporaryDirectory() as folder:
         home = pathlib.Path(folder)
         prepare(home, program)
-        status, out, err = run_guide(program, home, blocks, port)
+        status, out, err = run_guide(program, home, blocks)
     outputs = re.split(r"^-- block \d+\n", out, flags=re.MULTILINE)[1:]
     for number, (language, text, wanted) in enumerate(blocks):
         title = f"{language}: {text.splitlines()[0]}"

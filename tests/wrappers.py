@@ -191,7 +191,8 @@ def installs(folder):
     done = subprocess.run([prefix / "bin/vol_tool", "a", "b  c"], cwd=folder, capture_output=True, timeout=LIMIT)
     if (done.returncode, done.stdout.decode()) != (3, f"ours:a b  c\n{folder}\n"):
         return f"installed: {done}"
-    missing = [name for name in ("bin/volume.py", "bin/fetch.py", "share/doc/vol_tool/guide.md") if not (prefix / name).is_file()]
+    names = ("bin/volume.py", "bin/slices.html", "bin/fetch.py", "share/doc/vol_tool/guide.md")
+    missing = [name for name in names if not (prefix / name).is_file()]
     return f"missing: {missing}" if missing else None
 
 

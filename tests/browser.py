@@ -1,0 +1,147 @@
+"""A headless Chromium that is driven through a pipe, by the messages of its DevTools protocol."""
+import base64
+import contextlib
+import fcntl
+import itertools
+import json
+import os
+import select
+import shutil
+import signal
+import tempfile
+import time
+
+NAMES = ("chromium", "chromium-browser", "google-chrome")
+OPTIONS = (
+    "--headless=new", "--remote-debugging-pipe", "--no-sandbox", "--disable-gpu", "--disable-dev-shm-usage", "--hide-scrollbars",
+    "--no-first-run", "--no-default-browser-check", "--disable-background-networking", "--disable-component-update", "--disable-sync",
+    "--disable-extensions", "--mute-audio",
+)  # fmt: skip
+
+# How long an answer is waited for, in seconds.
+PATIENCE = 40
+
+# The descriptors at which the browser reads messages and writes them.
+ITS_INPUT, ITS_OUTPUT = 3, 4
+
+
+class Wrong(Exception):
+    """What the browser says is wrong, or that it doesn't answer."""
+
+
+def begin(words):
+    """Begins a program in a session of its own, with pipes where it looks for them: its number, and the pipes' own ends."""
+    to_read, to_browser = os.pipe()
+    from_browser, to_write = os.pipe()
+    # Out of the way, since each may stand where the other has to.
+    ends = [fcntl.fcntl(end, fcntl.F_DUPFD_CLOEXEC, 10) for end in (to_read, to_write)]
+    placed = [(os.POSIX_SPAWN_DUP2, end, place) for end, place in zip(ends, (ITS_INPUT, ITS_OUTPUT))]
+    silent = [(os.POSIX_SPAWN_OPEN, number, os.devnull, os.O_RDWR, 0) for number in range(3)]
+    process = os.posix_spawn(words[0], words, os.environ, file_actions=placed + silent, setsid=True)
+    for end in (to_read, to_write, *ends):
+        os.close(end)
+    return process, to_browser, from_browser
+
+
+def find_browser():
+    """The browser's command, or None where there is none."""
+    return next((found for found in map(shutil.which, NAMES) if found), None)
+
+
+class Browser:
+    """A browser with one page; `exceptions` are the texts of those that the page didn't catch."""
+
+    def __init__(self, command, size):
+        self.numbers = itertools.count(1)
+        self.session = None
+        self.exceptions = []
+        self.left = b""
+        self.profile = tempfile.TemporaryDirectory(ignore_cleanup_errors=True)  # pylint: disable=consider-using-with
+        words = [command, *OPTIONS, f"--user-data-dir={self.profile.name}", f"--window-size={size[0]},{size[1]}", "about:blank"]
+        self.process, self.to_browser, self.from_browser = begin(words)
+        target = self.call("Target.createTarget", url="about:blank")["targetId"]
+        self.session = self.call("Target.attachToTarget", targetId=target, flatten=True)["sessionId"]
+        self.call("Runtime.enable")
+        self.call("Page.enable")
+        self.resize(*size)
+
+    def __enter__(self):
+        return self
+
+    def __exit__(self, *_):
+        os.killpg(self.process, signal.SIGKILL)
+        os.waitpid(self.process, 0)
+        os.close(self.to_browser)
+        os.close(self.from_browser)
+        self.profile.cleanup()
+
+    def send(self, message):
+        data = json.dumps(message).encode() + b"\0"
+        while data:
+            data = data[os.write(self.to_browser, data) :]
+
+    def receive(self, until):
+        """The next message."""
+        while b"\0" not in self.left:
+            if not select.select([self.from_browser], [], [], max(0, until - time.monotonic()))[0]:
+                raise Wrong("the browser doesn't answer")
+            piece = os.read(self.from_browser, 1 << 20)
+            if not piece:
+                raise Wrong("the browser has ended")
+            self.left += piece
+        message, _, self.left = self.left.partition(b"\0")
+        return json.loads(message)
+
+    def call(self, method, **parameters):
+        """What a call of the protocol answers."""
+        number, until = next(self.numbers), time.monotonic() + PATIENCE
+        own = {"sessionId": self.session} if self.session else {}
+        self.send({"id": number, "method": method, "params": parameters, **own})
+        while True:
+            message = self.receive(until)
+            if message.get("method") == "Runtime.exceptionThrown":
+                self.exceptions.append(message["params"]["exceptionDetails"].get("exception", {}).get("description", "?"))
+            if message.get("id") == number:
+                if "error" in message:
+                    raise Wrong(f"{method}: {message['error']}")
+                return message["result"]
+
+    def resize(self, width, height, scale=1, is_mobile=False):
+        self.call("Emulation.setDeviceMetricsOverride", width=width, height=height, deviceScaleFactor=scale, mobile=is_mobile)
+        self.call("Emulation.setTouchEmulationEnabled", enabled=is_mobile)
+
+    def run(self, script):
+        """The value of an expression in the page, which may be a promise."""
+        found = self.call("Runtime.evaluate", expression=script, awaitPromise=True, returnByValue=True)
+        if "exceptionDetails" in found:
+            raise Wrong(f"{script[:60]}: {found['exceptionDetails'].get('exception', {}).get('description', '?')}")
+        return found["result"].get("value")
+
+    def open(self, address, is_ready):
+        """Opens a page, and waits until an expression in it is true."""
+        self.run("window.isLeft = true")
+        self.exceptions.clear()
+        found = self.call("Page.navigate", url=address)
+        if found.get("errorText"):
+            raise Wrong(f"{address}: {found['errorText']}")
+        self.wait(f"!window.isLeft && ({is_ready})")
+
+    def wait(self, condition):
+        """Waits until an expression is true, of a page that may not be there yet."""
+        until = time.monotonic() + PATIENCE
+        while time.monotonic() < until:
+            with contextlib.suppress(Wrong):
+                if self.run(f"Boolean({condition})"):
+                    return
+            time.sleep(0.02)
+        raise Wrong(f"it never comes that {condition}")
+
+    def mouse(self, kind, x, y, **more):
+        self.call("Input.dispatchMouseEvent", type=kind, x=x, y=y, **more)
+
+    def touch(self, kind, *points):
+        self.call("Input.dispatchTouchEvent", type=kind, touchPoints=[{"x": x, "y": y, "id": number} for number, (x, y) in enumerate(points)])
+
+    def take_picture(self, path):
+        """A picture of the page as a file of PNG."""
+        path.write_bytes(base64.b64decode(self.call("Page.captureScreenshot", format="png")["data"]))
