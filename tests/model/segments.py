@@ -1,0 +1,164 @@
+"""A plain model of segmentation chunks, after the page of the coding: voxel by voxel, and word by word."""
+import dataclasses
+import itertools
+
+from .faults import Damaged
+
+BITS = [0, 1, 2, 4, 8, 16, 32]
+
+
+@dataclasses.dataclass(frozen=True)
+class Shape:
+    """The sizes of a chunk and of its blocks in voxels, its channels, and the bytes of a value: 4 or 8."""
+
+    size: tuple
+    block: tuple
+    channels: int
+    width: int
+
+    def blocks(self):
+        """The first voxel of each block, x fastest."""
+        x, y, z = (range(0, size, step) for size, step in zip(self.size, self.block))
+        return [(i, j, k) for k in z for j in y for i in x]
+
+    def block_voxels(self):
+        x, y, z = self.block
+        return x * y * z
+
+    def voxels_of(self, channel, begin):
+        """The voxels of a block: the number of each one's value in the chunk, and in the block."""
+        x, y, z = (range(first, min(first + step, size)) for first, step, size in zip(begin, self.block, self.size))
+        for k, j, i in itertools.product(z, y, x):
+            place = i + self.size[0] * (j + self.size[1] * (k + self.size[2] * channel))
+            yield place, i - begin[0] + self.block[0] * (j - begin[1] + self.block[1] * (k - begin[2]))
+
+    def count(self):
+        x, y, z = self.size
+        return x * y * z * self.channels
+
+
+def words_of(chunk):
+    return [int.from_bytes(chunk[at : at + 4], "little") for at in range(0, len(chunk), 4)]
+
+
+def bytes_of(words):
+    return b"".join(word.to_bytes(4, "little") for word in words)
+
+
+def values_in(shape, raw):
+    """The values of raw bytes, in their order."""
+    return [int.from_bytes(raw[at : at + shape.width], "little") for at in range(0, len(raw), shape.width)]
+
+
+def words_in(number, count):
+    """The words of a number, the low one first."""
+    return [number >> (32 * word) & 0xFFFFFFFF for word in range(count)]
+
+
+def words_of_table(shape, values):
+    return [word for value in values for word in words_in(value, shape.width // 4)]
+
+
+def number_of(words):
+    return sum(word << (32 * at) for at, word in enumerate(words))
+
+
+def packed_words(voxels, bits):
+    """How many words the indices of a whole block have."""
+    return -(-voxels * bits // 32)
+
+
+def encode_channel(shape, values, channel):
+    """The words of a channel: headers, and behind them each block's indices and, where it is new, its table."""
+    blocks = shape.blocks()
+    headers, behind, tables = [], [], {}
+    for begin in blocks:
+        own = {number: values[place] for place, number in shape.voxels_of(channel, begin)}
+        table = tuple(sorted(set(own.values())))
+        index = {value: place for place, value in enumerate(table)}
+        bits = next(bits for bits in BITS if len(table) <= 2**bits)
+        packed = sum(index[value] << (number * bits) for number, value in own.items())
+        indices = 2 * len(blocks) + len(behind)
+        behind += words_in(packed, packed_words(shape.block_voxels(), bits))
+        if table not in tables:
+            tables[table] = 2 * len(blocks) + len(behind)
+            behind += words_of_table(shape, table)
+        headers += [tables[table] | bits << 24, indices]
+    return headers + behind
+
+
+def encode(shape, raw):
+    """This project's spelling of the values of raw bytes."""
+    values = values_in(shape, raw)
+    channels = [encode_channel(shape, values, channel) for channel in range(shape.channels)]
+    starts = itertools.accumulate(map(len, channels[:-1]), initial=shape.channels)
+    return bytes_of([*starts, *itertools.chain(*channels)])
+
+
+def decode_block(shape, words, channel, number, begin, start, found):
+    """Puts the values of a block of a channel that starts at a word."""
+    head, indices = words[start + 2 * number : start + 2 * number + 2]
+    table, bits = head & 0xFFFFFF, head >> 24
+    if bits not in BITS:
+        raise Damaged(f"seg bits {channel} {number} {bits}")
+    first = start + indices
+    count = packed_words(shape.block_voxels(), bits)
+    if bits and first + count > len(words):
+        raise Damaged(f"seg values {channel} {number}")
+    packed = number_of(words[first : first + count])
+    half = shape.width // 4
+    for place, own in shape.voxels_of(channel, begin):
+        entry = start + table + half * (packed >> (own * bits) & (2**bits - 1))
+        if entry + half > len(words):
+            raise Damaged(f"seg table {channel} {number} {own}")
+        found[place] = number_of(words[entry : entry + half])
+
+
+def decode(shape, chunk):
+    """The raw bytes of a chunk's values, or the first fault."""
+    words = words_of(chunk[: len(chunk) // 4 * 4])
+    if len(chunk) % 4 or len(words) < shape.channels:
+        raise Damaged(f"seg length {len(chunk)}")
+    found = [0] * shape.count()
+    blocks = shape.blocks()
+    for channel in range(shape.channels):
+        start = words[channel]
+        if start + 2 * len(blocks) > len(words):
+            raise Damaged(f"seg channel {channel}")
+        for number, begin in enumerate(blocks):
+            decode_block(shape, words, channel, number, begin, start, found)
+    return b"".join(value.to_bytes(shape.width, "little") for value in found)
+
+
+# Another program's spelling.
+
+
+def spell_block(chance, shape, own):
+    """A block's bits, and the words of its indices and of its table: values in any order, also twice, and any padding."""
+    table = list(set(own.values())) + chance.choices(list(own.values()), k=chance.randint(0, 2))
+    chance.shuffle(table)
+    bits = chance.choice([bits for bits in BITS if len(table) <= 2**bits])
+    packed = 0
+    for number in range(shape.block_voxels()):
+        index = table.index(own[number]) if number in own else chance.getrandbits(32)
+        packed |= (index & (2**bits - 1)) << (number * bits)
+    return bits, words_in(packed, packed_words(shape.block_voxels(), bits)), words_of_table(shape, table)
+
+
+def spell_loosely(chance, shape, raw):
+    """The values of raw bytes with all headers in front, and behind them indices and tables in any order, with gaps."""
+    values, blocks = values_in(shape, raw), shape.blocks()
+    spelled = []
+    for channel, begin in itertools.product(range(shape.channels), blocks):
+        own = {number: values[place] for place, number in shape.voxels_of(channel, begin)}
+        spelled.append(spell_block(chance, shape, own))
+    parts = [(number, which) for number in range(len(spelled)) for which in (1, 2)]
+    chance.shuffle(parts)
+    starts = [shape.channels + 2 * len(blocks) * channel for channel in range(shape.channels)]
+    words = starts + [0] * (2 * len(spelled))
+    for number, which in parts:
+        words += [chance.getrandbits(32)] * chance.choice([0, 0, 0, 1])
+        header, place = shape.channels + 2 * number, len(words) - starts[number // len(blocks)]
+        words[header + 2 - which] = place | spelled[number][0] << 24 if which == 2 else place
+        words += spelled[number][which]
+    return bytes_of(words)
