@@ -10,7 +10,7 @@ import random
 
 from harness import answers, main, memory_limit, open_full, want, want_files
 from model import Volume, answer, draw_boxes, generated, infos_of, printed, refused, sum_of, voxels_in
-from model.chance import pick_sharding
+from model.chance import pick_volume
 
 WORKERS = (1, 3, 16)
 
@@ -58,14 +58,10 @@ KNOWN = [
 LARGE = Volume([256, 256, 256], [64, 64, 64])
 
 
-def pick_segmentation(seed):
-    """A scale, each second one in shards, and a list: its number and how many writes it has."""
+def pick_list(seed):
+    """A segmentation, each second one in shards, and a list: its number and how many writes it has."""
     chance = random.Random(seed)
-    size, chunk, block = ([chance.randint(1, most) for _ in range(3)] for most in (12, 7, 8))
-    offset = tuple(chance.randint(-9, 9) for _ in range(3))
-    sharding = pick_sharding(chance) if seed % 2 else None
-    volume = Volume(size, chunk, offset, chance.randint(1, 3), chance.choice([4, 8]), tuple(block), sharding)
-    return volume, chance.randrange(2**31), chance.randint(1, 12)
+    return pick_volume(chance, is_raw=False, in_shards=seed % 2), chance.randrange(2**31), chance.randint(1, 12)
 
 
 # Refusals
@@ -129,8 +125,8 @@ def rows():
         yield f"200 writes, {workers} workers", is_generated, LARGE, 7, 200, workers
     for seed, workers in itertools.product(range(10), WORKERS):
         title = f"segmentation {seed}, {workers} workers"
-        yield title, is_generated, *pick_segmentation(seed), workers
-        yield f"{title}, by write", is_written, *pick_segmentation(seed), workers
+        yield title, is_generated, *pick_list(seed), workers
+        yield f"{title}, by write", is_written, *pick_list(seed), workers
     for title, *case in REFUSED:
         yield title, is_refused, *case
     yield "a line to a full device", stands_without_a_line

@@ -17,12 +17,12 @@ from model import (
     Values, Volume, along, breaks, corners, cutout, damaged, infos_of, printed, refused, spell, stored, stream_of, voxels_in,
 )
 from model.breaks import DAMAGED_CELL, ascending
-from model.chance import damage_chunk, pick_boxes, pick_chunks, pick_segmentation, pick_writes
+from model.chance import damage_chunk, pick_boxes, pick_chunks, pick_volume, pick_writes
 from model.segments import bytes_of, spell_loosely
 
 
 def pick_scale(chance):
-    return pick_segmentation(chance, in_shards=chance.random() < 2 / 3)
+    return pick_volume(chance, is_raw=False, in_shards=chance.random() < 2 / 3)
 
 
 def store(trial, volume, chunks):

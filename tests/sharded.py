@@ -10,7 +10,7 @@ import struct
 
 from harness import main
 from model import Sharding, Values, Volume, along, cutout, infos_of, printed, refused, spell
-from model.chance import pick_box, pick_chunks, pick_raw, pick_writes, with_numbers
+from model.chance import pick_box, pick_chunks, pick_volume, pick_writes, with_numbers
 
 
 def lay_out(trial, volume, chunks):
@@ -28,7 +28,7 @@ def boxes_of(chance, volume):
 def reads_scale(trial, seed):
     """Shards of the model."""
     chance = random.Random(f"scale {seed}")
-    volume = pick_raw(chance, in_shards=True)
+    volume = pick_volume(chance, is_raw=True, in_shards=True)
     chunks = pick_chunks(chance, volume, lambda cell, raw: raw)
     lay_out(trial, volume, chunks)
     values = Values(volume, [(volume.box_of(cell), raw) for cell, raw in chunks.items()])
@@ -38,7 +38,7 @@ def reads_scale(trial, seed):
 def writes_scale(trial, seed):
     """Overlapping boxes leave the shards that are due, and read back."""
     chance = random.Random(f"writes {seed}")
-    volume = pick_raw(chance, in_shards=True)
+    volume = pick_volume(chance, is_raw=True, in_shards=True)
     writes = pick_writes(chance, volume, chance.randint(0, 5))
     trial.write(volume, writes)
     trial.want_values(volume, Values(volume, writes), boxes_of(chance, volume))

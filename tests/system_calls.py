@@ -12,22 +12,16 @@ may have printed a front of its values. Of a served run the calls to peers fail 
 due, or that the store failed in place of one.
 """
 import collections
-import dataclasses
 import functools
-import pathlib
 import re
 import shutil
 import subprocess
 import sys
-import tempfile
 import typing
 
-from disturbed import (
-    COPY, CUT, CUT_LAYERS, GENERATE, LAYER_OBJECTS, LAYERS, PAIRS, ROW, ROW_OBJECTS, ROW_VOLUME, THREE, TORN_LAYER, VERIFY, WRITE,
-    in_shards, shards_of,
-)
-from harness import LIMIT, Wrong, files_in, lay_out, main, want, want_front, want_true
-from model import DOOR, FEED, OK, OUTPUT, STORE, Sharding, answer, generated, printed, refused, stored, stream_of, sum_of
+from disturbed import ROW, ROW_OBJECTS, RUNS, in_store
+from harness import LIMIT, Wrong, main, want, want_true
+from model import DOOR, FEED, OK, OUTPUT, STORE
 from peers import PEERS, SERVE, WHOLE, failed_of, fronts_of, is_answered, serve_peers
 
 # The calls to files, folders and streams.
@@ -59,62 +53,11 @@ FAILURES = [("EIO", ""), ("ENOSPC", ""), ("EINTR", ""), ("EIO", "+"), ("ENOSPC",
 UNSTARTED = 127
 LOADER_LINE = b"error while loading shared libraries"
 
-# A list of three writes into the row, which has all its objects.
-LIST = generated(ROW_VOLUME, 7, 3)
-LIST_OBJECTS = ROW_VOLUME.files(ROW_VOLUME.chunks_after(LIST))
-
-# The same row in two shards, of two minishards each.
-SHARDING = Sharding(0, False, 1, 1)
-IN_SHARDS = in_shards(SHARDING)
-SHARDS = shards_of(SHARDING, b"\1", b"\2", b"\3")
-COPIED_SHARDS = {f"e{name.removeprefix('d')}": shard for name, shard in SHARDS.items()}
-COPIED_PAIRS = {"e/s/0-2_0-1_0-1": b"\1\2", "e/s/2-3_0-1_0-1": b"\3"}
-
-UNFINISHED = {"d/s/a/b.part": b"", "d/s/c/d/e.part": b""}
-TORN = refused("damaged 0,0,1: chunk length 1 wanted 2", b"\1")
-SOUND = printed("cells 3 stored 3 absent 0")
-
-
-@dataclasses.dataclass(frozen=True)
-class Case:
-    """
-    A run: the objects that stand, its words and its stream, what it ends with, the objects that it puts, the info, and how many files
-    that aren't finished it may leave.
-    """
-
-    title: str
-    objects: dict
-    words: str
-    stream: bytes
-    ending: tuple
-    put: dict
-    info: bytes = ROW
-    parts: int = 0
-
-    def before(self):
-        return {**self.objects, "d/info": self.info}
-
-    def after(self):
-        return {**self.before(), **self.put}
-
-
-RUNS = [
-    Case("a write", {}, WRITE, THREE, stored(3, 3), ROW_OBJECTS),
-    Case("a write beside unfinished files", UNFINISHED, WRITE, THREE, stored(3, 3), ROW_OBJECTS),
-    Case("a write of nothing", {}, WRITE, stream_of([]), stored(0, 0), {}),
-    Case("a write into shards", {}, WRITE, THREE, stored(2, 3), SHARDS, IN_SHARDS),
-    Case("a folder that isn't empty", ROW_OBJECTS, WRITE, THREE, refused("folder not empty"), {}),
-    Case("a list", {}, GENERATE, b"", answer(3, LIST_OBJECTS, sum_of(ROW_VOLUME, LIST)), LIST_OBJECTS),
-    Case("a cutout", ROW_OBJECTS, CUT, b"", printed(b"\1\2\3"), {}),
-    Case("a cutout of shards", SHARDS, CUT, b"", printed(b"\1\2\3"), {}, IN_SHARDS),
-    Case("a cutout of nothing", {}, CUT, b"", printed(bytes(3)), {}),
-    Case("a cutout of layers", LAYER_OBJECTS, CUT_LAYERS, b"", printed(b"\1\3\2\4"), {}, LAYERS),
-    Case("a cutout of a damaged layer", TORN_LAYER, CUT_LAYERS, b"", TORN, {}, LAYERS),
-    Case("a copy", {**ROW_OBJECTS, "e/info": PAIRS}, COPY, b"", stored(2, 2), COPIED_PAIRS),
-    Case("a copy into shards", {**ROW_OBJECTS, "e/info": IN_SHARDS}, COPY, b"", stored(2, 3), COPIED_SHARDS, parts=1),
-    Case("a copy out of shards", {**SHARDS, "e/info": PAIRS}, COPY, b"", stored(2, 2), COPIED_PAIRS, IN_SHARDS),
-    Case("a judgement", ROW_OBJECTS, VERIFY, b"", SOUND, {}),
-    Case("a judgement of shards", SHARDS, VERIFY, b"", SOUND, {}, IN_SHARDS),
+# The runs that are traced.
+TRACED = [
+    "a write", "a write beside unfinished files", "a write of nothing", "a write into shards", "a folder that isn't empty", "a list",
+    "a cutout", "a cutout of shards", "a cutout of nothing", "a cutout of layers", "a cutout of a damaged layer", "a copy",
+    "a copy into shards", "a copy out of shards", "a judgement", "a judgement of shards",
 ]
 
 FAULTS = {STORE: b"store fault\n", FEED: b"feed fault\n", OUTPUT: b"output fault\n"}
@@ -126,42 +69,43 @@ SERVED_FILES = {**ROW_OBJECTS, "d/info": ROW}
 
 def traced(trial, files, options, run_in):
     """
-    What a run in a folder with files leaves under strace, its files last; and what strace told, by lines. `run_in` is given the folder
-    and the first words of the command.
+    What a run over files leaves under strace, its files last; and what strace told, by lines. `run_in` is given the folder and the first
+    words of the command.
     """
-    with tempfile.TemporaryDirectory(dir=trial.folder) as name:
-        folder, told = pathlib.Path(name) / "store", pathlib.Path(name) / "told"
-        folder.mkdir()
-        lay_out(folder, files)
-        found = run_in(folder, ["strace", "-f", "-qq", "-o", told, *options, trial.program])
-        return (*found, files_in(folder)), told.read_text(errors="replace").splitlines()
+
+    def run_noted(folder, note):
+        return run_in(folder, ["strace", "-f", "-qq", "-o", note, *options, trial.program])
+
+    found, told = in_store(trial, files, run_noted)
+    return found, told.splitlines()
 
 
-def trace_case(trial, case, options):
+def trace_run(trial, run, options):
+    stream = trial.folder / "stream"
+    stream.write_bytes(run.stream)
+
     def run_in(folder, command):
-        stream = folder.with_name("stream")
-        stream.write_bytes(case.stream)
         with stream.open("rb") as feed:
-            done = subprocess.run([*command, *case.words.split()], cwd=folder, stdin=feed, capture_output=True, timeout=LIMIT)
+            done = subprocess.run([*command, *run.words.split()], cwd=folder, stdin=feed, capture_output=True, timeout=LIMIT)
         return done.returncode, done.stdout, done.stderr
 
-    return traced(trial, case.before(), options, run_in)
+    return traced(trial, run.before(), options, run_in)
 
 
-def want_failed(case, found, call, is_lost):
+def want_failed(run, found, call, is_lost):
     """
     A run of which a call failed ends as it is to, but that of its line a front may be written; or with a fault and its line, or with no
     line where that can't be written; or wasn't started.
     """
-    (wanted, due, line), (status, output, errors, files) = case.ending, found
-    if (status, output, files) == (wanted, due, case.after()) and (errors == line or call == "write" and line.startswith(errors)):
+    (wanted, due, line), (status, output, errors, files) = run.ending, found
+    is_told = errors == line or call == "write" and line.startswith(errors)
+    if (status, output, files) == (wanted, due, run.after()) and is_told:
         return
     if status == UNSTARTED and LOADER_LINE in errors:
-        want((output, files), (b"", case.before()), "a run that wasn't started")
+        want((output, files), (b"", run.before()), "a run that wasn't started")
         return
-    want_true(status in FAULTS and due.startswith(output), f"status {status}, {output!r}, {errors!r}")
-    want_true(errors == FAULTS[status] or not errors and is_lost and call == "write", f"status {status}, {errors!r}")
-    want_front(files, case.before(), case.put, max(is_lost, case.parts))
+    untold = [(fault, b"") for fault in FAULTS] if is_lost and call == "write" else []
+    run.want_front(found, [*FAULTS.items(), *untold], int(is_lost))
 
 
 def trace_served(trial, options):
@@ -237,9 +181,9 @@ def fails_each(title, run):
     print(f"{title}: {told}; runs by their status: {dict(sorted(statuses.items()))}", flush=True)
 
 
-def fails_each_of(trial, case):
-    trace = functools.partial(trace_case, trial, case)
-    return fails_each(case.title, Traced(TO_FILES, trace, (*case.ending, case.after()), functools.partial(want_failed, case)))
+def fails_each_of(trial, run):
+    trace = functools.partial(trace_run, trial, run)
+    return fails_each(run.title, Traced(TO_FILES, trace, (*run.ending, run.after()), functools.partial(want_failed, run)))
 
 
 def fails_each_served(trial):
@@ -255,8 +199,9 @@ def may_trace():
 
 def rows():
     yield "a served run", fails_each_served
-    for case in RUNS:
-        yield case.title, fails_each_of, case
+    for run in RUNS:
+        if run.title in TRACED:
+            yield run.title, fails_each_of, run
 
 
 if __name__ == "__main__":

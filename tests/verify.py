@@ -19,7 +19,7 @@ from model import (
     spell, verdict, voxels_in,
 )
 from model.breaks import DAMAGED_CELL, ascending
-from model.chance import damage_some, pick_box, pick_raw, pick_segmentation, pick_writes, with_numbers
+from model.chance import damage_some, pick_box, pick_volume, pick_writes, with_numbers
 from model.small import FAR, FIRST, INFO_PATH, NO_CHUNKS, NO_FOLDER, SECOND, WHOLE, changed, padded, shards, wide_info, with_info
 
 SHARD = "0.shard"
@@ -410,7 +410,7 @@ def judges_form(trial, block, sharding):
 def judges_random(trial, seed, is_raw, in_shards):
     """What boxes at random leave is sound; then some files are damaged. Where all is sound, a cutout isn't refused."""
     chance = random.Random(f"{seed} {is_raw} {in_shards}")
-    volume = (pick_raw if is_raw else pick_segmentation)(chance, in_shards)
+    volume = pick_volume(chance, is_raw, in_shards)
     boxes = [pick_box(chance, volume) for _ in range(3)]
     files = is_sound(trial, volume, pick_writes(chance, volume, chance.randint(0, 4)), boxes[:1])
     after = damage_some(chance, volume, files)

@@ -14,47 +14,29 @@ def pick_sharding(chance):
     return Sharding(preshift, chance.random() < 0.5, chance.randint(0, 3), chance.randint(0, 5))
 
 
-def pick_offset(chance):
-    return tuple(chance.choice([0, chance.randint(-9, 9), chance.randint(-9, 9)]) for _ in range(3))
-
-
-def pick_raw(chance, in_shards):
-    """A small scale of one to three long axes."""
-    long = chance.sample(range(3), chance.randint(1, 3))
-    size = [chance.randint(2, 9) if axis in long else 1 for axis in range(3)]
-    chunk = [chance.randint(1, 4) for _ in range(3)]
-    sharding = pick_sharding(chance) if in_shards else None
-    return Volume(size, chunk, pick_offset(chance), chance.randint(1, 3), chance.choice([1, 2, 4, 8]), None, sharding)
-
-
-def pick_segmentation(chance, in_shards):
-    """A small scale. One in four has blocks that are large enough for 16 bits an index."""
-    large = chance.random() < 0.25
-    size = [chance.randint(*((7, 12) if large else (1, 10))) for _ in range(3)]
-    chunk = [chance.randint(*((7, 9) if large else (1, 6))) for _ in range(3)]
-    block = tuple(chance.randint(7, 9) if large else chance.choice([1, 2, chance.randint(1, 8)]) for _ in range(3))
-    sharding = pick_sharding(chance) if in_shards else None
-    return Volume(size, chunk, pick_offset(chance), chance.randint(1, 3), chance.choice([4, 8]), block, sharding)
-
-
-def pick_layout(chance, volume, is_raw, in_shards):
-    """Another layout of a volume."""
-    large = chance.random() < 0.25
-    chunk = [chance.randint(*((4, 9) if large else (1, 6))) for _ in range(3)]
-    block = tuple(chance.randint(6, 9) if large else chance.choice([1, 2, chance.randint(1, 8)]) for _ in range(3))
+def pick_layout(chance, volume, is_large, is_raw, in_shards):
+    """A layout of a volume; a large one has blocks that are large enough for 16 bits an index."""
+    chunk = [chance.randint(*((7, 9) if is_large else (1, 6))) for _ in range(3)]
+    block = tuple(chance.randint(7, 9) if is_large else chance.choice([1, 2, chance.randint(1, 8)]) for _ in range(3))
     sharding = pick_sharding(chance) if in_shards else None
     return dataclasses.replace(volume, chunk=chunk, block=None if is_raw else block, sharding=sharding)
 
 
 def pick_layouts(chance, forms):
-    """Layouts of a volume, each raw or not, and in shards or not. No grid has over 400 cells."""
+    """Layouts of a small volume, each raw or not, and in shards or not. No grid has over 400 cells."""
     widths = [1, 2, 4, 8] if all(is_raw for is_raw, _ in forms) else [4, 8]
     while True:
-        size = [chance.randint(1, 11) for _ in range(3)]
-        plain = Volume(size, [1, 1, 1], pick_offset(chance), chance.randint(1, 3), chance.choice(widths))
-        volumes = [pick_layout(chance, plain, *form) for form in forms]
+        is_large = chance.random() < 0.25
+        size = [chance.randint(7, 12) if is_large else chance.choice([1, *chance.sample(range(1, 11), 3)]) for _ in range(3)]
+        offset = tuple(chance.choice([0, chance.randint(-9, 9), chance.randint(-9, 9)]) for _ in range(3))
+        plain = Volume(size, [1, 1, 1], offset, chance.randint(1, 3), chance.choice(widths))
+        volumes = [pick_layout(chance, plain, is_large, *form) for form in forms]
         if all(math.prod(volume.grid) <= 400 for volume in volumes):
             return volumes
+
+
+def pick_volume(chance, is_raw, in_shards):
+    return pick_layouts(chance, [(is_raw, in_shards)])[0]
 
 
 # Boxes and values
