@@ -10,11 +10,10 @@ import gzip
 import http.server
 import importlib.util
 import json
-import subprocess
 import sys
 import threading
 
-from harness import LIMIT, ROOT, main, want, want_files, want_true
+from harness import ROOT, call, main, want, want_files, want_true
 
 SCRIPT = ROOT / "examples" / "fetch.py"
 BOX = "[0:4,0:4,0:1]"
@@ -90,9 +89,7 @@ def holding():
 
 def fetch(trial, server, *words):
     link = f"http://127.0.0.1:{server.server_port}/v"
-    command = [sys.executable, SCRIPT, link, "d", *words]
-    done = subprocess.run(command, cwd=trial.folder, capture_output=True, timeout=LIMIT, stdin=subprocess.DEVNULL)
-    return done.returncode, done.stdout.decode(), done.stderr.decode()
+    return call([sys.executable, SCRIPT, link, "d", *words], trial.folder)
 
 
 def copies_all(trial, server, line):

@@ -19,7 +19,6 @@ import traceback
 
 from model import infos_of, printed, spell, stored, stream_of
 
-
 ROOT = pathlib.Path(__file__).resolve().parent.parent
 PROGRAM = ROOT / "crates" / "vol_tool" / "out" / "vol_tool"
 
@@ -151,6 +150,13 @@ def memory_limit(count):
 # Runs
 
 
+def call(command, folder, **environment):
+    """What a command ends with that reads nothing: its status, its output and its standard error, as texts."""
+    variables = {**os.environ, **environment}
+    done = subprocess.run(command, cwd=folder, capture_output=True, timeout=LIMIT, stdin=subprocess.DEVNULL, env=variables)
+    return done.returncode, done.stdout.decode(), done.stderr.decode()
+
+
 def words_in(text):
     return text.split() if isinstance(text, str) else text
 
@@ -230,7 +236,7 @@ def answers(trial, files, words, wanted, feed=b"", **how):
 def judge(program, title, judge_row, *arguments):
     """The titles of a row, or of the rows that it goes through, each with what is wrong or None."""
     told = []
-    with tempfile.TemporaryDirectory() as name:
+    with tempfile.TemporaryDirectory(ignore_cleanup_errors=True) as name:
         try:
             found = judge_row(Trial(program, pathlib.Path(name).resolve()), *arguments)
             if found is None:

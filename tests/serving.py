@@ -16,8 +16,8 @@ import struct
 import subprocess
 import time
 
-from harness import LIMIT, PIPE, Wrong, main, open_full, want, want_true
-from model import along, info_of, printed, refused, stored, stream_of
+from harness import LIMIT, PIPE, Wrong, call, main, open_full, want, want_true
+from model import along, info_of, refused, stored, stream_of
 from model.replies import (
     ABSENT, BAD, FAILED, MOST_HEAD, MOST_NAME, MOST_REQUESTS, NOT_ALLOWED, SILENCE, ask, closing, head_of, no_part_of, part_of,
     whole_of,
@@ -342,8 +342,8 @@ def serves_curl(trial):
         return
     with serving(trial, 1) as port:
         url = f"http://127.0.0.1:{port}/s/x"
-        done = subprocess.run([curl, "-sS", "-r", "2-4", url, "--next", "-sS", url], capture_output=True, timeout=LIMIT)
-        want((done.returncode, done.stdout, done.stderr), printed(b"234" + OBJECT), "curl")
+        found = call([curl, "-sS", "-r", "2-4", url, "--next", "-sS", url], trial.folder)
+        want(found, (0, f"234{OBJECT.decode()}", ""), "curl")
 
 
 def ends_where_it_is_stopped(trial):

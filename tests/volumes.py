@@ -8,13 +8,11 @@ The arrays are files as numpy.save writes them, of every type, in both orders of
 import dataclasses
 import itertools
 import json
-import os
 import random
-import subprocess
 import sys
 
 from arrays import in_order, load, save
-from harness import LIMIT, ROOT, main, want, want_true
+from harness import ROOT, call, main, want, want_true
 from model import REQUEST, spell
 
 SCRIPT = ROOT / "examples" / "volume.py"
@@ -30,11 +28,7 @@ class Folder:
         return self.trial.folder / name
 
     def call_as_it_is(self, *words, program=None):
-        done = subprocess.run(
-            [sys.executable, SCRIPT, *words], cwd=self.trial.folder, capture_output=True, timeout=LIMIT, stdin=subprocess.DEVNULL,
-            env={**os.environ, "VOL_TOOL": str(program or self.trial.program)},
-        )
-        return done.returncode, done.stdout.decode(), done.stderr.decode()
+        return call([sys.executable, SCRIPT, *words], self.trial.folder, VOL_TOOL=str(program or self.trial.program))
 
     def call(self, *words, program=None):
         """What a call ends with. One of `put` that names no lengths of a voxel gets some."""

@@ -11,7 +11,7 @@ import pathlib
 import shutil
 import subprocess
 
-from harness import LIMIT, ROOT, main, want, want_true
+from harness import LIMIT, ROOT, call, main, want, want_true
 
 # A program that tells its arguments and its folder, and ends with status 3; and one that ends with the status in the file beside it.
 TELLS = '#!/bin/sh\necho "{name}:$*"\npwd\nexit 3\n'
@@ -79,12 +79,9 @@ class Tree:
     def call(self, *words):
         """What bin/vol_tool says with some words, and how often a build was called for."""
         calls = self.folder / "calls"
-        done = subprocess.run(
-            [self.folder / "bin/vol_tool", *words], cwd=self.folder / "tools", capture_output=True, timeout=LIMIT,
-            stdin=subprocess.DEVNULL, env={**os.environ, "PATH": f"{self.folder / 'tools'}:{os.environ['PATH']}", "CALLS": str(calls)},
-        )
-        count = len(calls.read_text().splitlines()) if calls.exists() else 0
-        return done.returncode, done.stdout.decode(), count
+        path = f"{self.folder / 'tools'}:{os.environ['PATH']}"
+        status, out, _ = call([self.folder / "bin/vol_tool", *words], self.folder / "tools", PATH=path, CALLS=str(calls))
+        return status, out, len(calls.read_text().splitlines()) if calls.exists() else 0
 
     def call_on_terminal(self, words):
         """The status, and what a terminal shows of the error output."""
@@ -164,11 +161,11 @@ def helps_on_a_terminal(trial):
 def installs(trial):
     Tree(trial.folder / "tree", FAILS, TELLS.format(name="ours"))
     prefix = trial.folder / "prefix"
-    done = subprocess.run([trial.folder / "tree/install", prefix], capture_output=True, timeout=LIMIT, stdin=subprocess.DEVNULL)
-    want_true(done.returncode == 0 and f"{prefix}/bin isn't in PATH" in done.stdout.decode(), f"install: {done}")
+    status, out, errors = call([trial.folder / "tree/install", prefix], trial.folder)
+    want_true(status == 0 and f"{prefix}/bin isn't in PATH" in out, f"install: {status} {out!r} {errors!r}")
     shutil.rmtree(trial.folder / "tree")
-    done = subprocess.run([prefix / "bin/vol_tool", "a", "b  c"], cwd=trial.folder, capture_output=True, timeout=LIMIT)
-    want((done.returncode, done.stdout.decode()), (3, f"ours:a b  c\n{trial.folder}\n"), "installed")
+    found = call([prefix / "bin/vol_tool", "a", "b  c"], trial.folder)
+    want(found[:2], (3, f"ours:a b  c\n{trial.folder}\n"), "installed")
     for name in ("bin/volume.py", "bin/fetch.py", "share/doc/vol_tool/guide.md"):
         want_true((prefix / name).is_file(), f"{name} is missing")
 
@@ -183,9 +180,7 @@ def runs_the_demo(trial):
     tree.program.touch()
     first = [line_of(x + 10 * y + 60 * z for x in range(4)) for z in range(4) for y in range(4)]
     second = [line_of(int(value) * scale for value in row) for scale in (1, 10) for row in ROWS]
-    done = subprocess.run([trial.folder / "demo"], cwd=trial.folder, capture_output=True, timeout=LIMIT, stdin=subprocess.DEVNULL)
-    found = done.returncode, done.stdout.decode(), done.stderr.decode()
-    want(found, (0, DEMO.format(first="\n".join(first), second="\n".join(second)), ""))
+    want(call([trial.folder / "demo"], trial.folder), (0, DEMO.format(first="\n".join(first), second="\n".join(second)), ""))
 
 
 def rows():
