@@ -17,7 +17,7 @@ import sys
 import tempfile
 import traceback
 
-from model import infos_of, printed, spell, stored, stream_of
+from model import cutout, infos_of, printed, spell, stored, stream_of
 
 ROOT = pathlib.Path(__file__).resolve().parent.parent
 PROGRAM = ROOT / "crates" / "vol_tool" / "out" / "vol_tool"
@@ -217,6 +217,17 @@ class Trial:
         self.want(volume.words("write", *options), stored(len(files), len(chunks)), stream_of(writes))
         want_files(self.files(), files)
         return files
+
+    def store(self, volume, chunks):
+        """Puts a scale's info and its chunks. Gives the files."""
+        files = volume.files(chunks)
+        self.lay_out({**infos_of(volume), **files})
+        return files
+
+    def want_cuts(self, volume, files, boxes):
+        """Cutouts of boxes are what a scale's files give, or their fault."""
+        for box in boxes:
+            self.want(volume.words("cutout", spell(box)), cutout(volume, files, box))
 
     def want_values(self, volume, values, boxes):
         """Cutouts of boxes have these values."""

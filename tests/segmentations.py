@@ -25,19 +25,6 @@ def pick_scale(chance):
     return pick_volume(chance, is_raw=False, in_shards=chance.random() < 2 / 3)
 
 
-def store(trial, volume, chunks):
-    """The info of a scale and its chunks; gives their files."""
-    files = volume.files(chunks)
-    trial.lay_out({**infos_of(volume), **files})
-    return files
-
-
-def want_cuts(trial, volume, files, boxes):
-    """Cutouts of boxes are what the files give."""
-    for box in boxes:
-        trial.want(volume.words("cutout", spell(box)), cutout(volume, files, box))
-
-
 def is_written(trial, seed):
     """Overlapping boxes leave the chunks or the shards that are due, and the scale and boxes of it read back."""
     chance = random.Random(f"writes {seed}")
@@ -59,8 +46,8 @@ def pick_spelled(chance, volume):
 def is_read(trial, seed):
     chance = random.Random(f"read {seed}")
     volume = pick_scale(chance)
-    files = store(trial, volume, pick_spelled(chance, volume))
-    want_cuts(trial, volume, files, pick_boxes(chance, volume))
+    files = trial.store(volume, pick_spelled(chance, volume))
+    trial.want_cuts(volume, files, pick_boxes(chance, volume))
 
 
 def is_damaged(trial, seed):
@@ -70,9 +57,9 @@ def is_damaged(trial, seed):
     chunks = pick_spelled(chance, volume)
     for cell in chance.sample(sorted(chunks), min(len(chunks), 3)):
         chunks[cell] = damage_chunk(chance, volume.shape(cell), chunks[cell])
-    files = store(trial, volume, chunks)
+    files = trial.store(volume, chunks)
     cells = chance.sample(sorted(chunks), min(len(chunks), 8))
-    want_cuts(trial, volume, files, [volume.whole, *map(volume.box_of, cells)])
+    trial.want_cuts(volume, files, [volume.whole, *map(volume.box_of, cells)])
 
 
 # Three cells, of which the second is damaged.
@@ -80,20 +67,20 @@ def is_damaged(trial, seed):
 
 def refuses_cell(trial, volume, chunk, line):
     """Cutouts that meet the damaged cell are refused, and one of the last cell is served."""
-    files = store(trial, volume, {**ascending(volume), DAMAGED_CELL: chunk})
+    files = trial.store(volume, {**ascending(volume), DAMAGED_CELL: chunk})
     told = refused(damaged(DAMAGED_CELL, line))
     x, y, z = volume.box_of(DAMAGED_CELL)
     for box in (volume.whole, [(x[0], x[0] + 1), (y[1] - 1, y[1]), (z[1] - 1, z[1])]):
         want_ending(cutout(volume, files, box), told, "the model")
         trial.want(volume.words("cutout", spell(box)), told)
-    want_cuts(trial, volume, files, [volume.box_of((2, 0, 0))])
+    trial.want_cuts(volume, files, [volume.box_of((2, 0, 0))])
 
 
 def takes_longest(trial, volume):
     """A chunk with words behind it that nothing refers to, as long as a chunk may be, is served."""
     chunks = ascending(volume)
-    store(trial, volume, {**chunks, DAMAGED_CELL: chunks[DAMAGED_CELL].ljust(volume.limit(DAMAGED_CELL), b"\xff")})
-    want_cuts(trial, volume, volume.files(chunks), [volume.whole])
+    trial.store(volume, {**chunks, DAMAGED_CELL: chunks[DAMAGED_CELL].ljust(volume.limit(DAMAGED_CELL), b"\xff")})
+    trial.want_cuts(volume, volume.files(chunks), [volume.whole])
 
 
 CLIPPED_CELL = (2, 0, 0)
@@ -104,10 +91,10 @@ def takes_clipped(trial, volume, more):
     chunks, limit = ascending(volume), volume.limit(CLIPPED_CELL)
     if limit >= volume.limit(DAMAGED_CELL):
         raise Wrong("the cell isn't clipped")
-    store(trial, volume, {**chunks, CLIPPED_CELL: chunks[CLIPPED_CELL].ljust(limit + more, b"\xff")})
+    trial.store(volume, {**chunks, CLIPPED_CELL: chunks[CLIPPED_CELL].ljust(limit + more, b"\xff")})
     box = volume.box_of(CLIPPED_CELL)
     if more == 0:
-        want_cuts(trial, volume, volume.files(chunks), [box])
+        trial.want_cuts(volume, volume.files(chunks), [box])
     else:
         line = damaged(CLIPPED_CELL, breaks.too_long(volume, limit, limit + more))
         trial.want(volume.words("cutout", spell(box)), refused(line))
@@ -125,11 +112,11 @@ SHORT = [
 
 def takes_short(trial, sharding, channels, width, words, value):
     volume = Volume([3, 2, 2], [3, 2, 2], (0, 0, 0), channels, width, (3, 3, 3), sharding)
-    files = store(trial, volume, {(0, 0, 0): bytes_of(words)})
+    files = trial.store(volume, {(0, 0, 0): bytes_of(words)})
     for box in (volume.whole, *corners(volume.whole)):
         values = value.to_bytes(width, "little") * voxels_in(box) * channels
         trial.want(volume.words("cutout", spell(box)), printed(values))
-    want_cuts(trial, volume, files, [volume.whole])
+    trial.want_cuts(volume, files, [volume.whole])
 
 
 # The largest chunks that are written: 2^22 blocks of one voxel.

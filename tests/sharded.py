@@ -9,15 +9,8 @@ import random
 import struct
 
 from harness import main
-from model import Sharding, Values, Volume, along, cutout, infos_of, printed, refused, spell
+from model import Sharding, Values, Volume, along, infos_of, printed, refused, spell
 from model.chance import pick_box, pick_chunks, pick_volume, pick_writes, with_numbers
-
-
-def lay_out(trial, volume, chunks):
-    """The info of a scale and its chunks; gives their files."""
-    files = volume.files(chunks)
-    trial.lay_out({**infos_of(volume), **files})
-    return files
 
 
 def boxes_of(chance, volume):
@@ -30,7 +23,7 @@ def reads_scale(trial, seed):
     chance = random.Random(f"scale {seed}")
     volume = pick_volume(chance, is_raw=True, in_shards=True)
     chunks = pick_chunks(chance, volume, lambda cell, raw: raw)
-    lay_out(trial, volume, chunks)
+    trial.store(volume, chunks)
     values = Values(volume, [(volume.box_of(cell), raw) for cell, raw in chunks.items()])
     trial.want_values(volume, values, boxes_of(chance, volume))
 
@@ -63,10 +56,9 @@ def damage(chance, shard):
 def reads_damaged(trial, seed):
     """A damaged shard, cell by cell and as a whole."""
     chance = random.Random(f"damaged {seed}")
-    files = {path: damage(chance, shard) for path, shard in lay_out(trial, SIX, SIX_CHUNKS).items()}
+    files = {path: damage(chance, shard) for path, shard in trial.store(SIX, SIX_CHUNKS).items()}
     trial.lay_out(files)
-    for box in [SIX.whole, *map(SIX.box_of, SIX.cells)]:
-        trial.want(SIX.words("cutout", spell(box)), cutout(SIX, files, box))
+    trial.want_cuts(SIX, files, [SIX.whole, *map(SIX.box_of, SIX.cells)])
 
 
 # Two voxels, each a cell.
@@ -97,7 +89,7 @@ ROWS = [
 
 def reads_row(trial, sharding, numbers, length, box, wanted):
     volume = Volume([2, 1, 1], [1, 1, 1], sharding=sharding)
-    files = lay_out(trial, volume, {(0, 0, 0): b"\n", (1, 0, 0): b"\v"})
+    files = trial.store(volume, {(0, 0, 0): b"\n", (1, 0, 0): b"\v"})
     first = min(files)
     trial.lay_out({first: with_numbers(files[first], numbers)[:length]})
     trial.want(volume.words("cutout", spell(along(*box))), refused(wanted) if isinstance(wanted, str) else printed(wanted))
@@ -115,7 +107,7 @@ def reads_many_rows(trial):
     """A minishard of more rows than a window of an index, whole and around the windows' ends."""
     volume = Volume([2500, 1, 1], [1, 1, 1], sharding=Sharding(preshift=64))
     chunks = {(number, 0, 0): bytes([number % 251]) for number in range(2500) if number % 7 != 3}
-    lay_out(trial, volume, chunks)
+    trial.store(volume, chunks)
     values = Values(volume, [(volume.box_of(cell), chunk) for cell, chunk in chunks.items()])
     trial.want_values(volume, values, [along(0, 2500), along(1190, 1200), along(2499, 2500)])
 

@@ -261,8 +261,7 @@ IN_SHARDS = [
 
 def tells_cell(trial, volume, chunk, line):
     """The whole scale and the damaged cell are told, and the cell behind it is sound."""
-    files = volume.files({**ascending(volume), DAMAGED_CELL: chunk})
-    trial.lay_out({**infos_of(volume), **files})
+    files = trial.store(volume, {**ascending(volume), DAMAGED_CELL: chunk})
     for box in (None, volume.box_of(DAMAGED_CELL)):
         want_ending(verdict(volume, files, box), refused(damaged(DAMAGED_CELL, line)), "the model")
         trial.want_unchanged(call(box), refused(damaged(DAMAGED_CELL, line)))
@@ -273,7 +272,8 @@ def takes_longest(trial, volume):
     """A chunk with bytes behind it that nothing refers to, as long as a chunk may be, is sound."""
     chunks = ascending(volume)
     chunks[DAMAGED_CELL] = chunks[DAMAGED_CELL].ljust(volume.limit(DAMAGED_CELL), b"\xff")
-    answers(trial, {**infos_of(volume), **volume.files(chunks)}, call(), sound(3, 3))
+    trial.store(volume, chunks)
+    trial.want_unchanged(call(), sound(3, 3))
 
 
 # title, what breaks the chunk, each in a channel, in its last block or its first; the last one's line is told
