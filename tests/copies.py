@@ -281,7 +281,8 @@ def copies_random(trial, seed, forms):
     if chance.random() < 0.2:
 
         def spell_otherwise(cell, raw):
-            return raw if source.block is None else spell_loosely(chance, source.shape(cell), raw)
+            loose = raw if source.block is None else spell_loosely(chance, source.shape(cell), raw)
+            return loose if len(loose) <= source.limit(cell) else source.spell(cell, raw)
 
         chunks = pick_chunks(chance, source, spell_otherwise, labelled(volumes))
         trial.lay_out({**infos_of(source, target), **source.files(chunks)})
