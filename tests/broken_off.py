@@ -65,9 +65,9 @@ class Work:
         self.due = volume.files(volume.chunks_after(writes()))
         self.base = trial.folder / "base"
         self.base.mkdir()
-        (self.base / "stream").write_bytes(stream_of(writes()))
         if words.startswith("reshard"):
             dataclasses.replace(trial, folder=self.base).write(SOURCE, writes())
+        (self.base / "stream").write_bytes(stream_of(writes()))
 
     def prepare(self, folder):
         """The scale without a chunk, and beside it the data set that is copied."""
