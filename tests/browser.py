@@ -11,6 +11,8 @@ import signal
 import tempfile
 import time
 
+from harness import Wrong
+
 NAMES = ("chromium", "chromium-browser", "google-chrome")
 OPTIONS = (
     "--headless=new", "--remote-debugging-pipe", "--no-sandbox", "--disable-gpu", "--disable-dev-shm-usage", "--hide-scrollbars",
@@ -23,10 +25,6 @@ PATIENCE = 40
 
 # The descriptors at which the browser reads messages and writes them.
 ITS_INPUT, ITS_OUTPUT = 3, 4
-
-
-class Wrong(Exception):
-    """What the browser says is wrong, or that it doesn't answer."""
 
 
 def begin(words):

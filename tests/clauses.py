@@ -15,11 +15,10 @@ It reads README.md, docs/, tests/ and crates/, and runs nothing. Checked are
 The last line is 'N passed, N failed', and the status is 1 where a name failed.
 """
 import collections
-import pathlib
 import re
-import sys
 
-ROOT = pathlib.Path(__file__).resolve().parent.parent
+from harness import ROOT, main, want_true
+
 CRATES = ROOT / "crates"
 
 BLOCK = re.compile(r"^(?:impl(?:<.*?>)? (?:(\w+)(?:<.*>)? for )?(\w+)|(?:pub(?:\(\w+\))? )?(?:trait|struct|enum|const) (\w+))")
@@ -207,7 +206,7 @@ def words_of_code():
     for path in [*CRATES.glob("*/src/**/*.rt"), *CRATES.glob("*/specs/*.antt"), *CRATES.glob("*/proofs/*.antt")]:
         found |= {path.stem, *re.findall(r"\w+", path.read_text())}
     found |= {path.stem for path in CRATES.glob("*/must-fail/*.edit")}
-    for folder in ("tests", "bin", "examples"):
+    for folder in ("tests", "tests/model", "bin", "examples"):
         for path in (ROOT / folder).iterdir():
             if path.is_file() and path.suffix != ".md":
                 found |= {path.name, path.stem, *re.findall(r"\w+", path.read_text())}
@@ -261,16 +260,14 @@ def judge_all():
     yield from judge_names()
 
 
-def main():
-    passed = failed = 0
+def tells(_trial, wrong):
+    want_true(not wrong, "; ".join(wrong))
+
+
+def rows():
     for title, wrong in judge_all():
-        passed += not wrong
-        failed += bool(wrong)
-        for why in wrong:
-            print(f"{title}: {why}")
-    print(f"{passed} passed, {failed} failed")
-    return 1 if failed or not passed else 0
+        yield title, tells, wrong
 
 
 if __name__ == "__main__":
-    sys.exit(main())
+    main(rows, jobs=1, needs_program=False)

@@ -1,33 +1,26 @@
 #!/usr/bin/env python3
-"""Tries examples/fetch.py against a server of its own on the loopback address: what comes with gzip, fails once, breaks off, or isn't
-there; several connections; and a copy that goes on where it broke off.
+"""Tries examples/fetch.py against a server of its own on the loopback address.
 
     tests/fetching.py
 
-The last line is 'N passed, N failed', and the status is 1 where a case failed.
+What is asked for comes with gzip, fails once, breaks off, or isn't there; over several connections; and a copy goes on where it broke
+off.
 """
 import gzip
 import http.server
 import importlib.util
 import json
-import pathlib
-import subprocess
 import sys
-import tempfile
 import threading
 
-from program import LIMIT, ROOT
+from harness import ROOT, call, main, want, want_files, want_true
 
 SCRIPT = ROOT / "examples" / "fetch.py"
 BOX = "[0:4,0:4,0:1]"
 SCALE = {"key": "s", "size": [4, 4, 1], "chunk_sizes": [[2, 2, 1]], "resolution": [1, 1, 1], "encoding": "raw"}
 INFO = json.dumps({"type": "image", "data_type": "uint8", "num_channels": 1, "scales": [SCALE]}).encode()
-CHUNKS = {
-    "/v/s/0-2_0-2_0-1": bytes([1, 2, 3, 4]),
-    "/v/s/2-4_0-2_0-1": bytes([5, 6, 7, 8]),
-    "/v/s/0-2_2-4_0-1": bytes([9, 10, 11, 12]),
-}
-ABSENT = "/v/s/2-4_2-4_0-1"
+FIRST = "/v/s/0-2_0-2_0-1"
+CHUNKS = {FIRST: bytes([1, 2, 3, 4]), "/v/s/2-4_0-2_0-1": bytes([5, 6, 7, 8]), "/v/s/0-2_2-4_0-1": bytes([9, 10, 11, 12])}
 
 
 class Peer(http.server.BaseHTTPRequestHandler):
@@ -94,88 +87,74 @@ def holding():
     return behave
 
 
-def fetch(server, folder, *words):
+def fetch(trial, server, *words):
     link = f"http://127.0.0.1:{server.server_port}/v"
-    done = subprocess.run([sys.executable, SCRIPT, link, "d", *words], cwd=folder, capture_output=True, timeout=LIMIT, stdin=subprocess.DEVNULL)
-    return done.returncode, done.stdout.decode(), done.stderr.decode()
+    return call([sys.executable, SCRIPT, link, "d", *words], trial.folder)
 
 
-def has_all(folder):
-    return all((folder / "d" / path.removeprefix("/v/")).read_bytes() == values for path, values in CHUNKS.items())
+def copies_all(trial, server, line):
+    """All chunks are copied."""
+    want(fetch(trial, server, "s", BOX), (0, f"{line}\n", ""))
+    want_files(trial.files(), {f"d/{path[3:]}": values for path, values in CHUNKS.items()})
 
 
-def copies(server, folder):
-    if fetch(server, folder)[0] != 0:
-        return "no info"
-    found = fetch(server, folder, "s", BOX)
-    if found != (0, "copied 3 absent 1\n", ""):
-        return f"{found}"
-    return None if has_all(folder) else "other values"
+def copies(trial, server):
+    want(fetch(trial, server)[0], 0, "the status of the info")
+    copies_all(trial, server, "copied 3 absent 1")
 
 
-def goes_on(server, folder):
-    fetch(server, folder)
-    first = folder / "d/s/0-2_0-2_0-1"
-    first.parent.mkdir()
-    first.write_bytes(CHUNKS["/v/s/0-2_0-2_0-1"])
-    found = fetch(server, folder, "s", BOX)
-    if found != (0, "copied 2 absent 1 kept 1\n", "") or not has_all(folder):
-        return f"{found}"
-    return "a chunk that was there is asked for" if "/v/s/0-2_0-2_0-1" in server.asked else None
+def goes_on(trial, server):
+    fetch(trial, server)
+    trial.lay_out({"d/s/0-2_0-2_0-1": CHUNKS[FIRST]})
+    copies_all(trial, server, "copied 2 absent 1 kept 1")
+    want_true(FIRST not in server.asked, "a chunk that was there is asked for")
 
 
-def refuses(server, folder):
-    fetch(server, folder)
-    status, out, err = fetch(server, folder, "s", BOX)
-    if (status, out) != (1, "") or not err.startswith("fetch.py: "):
-        return f"{status} {out!r} {err!r}"
-    twice = [path for path in server.asked if server.asked.count(path) > 1]
-    return f"asked for again: {twice}" if twice else None
+def refuses(trial, server):
+    fetch(trial, server)
+    status, out, errors = fetch(trial, server, "s", BOX)
+    want_true((status, out) == (1, "") and errors.startswith("fetch.py: "), f"{status} {out!r} {errors!r}")
+    want([path for path in server.asked if server.asked.count(path) > 1], [], "what is asked for again")
 
 
-def reads_links(_server, _folder):
+LINKS = {
+    "gs://b/v/": "https://storage.googleapis.com/b/v",
+    "precomputed://gs://b/v": "https://storage.googleapis.com/b/v",
+    "precomputed://https://a/v": "https://a/v",
+    "http://a/v/": "http://a/v",
+}
+
+
+def reads_links(_trial, _server):
     spec = importlib.util.spec_from_file_location("fetch", SCRIPT)
     script = importlib.util.module_from_spec(spec)
     spec.loader.exec_module(script)
-    found = [script.address_of(link) for link in ("gs://b/v/", "precomputed://gs://b/v", "precomputed://https://a/v", "http://a/v/")]
-    wanted = ["https://storage.googleapis.com/b/v", "https://storage.googleapis.com/b/v", "https://a/v", "http://a/v"]
-    return None if found == wanted else f"{found}"
+    want({link: script.address_of(link) for link in LINKS}, LINKS)
 
 
-CASES = [
-    ("chunks as they are", plainly, copies),
-    ("chunks with gzip", by_gzip, copies),
-    ("a busy server, and one that breaks off", failing_once, copies),
-    ("several connections", holding(), copies),
-    ("a copy that broke off", plainly, goes_on),
-    ("another coding", by_another_coding, refuses),
-    ("a request that is refused", refusing, refuses),
-    ("links", plainly, reads_links),
-]
-
-
-def judge(behave, case):
+def with_server(trial, behave, case):
     server = http.server.ThreadingHTTPServer(("127.0.0.1", 0), Peer)
     server.lock, server.asked, server.behave = threading.Lock(), [], behave
     threading.Thread(target=server.serve_forever, daemon=True).start()
     try:
-        with tempfile.TemporaryDirectory() as folder:
-            return case(server, pathlib.Path(folder))
+        case(trial, server)
     finally:
         server.shutdown()
         server.server_close()
 
 
-def main():
-    failed = 0
-    for title, behave, case in CASES:
-        wrong = judge(behave, case)
-        if wrong is not None:
-            failed += 1
-            print(f"{title}: {wrong}")
-    print(f"{len(CASES) - failed} passed, {failed} failed")
-    return 1 if failed else 0
+def rows():
+    return [
+        ("chunks as they are", with_server, plainly, copies),
+        ("chunks with gzip", with_server, by_gzip, copies),
+        ("a busy server, and one that breaks off", with_server, failing_once, copies),
+        ("several connections", with_server, holding(), copies),
+        ("a copy that broke off", with_server, plainly, goes_on),
+        ("another coding", with_server, by_another_coding, refuses),
+        ("a request that is refused", with_server, refusing, refuses),
+        ("links", with_server, plainly, reads_links),
+    ]
 
 
 if __name__ == "__main__":
-    sys.exit(main())
+    main(rows, needs_program=False)

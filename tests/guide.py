@@ -13,17 +13,14 @@ The last line is 'N passed, N failed', and the status is 1 where a line of the R
 import array
 import importlib.util
 import os
-import pathlib
 import re
 import shlex
 import signal
 import socket
-import struct
 import subprocess
-import sys
-import tempfile
 
-from program import LIMIT, ROOT, shorten, tell_all
+from arrays import save
+from harness import LIMIT, ROOT, main, shorten
 
 GUIDE = ROOT / "docs" / "guide.md"
 BLOCK = re.compile(r"^```(\w+)\n(.*?)^```$", re.MULTILINE | re.DOTALL)
@@ -36,13 +33,10 @@ MARK = "-- block {}"
 WAIT = r"until (exec 9<>/dev/tcp/127.0.0.1/{} && printf 'GET / HTTP/1.0\r\n\r\n' >&9 && read -r _ <&9) 2>/dev/null; do sleep 0.1; done"
 
 
-def save(path, descr, code, shape, value_of):
-    """An array as numpy.save writes it."""
+def save_values(path, descr, code, shape, value_of):
     z, y, x = shape
     values = array.array(code, (value_of(i, j, k) for k in range(z) for j in range(y) for i in range(x)))
-    text = repr({"descr": descr, "fortran_order": False, "shape": shape})
-    text += " " * (-(len(text) + 11) % 64) + "\n"
-    path.write_bytes(b"\x93NUMPY\x01\x00" + struct.pack("<H", len(text)) + text.encode() + values.tobytes())
+    save(path, descr, shape, values.tobytes())
 
 
 def free_ports(count):
@@ -99,8 +93,8 @@ def prepare(home, program):
     """A home with the arrays that the guide begins with, and the program under its name."""
     volumes = home / "volumes"
     volumes.mkdir()
-    save(volumes / "image.npy", "<u2", "H", (64, 128, 128), lambda x, y, z: (x + 3 * y + 7 * z) % 60000)
-    save(volumes / "labels.npy", "<u4", "I", (64, 128, 128), lambda x, y, z: x // 20 + 100 * (y // 30) + 70000 * (z // 9))
+    save_values(volumes / "image.npy", "<u2", "H", (64, 128, 128), lambda x, y, z: (x + 3 * y + 7 * z) % 60000)
+    save_values(volumes / "labels.npy", "<u4", "I", (64, 128, 128), lambda x, y, z: x // 20 + 100 * (y // 30) + 70000 * (z // 9))
     (home / "bin").mkdir()
     (home / "bin" / "vol_tool").symlink_to(program)
 
@@ -136,13 +130,11 @@ def judge_readme():
         yield f"README: {words}", None if any(one.startswith(words) for one in known) else "it isn't in the guide"
 
 
-def judge_all(program):
+def judge_all(trial):
     yield from judge_readme()
     blocks = read_guide()
-    with tempfile.TemporaryDirectory() as folder:
-        home = pathlib.Path(folder)
-        prepare(home, program)
-        status, out, err = run_guide(program, home, blocks)
+    prepare(trial.folder, trial.program)
+    status, out, err = run_guide(trial.program, trial.folder, blocks)
     outputs = re.split(r"^-- block \d+\n", out, flags=re.MULTILINE)[1:]
     for number, (language, text, wanted) in enumerate(blocks):
         title = f"{language}: {text.splitlines()[0]}"
@@ -153,5 +145,9 @@ def judge_all(program):
         yield title, None if is_due else f"it prints {shorten(outputs[number])} wanted {shorten(wanted)}"
 
 
+def rows():
+    yield "the guide", judge_all
+
+
 if __name__ == "__main__":
-    sys.exit(tell_all(judge_all))
+    main(rows)

@@ -3,146 +3,110 @@
 
     tests/limits.py [PROGRAM]
 
-PROGRAM is crates/vol_tool/out/vol_tool if it is left out. Each case has a temporary folder of its own, in which the program
-runs; the largest writes 1 GiB there. The status, the output or its length, and the line on standard error are compared. The
-last line is 'N passed, N failed', and the status is 1 where a case failed.
+The largest row writes 1 GiB into its folder. The status, the output or its length, and the line on standard error are compared.
 """
-import pathlib
 import subprocess
-import sys
 import tempfile
 
-from program import INFO, OK, REQUEST, SEGMENTED, SHARDING, box_of, compare, head_of, info_of, run, stream_of, tell_all
+from harness import main
+from model import SEGMENTED, SHARDING, box_in, bytes_of, head_of, info_of, printed, refused, stored, stream_of
+from model.small import shards
 
-# The most cells that a box or a grid of a copy may have, the most pairs of a write and a cell, and the most bytes of a cutout or
-# of the values of a stream.
+# The most cells that a box or a grid of a copy may have, the most pairs of a write and a cell, and the most bytes of a cutout or of
+# the values of a stream.
 CELLS = 2**22
 PAIRS = 2**22
 BYTES = 2**30
 
-# 1,321 x 793 x 1,025 is one more.
-ONE_MORE = [1321, 793, 1025]
-
-CUBE = [1024, 1024, 1024]
-SLAB = [1024, 1024, 128]
+CUBE = info_of([1024, 1024, 1024], [1024, 1024, 128])
 
 
-def put(folder, name, content):
-    path = folder / name
-    path.parent.mkdir(parents=True, exist_ok=True)
-    path.write_bytes(content)
+def line_of(cells, chunk=1, **scale):
+    """A line of so many cells, in shards."""
+    return info_of([cells, 1, 1], [chunk, 1, 1], None, **{"sharding": SHARDING, **scale})
 
 
-def row_of(cells, **scale):
-    """A row of so many cells of one voxel each."""
-    return info_of([cells, 1, 1], [1, 1, 1], None, {"sharding": SHARDING, **scale})
+def wide(chunk):
+    """As large as a scale in shards can be."""
+    return info_of([2**40] * 3, [chunk, 1, 1], None, sharding=SHARDING)
 
 
-def box_text(size):
-    return "[" + ",".join(f"0:{count}" for count in size) + "]"
+def pairs(first, others):
+    """A stream of writes of so many voxels of a line: the first one's, and those of the 65,535 others."""
+    writes = [bytes_of([0, 0, 0], [length, 1, 1]) + bytes(range(1, length + 1)) for length in (first, others)]
+    return head_of(65536) + writes[0] + 65535 * writes[1]
 
 
-def run_in(program, infos, words, feed=b"", output=subprocess.PIPE):
-    """What a run ends with over data sets that have nothing but an info document each."""
-    with tempfile.TemporaryDirectory() as name:
-        folder = pathlib.Path(name)
-        for dataset, info in infos.items():
-            put(folder, f"{dataset}/info", info)
-        return run(program, folder, words, feed, output)
+VERIFY = "verify d s"
+WRITE = "write d s"
+COPY = "reshard d s e s"
+TOO_MANY = refused(f"too many cells {CELLS + 1}")
+TWO_SHARDS = line_of(CELLS, **shards(shard_bits=1))
+MORE_IN_FOURS = info_of([CELLS + 1, 1, 1], [4, 1, 1])
+LINE = info_of([65, 1, 1], [1, 1, 1])
+ONE = "cutout d s [0:1,0:1,0:1]"
+EMPTY_OUTSIDE = head_of(1) + bytes_of([9, 9, 9], [0, 1, 1])
+CLIPPED = info_of([10] * 3, [512] * 3, {"type": "segmentation", "data_type": "uint32"}, **SEGMENTED)
+
+# title, the infos of the data sets d and e, words, what the run ends with, the stream
+RUNS = [
+    ("verify of 2^22 cells", [line_of(CELLS)], VERIFY, printed(f"cells {CELLS} stored 0 absent {CELLS}"), b""),
+    ("verify of a cell more", [line_of(CELLS + 1)], VERIFY, TOO_MANY, b""),
+    ("a copy of 2^22 cells", [line_of(CELLS), TWO_SHARDS], COPY, stored(0, 0), b""),
+    ("a copy of a cell more", [line_of(CELLS + 1), MORE_IN_FOURS], COPY, TOO_MANY, b""),
+    ("a copy into a cell more", [MORE_IN_FOURS, line_of(CELLS + 1)], COPY, TOO_MANY, b""),
+    ("2^22 pairs", [LINE], WRITE, stored(64, 64), pairs(64, 64)),
+    ("a pair more", [LINE], WRITE, refused(f"too many cells {PAIRS + 1}"), pairs(65, 64)),
+    # 1,321 x 793 x 1,025 is one more
+    ("a cutout of a byte more", [info_of([1321, 793, 1025], [64, 64, 64])], "cutout d s [0:1321,0:793,0:1025]",
+     refused(f"box too large {BYTES + 1}"), b""),
+    # what is judged first, where two things are wrong
+    ("chunk bytes before the bits of a code", [wide(2**27 + 1)], ONE, refused("info of d: limit chunk_bytes"), b""),
+    ("the bits of a code", [wide(2**27)], ONE, refused("info of d: limit morton_bits"), b""),
+    ("an empty box outside", [info_of([4, 2, 1], [2, 2, 1])], WRITE, refused("write 0: empty box"), EMPTY_OUTSIDE),
+    ("chunks that are clipped to the scale", [CLIPPED], "cutout d s [0:10,0:10,0:10]", printed(bytes(4000)), b""),
+]
 
 
-def judge(program, infos, words, status, out, err, feed=b""):
-    return compare(run_in(program, infos, words, feed), (status, out, err))
+def ends_so(trial, infos, words, wanted, feed):
+    """A run over data sets that have nothing but an info document each."""
+    trial.lay_out({f"{dataset}/info": info for dataset, info in zip("de", infos)})
+    trial.want(words, wanted, feed)
 
 
-def judge_cells(program):
-    words = ["verify", "d", "s"]
-    line = f"cells {CELLS} stored 0 absent {CELLS}\n".encode()
-    yield "verify of 2^22 cells", judge(program, {"d": row_of(CELLS)}, words, OK, line, b"")
-    line = f"too many cells {CELLS + 1}\n".encode()
-    yield "verify of a cell more", judge(program, {"d": row_of(CELLS + 1)}, words, REQUEST, b"", line)
-    words = ["reshard", "d", "s", "e", "s"]
-    infos = {"d": row_of(CELLS), "e": row_of(CELLS, sharding={**SHARDING, "shard_bits": 1})}
-    yield "a copy of 2^22 cells", judge(program, infos, words, OK, b"objects 0 cells 0\n", b"")
-    infos = {"d": row_of(CELLS + 1), "e": info_of([CELLS + 1, 1, 1], [4, 1, 1])}
-    yield "a copy of a cell more", judge(program, infos, words, REQUEST, b"", line)
-    infos = {"d": infos["e"], "e": infos["d"]}
-    yield "a copy into a cell more", judge(program, infos, words, REQUEST, b"", line)
-
-
-def judge_pairs(program):
-    """65,536 writes of 64 cells each, and one of them of 65."""
-    info = info_of([65, 1, 1], [1, 1, 1])
-    write = box_of([0, 0, 0], [64, 1, 1]) + bytes(range(1, 65))
-    longer = box_of([0, 0, 0], [65, 1, 1]) + bytes(range(1, 66))
-    words = ["write", "d", "s"]
-    stream = head_of(65536) + 65536 * write
-    yield "2^22 pairs", judge(program, {"d": info}, words, OK, b"objects 64 cells 64\n", b"", stream)
-    stream = head_of(65536) + longer + 65535 * write
-    line = f"too many cells {PAIRS + 1}\n".encode()
-    yield "a pair more", judge(program, {"d": info}, words, REQUEST, b"", line, stream)
-
-
-def judge_stream(program, behind, status, out, err):
+def takes_stream(trial, behind, wanted):
     """A write of 2^30 zero bytes, and what comes behind it."""
+    trial.lay_out({"d/info": CUBE})
     with tempfile.TemporaryFile() as feed:
-        feed.write(head_of(1 + bool(behind)) + box_of([0, 0, 0], CUBE))
+        feed.write(head_of(1 + bool(behind)) + bytes_of([0, 0, 0], [1024, 1024, 1024]))
         feed.seek(BYTES, 1)
         feed.truncate()
         feed.write(behind)
         feed.seek(0)
-        return compare(run_in(program, {"d": info_of(CUBE, SLAB)}, ["write", "d", "s"], feed), (status, out, err))
+        trial.want(WRITE, wanted, feed)
 
 
-def judge_bytes(program):
-    yield "a stream of 2^30 bytes", judge_stream(program, b"", OK, b"objects 8 cells 8\n", b"")
-    one = box_of([0, 0, 0], [1, 1, 1]) + b"\1"
-    yield "a byte more", judge_stream(program, one, REQUEST, b"", b"write 1: too large\n")
-    found = run_in(program, {"d": info_of(CUBE, SLAB)}, ["cutout", "d", "s", box_text(CUBE)], output=subprocess.DEVNULL)
-    yield "a cutout of 2^30 bytes", compare(found, (OK, b"", b""))
-    words = ["cutout", "d", "s", box_text(ONE_MORE)]
-    line = f"box too large {BYTES + 1}\n".encode()
-    yield "a cutout of a byte more", judge(program, {"d": info_of(ONE_MORE, [64, 64, 64])}, words, REQUEST, b"", line)
+def cuts_all(trial):
+    trial.lay_out({"d/info": CUBE})
+    trial.want("cutout d s [0:1024,0:1024,0:1024]", printed(b""), output=subprocess.DEVNULL)
 
 
-def judge_steps(program):
-    """What is judged first, where two things are wrong."""
-    words = ["cutout", "d", "s", "[0:1,0:1,0:1]"]
-    wide = {"d": info_of(3 * [2**40], [2**27 + 1, 1, 1], None, {"sharding": SHARDING})}
-    yield "chunk bytes before the bits of a code", judge(program, wide, words, INFO, b"", b"info of d: limit chunk_bytes\n")
-    wide = {"d": info_of(3 * [2**40], [2**27, 1, 1], None, {"sharding": SHARDING})}
-    yield "the bits of a code", judge(program, wide, words, INFO, b"", b"info of d: limit morton_bits\n")
-    small = {"d": info_of([4, 2, 1], [2, 2, 1])}
-    stream = stream_of(([9, 9, 9], [0, 1, 1], b""))
-    yield "an empty box outside", judge(program, small, ["write", "d", "s"], REQUEST, b"", b"write 0: empty box\n", stream)
-
-
-def judge_clipped(program):
-    """A segmentation whose chunks are larger than the scale."""
-    info = info_of(3 * [10], 3 * [512], {"type": "segmentation", "data_type": "uint32"}, SEGMENTED)
-    words = ["cutout", "d", "s", "[0:10,0:10,0:10]"]
-    yield "chunks that are clipped to the scale", judge(program, {"d": info}, words, OK, bytes(4000), b"")
-
-
-def judge_neighbour(program):
+def tells_folders_apart(trial):
     """A scale whose folder's name begins another's."""
-    info = info_of([2, 1, 1], [2, 1, 1])
-    with tempfile.TemporaryDirectory() as name:
-        folder = pathlib.Path(name)
-        put(folder, "d/info", info)
-        put(folder, "d/sx/0-2_0-1_0-1", b"\1\2")
-        stream = stream_of(([0, 0, 0], [2, 1, 1], b"\3\4"))
-        found = run(program, folder, ["write", "d", "s"], stream)
-        wrong = compare(found, (OK, b"objects 1 cells 1\n", b""))
-        return wrong or compare(run(program, folder, ["cutout", "d", "s", "[0:2,0:1,0:1]"]), (OK, b"\3\4", b""))
+    trial.lay_out({"d/info": info_of([2, 1, 1], [2, 1, 1]), "d/sx/0-2_0-1_0-1": b"\1\2"})
+    trial.want(WRITE, stored(1, 1), stream_of([(box_in("0:2,0:1,0:1"), b"\3\4")]))
+    trial.want("cutout d s [0:2,0:1,0:1]", printed(b"\3\4"))
 
 
-def judge_all(program):
-    """Each case's title, and the first thing that is wrong with it or None."""
-    for judge_some in (judge_cells, judge_pairs, judge_bytes, judge_steps, judge_clipped):
-        yield from judge_some(program)
-    yield "a folder beside whose name goes on", judge_neighbour(program)
+def rows():
+    for title, *case in RUNS:
+        yield title, ends_so, *case
+    yield "a stream of 2^30 bytes", takes_stream, b"", stored(8, 8)
+    one_more = bytes_of([0, 0, 0], [1, 1, 1]) + b"\1"
+    yield "a byte more", takes_stream, one_more, refused("write 1: too large")
+    yield "a cutout of 2^30 bytes", cuts_all
+    yield "a folder beside whose name goes on", tells_folders_apart
 
 
 if __name__ == "__main__":
-    sys.exit(tell_all(judge_all))
+    main(rows, jobs=2)

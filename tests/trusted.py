@@ -7,11 +7,10 @@ reaches, and that each word that it names for some modules is defined in one of 
 It reads docs/ and crates/, and runs nothing. A module is reached where the contract, or a module that is reached, names it in a
 `use` line. The last line is 'N passed, N failed', and the status is 1 where a module is missing, or listed and not reached.
 """
-import pathlib
 import re
-import sys
 
-ROOT = pathlib.Path(__file__).resolve().parent.parent
+from harness import ROOT, main, want_true
+
 CRATES = ROOT / "crates"
 USE = re.compile(r"^\s*(?:ghost )?use Rattle\.(\w+)\.specs\.(declared\.)?(\w+)", re.M)
 
@@ -78,16 +77,14 @@ def judge_all():
         yield f"{crate} {name}", ["it isn't listed"]
 
 
-def main():
-    passed = failed = 0
+def tells(_trial, wrong):
+    want_true(not wrong, "; ".join(wrong))
+
+
+def rows():
     for title, wrong in judge_all():
-        passed += not wrong
-        failed += bool(wrong)
-        for why in wrong:
-            print(f"{title}: {why}")
-    print(f"{passed} passed, {failed} failed")
-    return 1 if failed or not passed else 0
+        yield title, tells, wrong
 
 
 if __name__ == "__main__":
-    sys.exit(main())
+    main(rows, jobs=1, needs_program=False)

@@ -1,12 +1,11 @@
 #!/usr/bin/env python3
 """Tries examples/volume.py as a module and its command `view`, and the page examples/slices.html in a headless browser.
 
-    tests/viewing.py [PROGRAM [FOLDER]]
+    [PICTURES=FOLDER] tests/viewing.py [PROGRAM]
 
-PROGRAM is crates/vol_tool/out/vol_tool if it is left out. Scales of every form are written by the program (those of float32, which it
-refuses, here), and each picture of the page is compared, pixel by pixel, with one that is made here from the same values. In FOLDER the
-browser's screenshots are left. Where no Chromium is installed the page isn't tried, and without numpy no arrays of numpy; a line says so.
-The last line is 'N passed, N failed', and the status is 1 where a case failed.
+Scales of every form are written by the program (those of float32, which it refuses, by the model), and each picture of the page is
+compared, pixel by pixel, with one that is made here from the same values. In FOLDER the browser's screenshots are left. Where no
+Chromium is installed the page isn't tried, and without numpy no arrays of numpy; a line says so.
 """
 import collections
 import contextlib
@@ -29,70 +28,54 @@ import threading
 import time
 import urllib.parse
 
-from browser import Browser, Wrong, find_browser
-from program import LIMIT, OK, ROOT, SEGMENTED, run, shorten, stream_of, tell_all
-from shards import Sharding
-from writes import in_folder
+from arrays import load, save
+from browser import Browser, find_browser
+from harness import LIMIT, ROOT, Wrong, call, main, want, want_true
+from model import Sharding, Volume, infos_of, stored, stream_of
+from model.chance import with_numbers
+from model.murmur import finish
+from model.segments import bytes_of
 
 EXAMPLES = ROOT / "examples"
 SCRIPT = EXAMPLES / "volume.py"
 PAGE = EXAMPLES / "slices.html"
 WINDOW = (1000, 720)
-CODES = {"uint8": "B", "uint16": "H", "uint32": "I", "uint64": "Q", "float32": "f"}
+CODES = {1: "B", 2: "H", 4: "I", 8: "Q"}
 
 
-def want(found, wanted, what):
-    if found != wanted:
-        raise Wrong(f"{what} {shorten(found)} wanted {shorten(wanted)}")
-
-
-def case(judge):
-    """A case in a folder of its own; it gives what is wrong with it, or None."""
-
-    @in_folder
-    def judge_in(*arguments):
-        try:
-            judge(*arguments)
-        except (Wrong, OSError, http.client.HTTPException) as wrong:
-            return f"{type(wrong).__name__}: {wrong}"
-        return None
-
-    return judge_in
-
-
-# ---- Scales, and the pictures that are due
+# Scales, and the pictures that are due
 
 
 @dataclasses.dataclass(frozen=True)
-class Scale:
-    """A scale s of a data set d, with the values of its voxels: x fastest, then y, z and the channel."""
+class Scale(Volume):
+    """A scale with the lengths of a voxel, and the values of its voxels: x fastest, then y, z and the channel."""
 
-    data_type: str
-    size: tuple
-    chunk: tuple
-    values: list
-    channels: int = 1
-    offset: tuple = (0, 0, 0)
+    values: list = ()
     resolution: tuple = (4, 4, 8)
-    segmented: dict | None = None
-    sharding: Sharding | None = None
+    is_float: bool = False
 
     def info(self):
-        scale = {
-            "key": "s", "size": self.size, "chunk_sizes": [self.chunk], "voxel_offset": self.offset, "resolution": self.resolution,
-            "encoding": "raw", **(self.segmented or {}),
-        }  # fmt: skip
-        if self.sharding:
-            scale["sharding"] = self.sharding.member()
-        volume = {"type": "segmentation" if self.segmented else "image", "data_type": self.data_type, "num_channels": self.channels}
-        return json.dumps({**volume, "scales": [scale]})
+        info = json.loads(super().info())
+        info["scales"][0]["resolution"] = self.resolution
+        if self.block:
+            info["type"] = "segmentation"
+        if self.is_float:
+            info["data_type"] = "float32"
+        return json.dumps(info).encode()
 
-    def place(self, voxel, channel):
+    def spot(self, voxel, channel):
+        """The number of a value, by its voxel, which is counted from the scale's first one."""
         x, y, z = voxel
         return x + self.size[0] * (y + self.size[1] * (z + self.size[2] * channel))
 
-    def packed(self, values):
-        return struct.pack(f"<{len(values)}{CODES[self.data_type]}", *values)
+    def value(self, voxel, channel):
+        return self.values[self.spot(voxel, channel)]
+
+    def raw(self, box):
+        """The bytes of the values of a box."""
+        x, y, z = (range(begin - first, end - first) for (begin, end), first in zip(box, self.offset))
+        values = [self.value((i, j, k), c) for c in range(self.channels) for k in z for j in y for i in x]
+        return struct.pack(f"<{len(values)}{'f' if self.is_float else CODES[self.width]}", *values)
 
 
 def values_of(size, channels, value_of):
@@ -104,11 +87,17 @@ def values_of(size, channels, value_of):
 def noise(greatest):
     """Values up to a greatest one: slopes, so that a wrong axis is seen, and some noise."""
     chance = random.Random(greatest)
-    return lambda i, j, k, c: min(greatest, (i * 5 + j * 11 + k * 3 + c * 70) * greatest // 1500 % greatest + chance.randrange(greatest // 16 + 1))
+
+    def value(i, j, k, c):
+        slope = (i * 5 + j * 11 + k * 3 + c * 70) * greatest // 1500 % greatest
+        return min(greatest, slope + chance.randrange(greatest // 16 + 1))
+
+    return value
 
 
 def boxes(greatest):
     """Labels up to a greatest one in boxes, some of them 0."""
+
     def label(i, j, k, _):
         number = i // 7 + 31 * (j // 6) + 1009 * (k // 5)
         return 0 if number % 4 == 0 else number * 0x9E3779B97F4A7C15 % greatest
@@ -116,43 +105,33 @@ def boxes(greatest):
     return label
 
 
-def store(program, folder, scale, part=None):
-    """Writes a scale with the program, or a part of it, of which the begin and the end on each axis are given."""
-    (folder / "d").mkdir()
-    (folder / "d/info").write_text(scale.info())
-    part = part or [(0, side) for side in scale.size]
-    begin = [first + offset for (first, _), offset in zip(part, scale.offset)]
-    x, y, z = (range(*ends) for ends in part)
-    inside = [scale.values[scale.place((i, j, k), c)] for c in range(scale.channels) for k in z for j in y for i in x]
-    stream = stream_of((begin, [end - first for first, end in part], scale.packed(inside)))
-    status, _, errors = run(program, folder, ["write", "d", "s"], stream)
-    want((status, errors), (OK, b""), "write")
+def labels(bits, size, chunk, block, **more):
+    return Scale(size, chunk, width=bits // 8, block=block, values=values_of(size, 1, boxes(2**bits)), **more)
 
 
-def store_here(folder, scale):
-    """Writes an unsharded raw scale without the program."""
-    (folder / "d/s").mkdir(parents=True)
-    (folder / "d/info").write_text(scale.info())
-    spans = [[(at, min(at + step, side)) for at in range(0, side, step)] for side, step in zip(scale.size, scale.chunk)]
-    for box in itertools.product(*spans):
-        x, y, z = (range(*ends) for ends in box)
-        inside = [scale.values[scale.place((i, j, k), c)] for c in range(scale.channels) for k in z for j in y for i in x]
-        name = "_".join(f"{begin + offset}-{end + offset}" for (begin, end), offset in zip(box, scale.offset))
-        (folder / "d/s" / name).write_bytes(scale.packed(inside))
+def image(bits, size, chunk, channels=1, **more):
+    values = values_of(size, channels, noise(2**bits - 1))
+    return Scale(size, chunk, channels=channels, width=bits // 8, values=values, **more)
 
 
-def mix(word):
-    """The last step of MurmurHash3 for 32 bits."""
-    word = (word ^ word >> 16) * 0x85EBCA6B & 0xFFFFFFFF
-    word = (word ^ word >> 13) * 0xC2B2AE35 & 0xFFFFFFFF
-    return word ^ word >> 16
+def store(trial, *scales, part=None):
+    """Writes scales of a data set, or a part of one; those of floats, which the program refuses, without it."""
+    trial.lay_out(infos_of(*scales))
+    for scale in scales:
+        box = part or scale.whole
+        cells = scale.cells_in(box)
+        if scale.is_float:
+            trial.lay_out(scale.files({cell: scale.raw(scale.box_of(cell)) for cell in cells}))
+        else:
+            objects = set(map(scale.path_of, cells))
+            trial.want(scale.words("write"), stored(len(objects), len(cells)), stream_of([(box, scale.raw(box))]))
 
 
 def label_colour(value):
     """The page's colour of a label: a hue, a saturation and a brightness by a hash, and black for 0."""
     if value == 0:
         return "000000"
-    chosen = mix((value & 0xFFFFFFFF ^ mix(value >> 32)) + 0x9E3779B9 & 0xFFFFFFFF)
+    chosen = finish((value & 0xFFFFFFFF ^ finish(value >> 32)) + 0x9E3779B9 & 0xFFFFFFFF)
     hue, saturation, brightness = chosen % 360 / 60, 0.55 + (chosen >> 9 & 63) / 160, 0.7 + (chosen >> 17 & 63) / 220
     parts = [brightness - brightness * saturation * max(0, min(turned, 4 - turned, 1)) for turned in ((at + hue) % 6 for at in (5, 3, 1))]
     return "".join(f"{math.floor(255 * part + 0.5):02x}" for part in parts)
@@ -166,8 +145,10 @@ def grey(value, low, high):
 
 @dataclasses.dataclass(frozen=True)
 class View:
-    """What a page shows: the voxel at the cross, what stands in the middle of each slice, both counted from the scale's first voxel,
-    and how many pixels the shortest side of a voxel has."""
+    """
+    What a page shows: the voxel at the cross, what stands in the middle of each slice, both counted from the scale's first voxel, and
+    how many pixels the shortest side of a voxel has.
+    """
 
     at: tuple
     zoom: int = 4
@@ -205,9 +186,9 @@ def picture_of(scale, view, name, width, height):
             return OUTSIDE
         voxel = [0, 0, 0]
         voxel[across], voxel[down], voxel[through] = column, row, view.at[through]
-        value = scale.values[scale.place(voxel, view.channel)]
+        value = scale.value(voxel, view.channel)
         if value not in colours:
-            colours[value] = label_colour(value) if scale.segmented else grey(value, *view.window)
+            colours[value] = label_colour(value) if scale.block else grey(value, *view.window)
         return colours[value]
 
     lines = {row: "".join(colour_at(column, row) for column in columns) for row in set(rows)}
@@ -225,8 +206,7 @@ def want_pictures(browser, scale, view):
     browser.run("slices.settled()")
     for name in PANES:
         width, height, found = shown(browser, name)
-        if min(width, height) < 100:
-            raise Wrong(f"the slice {name} has {width} x {height} pixels")
+        want_true(min(width, height) >= 100, f"the slice {name} has {width} x {height} pixels")
         wanted = picture_of(scale, view, name, width, height)
         if found != wanted:
             column, row, is_, due = next(differences(width, found, wanted))
@@ -240,25 +220,25 @@ def differences(width, found, wanted):
             yield at // 6 % width, at // 6 // width, found[at : at + 6], wanted[at : at + 6]
 
 
-# ---- The server of a view
+# The server of a view
 
 
-def environment(program):
+def variables(trial):
     path = os.pathsep.join(filter(None, [str(EXAMPLES), os.environ.get("PYTHONPATH")]))
-    return {**os.environ, "VOL_TOOL": str(program), "PYTHONPATH": path, "PYTHONDONTWRITEBYTECODE": "1"}
+    return {"VOL_TOOL": str(trial.program), "PYTHONPATH": path, "PYTHONDONTWRITEBYTECODE": "1"}
 
 
 @contextlib.contextmanager
-def viewing(program, folder, *words, by=signal.SIGINT):
+def viewing(trial, *words, by=signal.SIGINT):
     """A run of `view`, by its address and its process. It ends with status 0 by a signal, and its server with it."""
     child = subprocess.Popen(
-        [sys.executable, SCRIPT, "view", *words], cwd=folder, env=environment(program), stdin=subprocess.DEVNULL,
-        stdout=subprocess.PIPE, stderr=subprocess.PIPE, text=True,
-    )  # fmt: skip
+        [sys.executable, SCRIPT, "view", *words], cwd=trial.folder, env={**os.environ, **variables(trial)},
+        stdin=subprocess.DEVNULL, stdout=subprocess.PIPE, stderr=subprocess.PIPE, text=True,
+    )
     try:
         link = child.stdout.readline().strip()
         if not link.startswith("http://127.0.0.1:"):
-            raise Wrong(f"view says {link!r} {child.stderr.read()!r}")
+            raise Wrong(f"view says {link!r} and {child.stderr.read()!r}")
         yield link, child.pid
         servers = servers_of(child.pid)
         child.send_signal(by)
@@ -267,7 +247,8 @@ def viewing(program, folder, *words, by=signal.SIGINT):
         want([server for server in servers if state_of(server)[0] not in (None, "Z")], [], "servers that are left")
     finally:
         if child.poll() is None:
-            child.terminate()
+            for number in [child.pid, *servers_of(child.pid)]:
+                os.kill(number, signal.SIGKILL)
             child.communicate()
 
 
@@ -296,24 +277,22 @@ def ask(link, target, method="GET", **fields):
     return reply.status, reply.getheader("Content-Range"), body
 
 
-def make_bytes(program, folder):
+def make_bytes(trial):
     """A scale of bytes, and what its one chunk's object has."""
-    scale = Scale("uint8", (4, 3, 2), (8, 8, 8), list(range(24)))
-    store(program, folder, scale)
+    store(trial, Scale((4, 3, 2), (8, 8, 8), values=range(24)))
     return "/s/0-4_0-3_0-2", bytes(range(24))
 
 
-@case
-def answers(program, folder):
+def replies(trial):
     """The page and the objects come from one address, to which six peers that say nothing are no hindrance."""
-    target, chunk = make_bytes(program, folder)
-    with viewing(program, folder, "d") as (link, _), contextlib.ExitStack() as silent:
+    target, chunk = make_bytes(trial)
+    with viewing(trial, "d") as (link, _), contextlib.ExitStack() as silent:
         where = urllib.parse.urlsplit(link)
         for _ in range(6):
             silent.enter_context(socket.create_connection((where.hostname, where.port)))
         want(ask(link, "/"), (200, None, PAGE.read_bytes()), "the page")
         want(ask(link, "/?scale=s&at=1,2,3"), (200, None, PAGE.read_bytes()), "the page with a query")
-        want(ask(link, "/info"), (200, None, (folder / "d/info").read_bytes()), "the info")
+        want(ask(link, "/info"), (200, None, (trial.folder / "d/info").read_bytes()), "the info")
         for fields, wanted in [
             ({}, (200, None, chunk)),
             ({"Range": "bytes=3-5"}, (206, "bytes 3-5/24", chunk[3:6])),
@@ -328,11 +307,10 @@ def answers(program, folder):
         want(ask(link, target, Host="localhost:1")[:1], (200,), "this machine by its name")
 
 
-@case
-def serves_on(program, folder):
+def serves_on(trial):
     """A server that ended, and a connection that was silent for too long, are begun anew."""
-    target, chunk = make_bytes(program, folder)
-    with viewing(program, folder, "d", "s", by=signal.SIGTERM) as (link, pid):
+    target, chunk = make_bytes(trial)
+    with viewing(trial, "d", "s", by=signal.SIGTERM) as (link, pid):
         want(link.partition("?")[2], "scale=s", "the query")
         want(ask(link, target), (200, None, chunk), "at first")
         for server in servers_of(pid):
@@ -342,20 +320,16 @@ def serves_on(program, folder):
         want(ask(link, target), (200, None, chunk), "after 10 seconds of silence")
 
 
-@case
-def refuses(program, folder):
-    make_bytes(program, folder)
+def refuses(trial):
+    make_bytes(trial)
     with socket.create_server(("127.0.0.1", 0)) as taken:
         for words in (["e"], ["d", "t"], ["./d"], ["d", "s", "--port", str(taken.getsockname()[1])], ["d", "--port", "65536"]):
-            done = subprocess.run(
-                [sys.executable, SCRIPT, "view", *words], cwd=folder, env=environment(program), capture_output=True, text=True,
-                timeout=LIMIT, stdin=subprocess.DEVNULL,
-            )  # fmt: skip
-            if done.returncode not in (1, 2) or done.stdout or "volume.py" not in done.stderr or "Traceback" in done.stderr:
-                raise Wrong(f"{words}: {done}")
+            status, out, errors = call([sys.executable, SCRIPT, "view", *words], trial.folder, **variables(trial))
+            is_told = status in (1, 2) and not out and "volume.py" in errors and "Traceback" not in errors
+            want_true(is_told, f"{words}: {status} {out!r} {errors!r}")
 
 
-# ---- The script as a module
+# The script as a module
 
 WITHOUT_NUMPY = """
 import sys
@@ -418,8 +392,10 @@ labels = numpy.zeros((5, 6, 7), "u4")
 labels[2:, 3:] = 70000
 volume.write("labels", "s", labels, resolution=(8, 8, 40), encoding="compressed_segmentation", block=(4, 4, 4), workers=2)
 assert (volume.read("labels", "s") == labels).all()
-for values, text in [(labels.astype("f4"), "<f4"), (labels.astype("i4"), "<i4"), (labels > 0, "|b1"), (labels[0], "shape"), (labels[:0], "shape"),
-                     (numpy.zeros((9, 9, 9, 3), "u1"), "--axes"), (numpy.array([[[None]]]), "|O")]:
+for values, text in [
+    (labels.astype("f4"), "<f4"), (labels.astype("i4"), "<i4"), (labels > 0, "|b1"), (labels[0], "shape"), (labels[:0], "shape"),
+    (numpy.zeros((9, 9, 9, 3), "u1"), "--axes"), (numpy.array([[[None]]]), "|O"),
+]:
     try:
         volume.write("refused", "s", values, resolution=(1, 1, 1))
     except volume.Refused as found:
@@ -429,39 +405,25 @@ for values, text in [(labels.astype("f4"), "<f4"), (labels.astype("i4"), "<i4"),
 """
 
 
-def run_script(program, folder, script):
-    done = subprocess.run(
-        [sys.executable, "-c", script], cwd=folder, env=environment(program), capture_output=True, text=True, timeout=LIMIT,
-        stdin=subprocess.DEVNULL,
-    )  # fmt: skip
-    want((done.returncode, done.stdout, done.stderr), (0, "", ""), "the script")
+def run_script(trial, script):
+    want(call([sys.executable, "-c", script], trial.folder, **variables(trial)), (0, "", ""), "the script")
 
 
-def save(path, descr, shape, content):
-    """An array as numpy.save writes it."""
-    text = repr({"descr": descr, "fortran_order": False, "shape": shape})
-    text += " " * (-(len(text) + 11) % 64) + "\n"
-    path.write_bytes(b"\x93NUMPY\x01\x00" + struct.pack("<H", len(text)) + text.encode() + content)
-
-
-@case
-def moves_files(program, folder):
+def moves_files(trial):
     content = random.Random(3).randbytes(2 * 5 * 6 * 7)
-    save(folder / "in.npy", "<u2", (5, 6, 7), content)
-    run_script(program, folder, WITHOUT_NUMPY)
-    want((folder / "all.npy").read_bytes()[-len(content) :], content, "all values")
-    for name in ("text.npy", "pairs.npy"):
-        want((folder / name).read_bytes()[-4:], content[2:6], name)
-    want(json.loads((folder / "d/info").read_text())["scales"][0]["resolution"], [8, 8, 40.5], "the lengths of a voxel")
-    want(sorted(path.name for path in folder.glob("no.npy*")), [], "what is left")
+    save(trial.folder / "in.npy", "<u2", (5, 6, 7), content)
+    run_script(trial, WITHOUT_NUMPY)
+    for name, wanted in ("all.npy", content), ("text.npy", content[2:6]), ("pairs.npy", content[2:6]):
+        want(load(trial.folder / name)[-1], wanted, name)
+    want(json.loads((trial.folder / "d/info").read_text())["scales"][0]["resolution"], [8, 8, 40.5], "the lengths of a voxel")
+    want([path.name for path in trial.folder.glob("no.npy*")], [], "what is left")
 
 
-@case
-def moves_arrays(program, folder):
-    run_script(program, folder, WITH_NUMPY)
+def moves_arrays(trial):
+    run_script(trial, WITH_NUMPY)
 
 
-# ---- The page
+# The page
 
 FLOATS = [math.nan, math.inf, -math.inf, -0.75, 0.0, 1.5, 3.25]
 
@@ -471,14 +433,7 @@ def floats(i, j, k, _):
     return FLOATS[number // 5 % len(FLOATS)] if number % 5 == 0 else (number % 97 - 30) / 16
 
 
-def labels(width, size, chunk, block, **more):
-    segmented = {**SEGMENTED, "compressed_segmentation_block_size": block}
-    return Scale(f"uint{width}", size, chunk, values_of(size, 1, boxes(2**width)), segmented=segmented, **more)
-
-
-def image(width, size, chunk, channels=1, **more):
-    return Scale(f"uint{width}", size, chunk, values_of(size, channels, noise(2**width - 1)), channels, **more)
-
+FLOAT_SIZE = (40, 30, 20)
 
 # Title, scale, what is shown of it
 FORMS = [
@@ -486,7 +441,7 @@ FORMS = [
     ("16 bits in shards", image(16, (61, 50, 40), (16, 16, 16), sharding=Sharding(2, False, 2, 3)), View((60, 0, 39), 5, 0, (1000, 50000))),
     (
         "floats",
-        Scale("float32", (40, 30, 20), (16, 16, 16), values_of((40, 30, 20), 1, floats), resolution=(10, 5, 15)),
+        Scale(FLOAT_SIZE, (16, 16, 16), width=4, values=values_of(FLOAT_SIZE, 1, floats), resolution=(10, 5, 15), is_float=True),
         View((20, 15, 7), 3, 0, (-1.5, 2.25)),
     ),
     ("labels of 32 bits", labels(32, (48, 40, 36), (32, 32, 16), (8, 8, 8)), View((24, 20, 18), 3)),
@@ -510,6 +465,24 @@ SHARDINGS = [
 ]
 
 
+def on(browser, name, script):
+    """The value of an expression about an `element` of the page."""
+    return browser.run(f"(element => {script})(document.getElementById('{name}'))")
+
+
+def text_of(browser, name):
+    return on(browser, name, "element.textContent")
+
+
+def click(browser, name):
+    on(browser, name, "element.click()")
+
+
+def set_field(browser, name, value):
+    on(browser, name, f"{{ element.value = {json.dumps(value)}; element.dispatchEvent(new Event('change')) }}")
+    browser.run("slices.settled()")
+
+
 def open_view(browser, link, query):
     """Opens a view's page with a query, and waits until the slices stand there."""
     browser.open(f"{link.partition('?')[0]}?{query}", "window.slices")
@@ -518,92 +491,77 @@ def open_view(browser, link, query):
 
 def want_calm(browser):
     """The page tells no fault, and raised no exception."""
-    want(browser.run("document.getElementById('faults').hidden"), True, "no fault")
+    want(on(browser, "faults", "element.hidden"), True, "no fault")
     want(browser.exceptions, [], "exceptions")
 
 
-def take_picture(browser, title):
-    if len(sys.argv) > 2:
-        folder = pathlib.Path(sys.argv[2])
-        folder.mkdir(parents=True, exist_ok=True)
-        browser.take_picture(folder / f"{title.replace(' ', '_').replace(',', '')}.png")
-
-
-@case
-def shows(program, browser, title, scale, view, folder):
-    if scale.data_type == "float32":
-        store_here(folder, scale)
-    else:
-        store(program, folder, scale)
-    with viewing(program, folder, "d") as (link, _):
+@contextlib.contextmanager
+def opened(trial, browser, scale, view):
+    """The page that shows a scale; at the end it is calm."""
+    with viewing(trial, scale.dataset) as (link, _):
         open_view(browser, link, view.query(scale))
-        want_pictures(browser, scale, view)
+        yield
         want_calm(browser)
+
+
+def take_picture(browser, title):
+    if folder := os.environ.get("PICTURES"):
+        pathlib.Path(folder).mkdir(parents=True, exist_ok=True)
+        browser.take_picture(pathlib.Path(folder) / f"{title.replace(' ', '_').replace(',', '')}.png")
+
+
+def shows(trial, browser, title, scale, view):
+    store(trial, scale)
+    with opened(trial, browser, scale, view):
+        want_pictures(browser, scale, view)
         take_picture(browser, title)
 
 
-@case
-def shows_far_cells(program, browser, folder):
+def shows_far_cells(trial, browser):
     """Chunk ids of more than 32 bits, of a grid with one layer: a corner is stored of a scale that is otherwise absent."""
     length = 1 << 20
     part = [(length - 24, length - 2), (length - 20, length), (0, 3)]
-    empty = Scale("uint16", (length, length, 3), (4, 4, 4), collections.defaultdict(int), sharding=Sharding(1, True, 2, 3))
+    scale = Scale((length, length, 3), (4, 4, 4), width=2, values=collections.defaultdict(int), sharding=Sharding(1, True, 2, 3))
     for number, voxel in enumerate(itertools.product(*(range(*ends) for ends in part))):
-        empty.values[empty.place(voxel, 0)] = number * 40 + 1
-    store(program, folder, empty, part)
+        scale.values[scale.spot(voxel, 0)] = number * 40 + 1
+    store(trial, scale, part=part)
     view = View((length - 12, length - 10, 1), 6, 0, (0, 60000))
-    with viewing(program, folder, "d") as (link, _):
-        open_view(browser, link, view.query(empty))
-        want_pictures(browser, empty, view)
-        want_calm(browser)
+    with opened(trial, browser, scale, view):
+        want_pictures(browser, scale, view)
 
 
-@case
-def shows_shardings(program, browser, folder):
+def shows_shardings(trial, browser):
     view = View((4, 5, 6), 5, 0, (0, 300))
     for number, sharding in enumerate(SHARDINGS):
-        below = folder / str(number)
-        below.mkdir()
-        scale = image(8, (23, 19, 14), (4, 3, 4), sharding=sharding)
-        store(program, below, scale)
-        with viewing(program, below, "d") as (link, _):
-            open_view(browser, link, view.query(scale))
+        scale = image(8, (23, 19, 14), (4, 3, 4), sharding=sharding, dataset=f"d{number}")
+        store(trial, scale)
+        with opened(trial, browser, scale, view):
             want_pictures(browser, scale, view)
-            want_calm(browser)
-
-
-def text_of(browser, name):
-    return browser.run(f"document.getElementById('{name}').textContent")
 
 
 def middle_of(browser, name):
     """The middle of a slice on the page."""
-    return browser.run(f"(box => [box.x + box.width / 2, box.y + box.height / 2])(document.getElementById('{name}').getBoundingClientRect())")
+    return on(browser, name, "(box => [box.x + box.width / 2, box.y + box.height / 2])(element.getBoundingClientRect())")
 
 
-@case
-def tells_values(program, browser, folder):
+def tells_values(trial, browser):
     """The value under the pointer, with its position; chunks that aren't stored."""
     scale = labels(64, (40, 44, 30), (16, 16, 8), (8, 8, 8), offset=(-5, 100, 0))
-    store(program, folder, scale, [(0, 32), (0, 44), (0, 30)])
-    scale = dataclasses.replace(
-        scale, values=[0 if place % 40 >= 32 else value for place, value in enumerate(scale.values)]
-    )
+    store(trial, scale, part=[(-5, 27), *scale.whole[1:]])
+    scale = dataclasses.replace(scale, values=[0 if spot % 40 >= 32 else value for spot, value in enumerate(scale.values)])
     view = View((20, 22, 14), 4)
-    with viewing(program, folder, "d", "s") as (link, _):
-        open_view(browser, link, view.query(scale))
+    with opened(trial, browser, scale, view):
         want_pictures(browser, scale, view)
         x, y = middle_of(browser, "xy")
         browser.mouse("mouseMoved", x + 4 * 3, y - 4 * 2)
         want(text_of(browser, "where"), "x 18  y 120  z 14", "the position")
-        want(text_of(browser, "value"), str(scale.values[scale.place((23, 20, 14), 0)]), "the value")
+        want(text_of(browser, "value"), str(scale.value((23, 20, 14), 0)), "the value")
         browser.mouse("mouseMoved", x + 4 * 15, y)
         want(text_of(browser, "value"), "0 (no chunk is stored here)", "where no chunk is")
         if "not stored" not in text_of(browser, "busy"):
             raise Wrong(f"it doesn't tell that chunks are absent: {text_of(browser, 'busy')}")
         browser.mouse("mouseMoved", x - 4 * 22, y)
         want(text_of(browser, "where"), "outside of the scale", "outside")
-        want_calm(browser)
         take_picture(browser, "chunks that are absent")
 
 
@@ -621,14 +579,12 @@ def panned(view, axis, pixels, scale):
     return dataclasses.replace(view, centre=tuple(centre))
 
 
-@case
-def moves(program, browser, folder):
+def moves(trial, browser):
     """Wheel, keys, click and drag; each is told by the pictures."""
     scale = image(8, (70, 45, 33), (32, 16, 16), 2)
-    store(program, folder, scale)
+    store(trial, scale)
     view = View((30, 20, 10), 4, 0, (0, 255))
-    with viewing(program, folder, "d") as (link, _):
-        open_view(browser, link, view.query(scale))
+    with opened(trial, browser, scale, view):
         x, y = middle_of(browser, "xy")
         for turns in (1, 1, 1, -1):
             browser.mouse("mouseWheel", x, y, deltaX=0, deltaY=120 * turns)
@@ -657,92 +613,80 @@ def moves(program, browser, folder):
         browser.run("slices.settled()")
         browser.mouse("mouseMoved", x, y)
         want(text_of(browser, "where"), before, "under the pointer after zooming")
-        want_calm(browser)
 
 
-@case
-def moves_by_fingers(program, browser, folder):
+def moves_by_fingers(trial, browser):
     scale = image(8, (70, 45, 33), (32, 16, 16))
-    store(program, folder, scale)
+    store(trial, scale)
     view = View((30, 20, 10), 4, 0, (0, 255))
-    with viewing(program, folder, "d") as (link, _):
-        browser.resize(*WINDOW, is_mobile=True)
-        try:
-            open_view(browser, link, view.query(scale))
-            x, y = middle_of(browser, "xy")
-            browser.touch("touchStart", (x, y))
-            browser.touch("touchMove", (x + 20, y + 8))
-            browser.touch("touchMove", (x + 48, y + 16))
-            browser.touch("touchEnd")
-            view = panned(panned(view, 0, 48, scale), 1, 16, scale)
-            want_pictures(browser, scale, view)
-            browser.touch("touchStart", (x - 40, y), (x + 40, y))
-            browser.touch("touchMove", (x - 80, y), (x + 80, y))
-            browser.touch("touchEnd")
-            view = dataclasses.replace(view, zoom=8)
-            want_pictures(browser, scale, view)
-            browser.touch("touchStart", (x + 17, y + 17))
-            browser.touch("touchEnd")
-            browser.run("slices.settled()")
-            want(browser.run("document.getElementById('position').value"), "20, 18, 10", "the cross after a tap")
-            want_calm(browser)
-            browser.resize(390, 780, scale=2, is_mobile=True)
-            time.sleep(0.2)
-            browser.run("slices.settled()")
-            take_picture(browser, "a telephone")
-        finally:
-            browser.resize(*WINDOW)
+    browser.resize(*WINDOW, is_mobile=True)
+    with opened(trial, browser, scale, view):
+        x, y = middle_of(browser, "xy")
+        browser.touch("touchStart", (x, y))
+        browser.touch("touchMove", (x + 20, y + 8))
+        browser.touch("touchMove", (x + 48, y + 16))
+        browser.touch("touchEnd")
+        view = panned(panned(view, 0, 48, scale), 1, 16, scale)
+        want_pictures(browser, scale, view)
+        browser.touch("touchStart", (x - 40, y), (x + 40, y))
+        browser.touch("touchMove", (x - 80, y), (x + 80, y))
+        browser.touch("touchEnd")
+        view = dataclasses.replace(view, zoom=8)
+        want_pictures(browser, scale, view)
+        browser.touch("touchStart", (x + 17, y + 17))
+        browser.touch("touchEnd")
+        browser.run("slices.settled()")
+        want(on(browser, "position", "element.value"), "20, 18, 10", "the cross after a tap")
+        browser.resize(390, 780, scale=2, is_mobile=True)
+        time.sleep(0.2)
+        browser.run("slices.settled()")
+        take_picture(browser, "a telephone")
 
 
 def seen(scale, view, browser):
     """The values that the three slices show."""
     found = set()
     for name, (across, down, through) in PANES.items():
-        width, height = browser.run(f"(canvas => [canvas.width, canvas.height])(document.getElementById('{name}'))")
+        width, height = on(browser, name, "[element.width, element.height]")
         columns = {voxel for voxel in view.side(scale, across, width) if voxel is not None}
         rows = {voxel for voxel in view.side(scale, down, height) if voxel is not None}
         for column, row in itertools.product(columns, rows):
             voxel = [0, 0, 0]
             voxel[across], voxel[down], voxel[through] = column, row, view.at[through]
-            found.add(scale.values[scale.place(voxel, view.channel)])
+            found.add(scale.value(voxel, view.channel))
     return found
 
 
-@case
-def takes_windows(program, browser, folder):
+def with_range(scale, view, browser):
+    """A view whose window is the range of what is shown."""
+    values = seen(scale, view, browser)
+    return dataclasses.replace(view, window=(min(values), max(values)))
+
+
+def takes_windows(trial, browser):
     """The window is the range of what is shown, at first and at the button's press; it, the channel and the cross can be set."""
     scale = image(16, (90, 80, 70), (32, 32, 32), 2)
-    store(program, folder, scale)
+    store(trial, scale)
     view = View((45, 40, 35), 12, 1)
-    with viewing(program, folder, "d") as (link, _):
-        open_view(browser, link, view.query(scale))
-        values = seen(scale, view, browser)
-        view = dataclasses.replace(view, window=(min(values), max(values)))
+    with opened(trial, browser, scale, view):
+        view = with_range(scale, view, browser)
         want_pictures(browser, scale, view)
-        set_field(browser, "low", 1000)
-        set_field(browser, "high", 2000)
-        set_field(browser, "channel", 0)
+        for name, value in ("low", 1000), ("high", 2000), ("channel", 0):
+            set_field(browser, name, value)
         view = dataclasses.replace(view, window=(1000, 2000), channel=0)
         want_pictures(browser, scale, view)
-        browser.run("document.getElementById('range').click()")
-        values = seen(scale, view, browser)
-        view = dataclasses.replace(view, window=(min(values), max(values)))
+        click(browser, "range")
+        view = with_range(scale, view, browser)
         want_pictures(browser, scale, view)
         set_field(browser, "position", "50, 41,36")
         view = moved(moved(moved(view, 0, 5), 1, 1), 2, 1)
         want_pictures(browser, scale, view)
-        browser.run("document.getElementById('cross').click()")
+        click(browser, "cross")
         browser.run("slices.settled()")
         want_cross(browser, scale, view)
-        browser.run("document.getElementById('cross').click()")
-        browser.run("document.getElementById('labels').click()")
-        want_pictures(browser, dataclasses.replace(scale, segmented=SEGMENTED), view)
-        want_calm(browser)
-
-
-def set_field(browser, name, value):
-    browser.run(f"(field => {{ field.value = {json.dumps(value)}; field.dispatchEvent(new Event('change')) }})(document.getElementById('{name}'))")
-    browser.run("slices.settled()")
+        click(browser, "cross")
+        click(browser, "labels")
+        want_pictures(browser, dataclasses.replace(scale, block=(8, 8, 8)), view)
 
 
 def want_cross(browser, scale, view):
@@ -758,48 +702,42 @@ def want_cross(browser, scale, view):
         want((strays, at), ([], (view.at[across], view.at[down])), f"the cross of {name}")
 
 
-@case
-def changes_scales(program, browser, folder):
+def changes_scales(trial, browser):
     """Another scale is shown at the same place, as large as before; one that can't be shown is listed with its reason."""
-    fine = image(8, (64, 48, 32), (32, 32, 32))
-    coarse = Scale("uint8", (32, 24, 16), (16, 16, 16), values_of((32, 24, 16), 1, noise(255)), resolution=(8, 8, 16))
-    for name, scale in ("fine", fine), ("coarse", coarse):
-        (folder / name).mkdir()
-        store(program, folder / name, scale)
-    (folder / "fine/d/s").rename(folder / "fine/d/t")
-    (folder / "coarse/d/s").rename(folder / "fine/d/s")
-    info, other = json.loads(fine.info()), json.loads(coarse.info())
-    info["scales"][0]["key"] = "t"
-    jpeg = {**info["scales"][0], "key": "u", "encoding": "jpeg"}
-    (folder / "fine/d/info").write_text(json.dumps({**info, "scales": [jpeg, info["scales"][0], other["scales"][0]]}))
+    fine, size = image(8, (64, 48, 32), (32, 32, 32), key="t"), (32, 24, 16)
+    coarse = Scale(size, (16, 16, 16), values=values_of(size, 1, noise(255)), resolution=(8, 8, 16))
+    store(trial, fine, coarse)
+    info = json.loads((trial.folder / "d/info").read_text())
+    info["scales"].insert(0, {**info["scales"][0], "key": "u", "encoding": "jpeg"})
+    trial.lay_out({"d/info": json.dumps(info).encode()})
     view = View((21, 20, 10), 4, 0, (0, 255))
-    with viewing(program, folder / "fine", "d") as (link, _):
-        open_view(browser, link, view.query(fine))
+    with opened(trial, browser, fine, view):
         want_pictures(browser, fine, view)
-        want(browser.run("document.getElementById('scale').options[0].disabled"), True, "a scale of jpeg")
+        want(on(browser, "scale", "element.options[0].disabled"), True, "a scale of jpeg")
         set_field(browser, "scale", "s")
         want_pictures(browser, coarse, View((10, 10, 5), 8, 0, (0, 255), (10.75, 10.25, 5.25)))
-        want_calm(browser)
 
 
-@case
-def tells_damages(program, browser, folder):
+def tells_damages(trial, browser):
     """A chunk that is damaged is hatched and told, and the others are shown; once it is mended it is shown too."""
     scale = image(8, (70, 45, 33), (32, 16, 16))
-    store(program, folder, scale)
+    store(trial, scale)
     view = View((30, 20, 10), 4, 0, (0, 255))
-    chunk = folder / "d/s/32-64_16-32_0-16"
+    chunk = trial.folder / scale.path_of((1, 1, 0))
     whole = chunk.read_bytes()
     chunk.write_bytes(whole[:-1])
-    with viewing(program, folder, "d") as (link, _):
-        open_view(browser, link, view.query(scale))
-        want(text_of(browser, "faults").startswith("chunk 1,1,0 can't be shown: chunk length 8191 wanted 8192"), True, text_of(browser, "faults"))
+    with opened(trial, browser, scale, view):
+        want_first_fault(browser, "chunk 1,1,0 can't be shown: chunk length 8191 wanted 8192")
         want_hatched(browser, scale, view, (range(32, 64), range(16, 32)))
         take_picture(browser, "a damaged chunk")
         chunk.write_bytes(whole)
-        browser.run("document.querySelector('#faults button').click()")
+        on(browser, "faults", "element.querySelector('button').click()")
         want_pictures(browser, scale, view)
-        want_calm(browser)
+
+
+def want_first_fault(browser, told):
+    faults = text_of(browser, "faults")
+    want_true(faults.startswith(told), f"it tells {faults!r} wanted {told!r}")
 
 
 def want_hatched(browser, scale, view, voxels):
@@ -816,63 +754,53 @@ def want_hatched(browser, scale, view, voxels):
     want(len(reds) > 1 and all(int(pixel[:2], 16) > int(pixel[2:4], 16) for pixel in reds), True, f"lines of red {reds}")
 
 
-def numbers_at(place, *numbers):
-    """What puts numbers into a shard at a place."""
-    return lambda shard: shard[:place] + struct.pack(f"<{len(numbers)}Q", *numbers) + shard[place + 8 * len(numbers) :]
-
-
-# What the page says of a chunk, and what was done to its shard: two entries, two chunks of 8 bytes, and an index with their rows, which
-# are two ids, two starts and two sizes from byte 48 on.
+# What the page says of a chunk, and what was done to its shard: where it is cut, and numbers by their places. It has two entries, two
+# chunks of 8 bytes, and an index with their rows, which are two ids, two starts and two sizes from byte 48 on.
 SHARD_DAMAGES = [
-    ("shard short index", lambda shard: shard[:10]),
-    ("shard bad range", numbers_at(0, 48, 0)),
-    ("shard bad length 23", numbers_at(0, 0, 23)),
-    (f"shard too many rows {2**22 + 1}", numbers_at(0, 0, 24 * (2**22 + 1))),
-    ("shard short minishard", lambda shard: shard[:-1]),
-    ("index id 1", numbers_at(56, 0)),
-    ("index start 1", numbers_at(72, 2**64 - 8)),
-    ("chunk too long 9 limit 8", numbers_at(88, 9)),
-    ("shard short chunk", numbers_at(72, 1000)),
-    ("chunk length 7 wanted 8", numbers_at(88, 7)),
-    ("chunk length 0 wanted 8", numbers_at(88, 0)),
+    ("shard short index", 10, {}),
+    ("shard bad range", None, {0: 48, 8: 0}),
+    ("shard bad length 23", None, {0: 0, 8: 23}),
+    (f"shard too many rows {2**22 + 1}", None, {0: 0, 8: 24 * (2**22 + 1)}),
+    ("shard short minishard", -1, {}),
+    ("index id 1", None, {56: 0}),
+    ("index start 1", None, {72: 2**64 - 8}),
+    ("chunk too long 9 limit 8", None, {88: 9}),
+    ("shard short chunk", None, {72: 1000}),
+    ("chunk length 7 wanted 8", None, {88: 7}),
+    ("chunk length 0 wanted 8", None, {88: 0}),
 ]
 
 # What the page says of a segmentation of the one voxel 7, and its words: where the channel starts, two of a header, and the table.
 SEGMENTATION_DAMAGES = [
     ("seg length 3", b"abc"),
-    ("seg channel 0", struct.pack("<2I", 1, 2)),
-    ("seg bits 0 0 3", struct.pack("<4I", 1, 3 << 24 | 2, 2, 7)),
-    ("seg values 0 0", struct.pack("<4I", 1, 1 << 24 | 2, 3, 7)),
-    ("seg table 0 0 0", struct.pack("<4I", 1, 3, 2, 7)),
+    ("seg channel 0", bytes_of([1, 2])),
+    ("seg bits 0 0 3", bytes_of([1, 3 << 24 | 2, 2, 7])),
+    ("seg values 0 0", bytes_of([1, 1 << 24 | 2, 3, 7])),
+    ("seg table 0 0 0", bytes_of([1, 3, 2, 7])),
 ]
 
 
-@case
-def tells_shards(program, browser, folder):
-    scale = Scale("uint8", (4, 2, 2), (2, 2, 2), list(range(16)), sharding=Sharding(1, False, 1, 0))
-    store(program, folder, scale)
-    shard = folder / "d/s/0.shard"
-    whole = shard.read_bytes()
-    with viewing(program, folder, "d") as (link, _):
-        for wanted, damage in SHARD_DAMAGES:
-            shard.write_bytes(damage(whole))
+def tells_shards(trial, browser):
+    store(trial, Scale((4, 2, 2), (2, 2, 2), values=range(16), sharding=Sharding(1, False, 1, 0)))
+    whole = (trial.folder / "d/s/0.shard").read_bytes()
+    with viewing(trial, "d") as (link, _):
+        for wanted, end, numbers in SHARD_DAMAGES:
+            trial.lay_out({"d/s/0.shard": with_numbers(whole[:end], numbers)})
             want_told(browser, link, "at=3,0,0", wanted)
 
 
-@case
-def tells_segmentations(program, browser, folder):
-    scale = Scale("uint32", (1, 1, 1), (1, 1, 1), [7], segmented={**SEGMENTED, "compressed_segmentation_block_size": [1, 1, 1]})
-    store(program, folder, scale)
-    with viewing(program, folder, "d") as (link, _):
+def tells_segmentations(trial, browser):
+    store(trial, Scale((1, 1, 1), (1, 1, 1), width=4, block=(1, 1, 1), values=[7]))
+    with viewing(trial, "d") as (link, _):
         for wanted, chunk in SEGMENTATION_DAMAGES:
-            (folder / "d/s/0-1_0-1_0-1").write_bytes(chunk)
+            trial.lay_out({"d/s/0-1_0-1_0-1": chunk})
             want_told(browser, link, "at=0,0,0", wanted)
 
 
 def want_told(browser, link, query, told):
     """The page tells a fault, and no other goes uncaught."""
     open_view(browser, link, query)
-    want(told in text_of(browser, "faults"), True, f"{told}: {text_of(browser, 'faults')!r}")
+    want_true(told in text_of(browser, "faults"), f"it tells {text_of(browser, 'faults')!r} wanted {told!r}")
     want(browser.exceptions, [], "exceptions")
 
 
@@ -905,37 +833,34 @@ def failing_server(folder):
         server.server_close()
 
 
-@case
-def tells_servers(program, browser, folder):
+def tells_servers(trial, browser):
     """Requests that fail, of a page that is a file; a server that sends no ranges; and none at all."""
     scale = labels(32, (48, 40, 36), (32, 32, 16), (8, 8, 8), sharding=Sharding(0, True, 1, 1))
-    store(program, folder, scale)
-    plain = image(8, (70, 45, 33), (32, 16, 16))
-    (folder / "plain").mkdir()
-    store(program, folder / "plain", plain)
+    plain = image(8, (70, 45, 33), (32, 16, 16), dataset="plain")
+    for one in scale, plain:
+        store(trial, one)
     view = View((30, 20, 10), 4, 0, (0, 255))
-    with failing_server(folder / "d") as (server, source):
+    with failing_server(trial.folder / "d") as (server, source):
         open_view(browser, PAGE.as_uri(), f"source={source}&{view.query(scale)}")
         want_pictures(browser, scale, view)
         want_calm(browser)
-        server.folder = folder / "plain/d"
+        server.folder = trial.folder / "plain"
         for member, told in ("failing", "the server answers 500"), ("broken", "the server's answer breaks off"):
             server.failing, server.broken = None, None
-            setattr(server, member, "32-64_16-32_0-16")
+            setattr(server, member, plain.name((1, 1, 0)))
             open_view(browser, PAGE.as_uri(), f"source={source}&{view.query(plain)}")
-            want(text_of(browser, "faults").startswith(f"chunk 1,1,0 can't be shown: {told}"), True, text_of(browser, "faults"))
+            want_first_fault(browser, f"chunk 1,1,0 can't be shown: {told}")
             want_hatched(browser, plain, view, (range(32, 64), range(16, 32)))
     for address, told in (source, "the server can't be reached"), ("", "name the volume"):
         want_told(browser, PAGE.as_uri(), f"source={address}", told)
 
 
-@case
-def shows_served(program, browser, folder):
+def shows_served(trial, browser):
     """A page that is a file shows what `vol_tool serve` serves, over one connection at a time."""
     scale = image(16, (61, 50, 40), (16, 16, 16), sharding=Sharding(2, False, 2, 3))
-    store(program, folder, scale)
+    store(trial, scale)
     view = View((30, 25, 20), 5, 0, (1000, 50000))
-    with subprocess.Popen([program, "serve", "d", "--port=0", "--connections=100"], cwd=folder, stdout=subprocess.PIPE) as server:
+    with trial.start("serve d --port=0 --connections=100", stdout=subprocess.PIPE) as server:
         try:
             port = int(server.stdout.readline().split()[1])
             open_view(browser, PAGE.as_uri(), f"source=http://localhost:{port}&{view.query(scale)}")
@@ -945,7 +870,7 @@ def shows_served(program, browser, folder):
             server.kill()
 
 
-PAGE_CASES = [
+ON_THE_PAGE = [
     ("shardings of every kind", shows_shardings),
     ("chunk ids of more than 32 bits", shows_far_cells),
     ("values under the pointer", tells_values),
@@ -961,29 +886,29 @@ PAGE_CASES = [
 ]
 
 
-def judge_page(program):
-    command = find_browser()
-    if command is None:
-        print("no Chromium is installed: the page isn't tried")
-        return
-    with Browser(command, WINDOW) as browser:
-        for title, scale, view in FORMS:
-            yield f"the page: {title}", shows(program, browser, title, scale, view)
-        for title, judge in PAGE_CASES:
-            yield f"the page: {title}", judge(program, browser)
+def on_page(trial, judge, *arguments):
+    """A row that has a browser of its own."""
+    with Browser(find_browser(), WINDOW) as browser:
+        judge(trial, browser, *arguments)
 
 
-def judge_all(program):
-    yield "the module without numpy", moves_files(program)
+def rows():
+    yield "the module without numpy", moves_files
     if importlib.util.find_spec("numpy"):
-        yield "the module with numpy", moves_arrays(program)
+        yield "the module with numpy", moves_arrays
     else:
         print("numpy isn't installed: the module isn't tried with it")
-    yield "what a view answers", answers(program)
-    yield "a view whose server ends", serves_on(program)
-    yield "views that are refused", refuses(program)
-    yield from judge_page(program)
+    yield "what a view answers", replies
+    yield "a view whose server ends", serves_on
+    yield "views that are refused", refuses
+    if find_browser() is None:
+        print("no Chromium is installed: the page isn't tried")
+        return
+    for title, scale, view in FORMS:
+        yield f"the page: {title}", on_page, shows, title, scale, view
+    for title, judge in ON_THE_PAGE:
+        yield f"the page: {title}", on_page, judge
 
 
 if __name__ == "__main__":
-    sys.exit(tell_all(judge_all))
+    main(rows)

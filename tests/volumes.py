@@ -3,68 +3,62 @@
 
     tests/volumes.py [PROGRAM]
 
-PROGRAM is crates/vol_tool/out/vol_tool if it is left out. The arrays are files as numpy.save writes them, of every type, in
-both orders of axes, rows and bytes. The last line is 'N passed, N failed', and the status is 1 where a case failed.
+The arrays are files as numpy.save writes them, of every type, in both orders of axes, rows and bytes.
 """
+import dataclasses
 import itertools
 import json
-import math
-import os
 import random
-import struct
-import subprocess
 import sys
 
-from program import LIMIT, REQUEST, ROOT, tell_all
-from writes import in_folder
+from arrays import in_order, load, save
+from harness import ROOT, call, main, want, want_true
+from model import REQUEST, spell
 
 SCRIPT = ROOT / "examples" / "volume.py"
 
 
-# What a case of `put` names where it is about something else.
-LENGTHS = ["--resolution", "1,1,1"]
+@dataclasses.dataclass(frozen=True)
+class Folder:
+    """A row's folder with arrays and data sets, in which volume.py is called."""
+
+    trial: object
+
+    def path(self, name):
+        return self.trial.folder / name
+
+    def call_as_it_is(self, *words, program=None):
+        return call([sys.executable, SCRIPT, *words], self.trial.folder, VOL_TOOL=str(program or self.trial.program))
+
+    def call(self, *words, program=None):
+        """What a call ends with. One of `put` that names no lengths of a voxel gets some."""
+        lengths = ["--resolution", "1,1,1"] if words[0] == "put" and "--resolution" not in words else []
+        return self.call_as_it_is(*words, *lengths, program=program)
+
+    def does(self, *words):
+        """A call that ends well, and tells nothing but what is stored."""
+        status, out, errors = self.call(*words)
+        is_told = out.startswith("objects ") if words[0] == "put" else out == ""
+        want_true((status, errors) == (0, "") and is_told, f"{words}: {status} {out!r} {errors!r}")
+
+    def refuses(self, told, *words, status=1):
+        """A call that is refused by the script with a line that has these words, and puts no data set."""
+        before = self.path("d").exists()
+        found, out, errors = self.call(*words)
+        is_one = errors.count("\n") == 1 and (errors.startswith("volume.py: ") or status != 1)
+        want_true((found, out) == (status, "") and is_one and told in errors, f"{words}: {found} {out!r} {errors!r}")
+        want(self.path("d").exists(), before, "the data set")
+
+    def info(self, dataset="d"):
+        return json.loads(self.path(f"{dataset}/info").read_text())
+
+    def cube(self, name="in.npy", descr="|u1", width=1):
+        save(self.path(name), descr, [2] * 3, bytes(8 * width))
 
 
-def call(program, folder, *words):
-    """What a call ends with. One of `put` that names no lengths of a voxel gets some."""
-    return call_as_it_is(program, folder, *words, *(LENGTHS if words[0] == "put" and "--resolution" not in words else []))
-
-
-def call_as_it_is(program, folder, *words):
-    done = subprocess.run(
-        [sys.executable, SCRIPT, *words], cwd=folder, capture_output=True, timeout=LIMIT, stdin=subprocess.DEVNULL,
-        env={**os.environ, "VOL_TOOL": str(program)},
-    )
-    return done.returncode, done.stdout.decode(), done.stderr.decode()
-
-
-def save(path, descr, shape, by_columns, values):
-    """An array as numpy.save writes it; the values are bytes in the file's order."""
-    text = repr({"descr": descr, "fortran_order": by_columns, "shape": tuple(shape)})
-    text += " " * (-(len(text) + 11) % 64) + "\n"
-    path.write_bytes(b"\x93NUMPY\x01\x00" + struct.pack("<H", len(text)) + text.encode() + values)
-
-
-def load(path):
-    """The type, the shape, whether columns come first, and the bytes of an array."""
-    found = path.read_bytes()
-    length = struct.unpack("<H", found[8:10])[0]
-    if found[:8] != b"\x93NUMPY\x01\x00" or (10 + length) % 64:
-        raise ValueError("no array")
-    header = eval(found[10 : 10 + length], {"__builtins__": {}})  # pylint: disable=eval-used
-    return header["descr"], list(header["shape"]), header["fortran_order"], found[10 + length :]
-
-
-def in_order(values, size, channels, axes, by_columns, order, width):
-    """The bytes of values by (x, y, z, channel), in the order of a file with these axes."""
-    lengths = dict(zip("xyzc", [*size, channels]))
-    slowest_first = axes if not by_columns else axes[::-1]
-    found = bytearray()
-    for place in itertools.product(*(range(lengths[axis]) for axis in slowest_first)):
-        at = dict(zip(slowest_first, place))
-        value = values[at["x"], at["y"], at["z"], at.get("c", 0)]
-        found += value.to_bytes(width, order)
-    return bytes(found)
+def pick_values(chance, size, channels, bits):
+    places = itertools.product(*map(range, size), range(channels))
+    return {place: chance.getrandbits(bits) for place in places}
 
 
 FORMS = [
@@ -81,255 +75,193 @@ FORMS = [
 ]
 
 
-@in_folder
-def judge_form(program, form, folder):
-    width, axes, by_columns, order, channels, options = form
-    chance = random.Random(repr(form))
+def comes_back(folder, width, axes, by_columns, order, channels, options):
+    """All of an array, and a voxel of it."""
+    chance = random.Random(repr((width, axes, by_columns, order, channels, options)))
     size = [chance.randint(1, 6) for _ in range(3)]
-    shape = range(size[0]), range(size[1]), range(size[2]), range(channels)
-    values = {place: chance.getrandbits(8 * width) for place in itertools.product(*shape)}
+    values = pick_values(chance, size, channels, 8 * width)
     names = axes if channels > 1 else axes.replace("c", "")
     lengths = dict(zip("xyzc", [*size, channels]))
     descr = f"{'|' if width == 1 else '<' if order == 'little' else '>'}u{width}"
-    content = in_order(values, size, channels, names, by_columns, order, width)
-    save(folder / "in.npy", descr, [lengths[axis] for axis in names], by_columns, content)
-    status, out, err = call(program, folder, "put", "in.npy", "d", "s", "--axes", axes, *options)
-    if (status, err) != (0, "") or not out.startswith("objects "):
-        return f"put ends with {status} {out!r} {err!r}"
-    if call(program, folder, "get", "d", "s", "all", "out.npy", "--axes", axes) != (0, "", ""):
-        return "get of all fails"
-    descr, shape, columns, found = load(folder / "out.npy")
-    wanted = in_order(values, size, channels, names, columns, "little", width)
-    if (shape, found) != ([lengths[axis] for axis in names], wanted):
-        return f"all is {shape} {found!r}"
-    begin = json.loads((folder / "d/info").read_text())["scales"][0]["voxel_offset"]
+    shape = [lengths[axis] for axis in names]
+    save(folder.path("in.npy"), descr, shape, in_order(values, lengths, names, by_columns, order, width), by_columns)
+    folder.does("put", "in.npy", "d", "s", "--axes", axes, *options)
+    folder.does("get", "d", "s", "all", "out.npy", "--axes", axes)
+    _, found, columns, content = load(folder.path("out.npy"))
+    want((found, content), (shape, in_order(values, lengths, names, columns, "little", width)), "all")
     one = [chance.randrange(side) for side in size]
-    box = "[" + ",".join(f"{at + first}:{at + first + 1}" for at, first in zip(one, begin)) + "]"
-    if call(program, folder, "get", "d", "s", box, "one.npy") != (0, "", ""):
-        return f"get of {box} fails"
+    begin = [at + first for at, first in zip(one, folder.info()["scales"][0]["voxel_offset"])]
+    folder.does("get", "d", "s", spell([(at, at + 1) for at in begin]), "one.npy")
     wanted = b"".join(values[(*one, channel)].to_bytes(width, "little") for channel in range(channels))
-    if load(folder / "one.npy")[3] != wanted:
-        return f"{box} is {load(folder / 'one.npy')[3]!r} wanted {wanted!r}"
-    return None
+    want(load(folder.path("one.npy"))[3], wanted, f"the voxel {begin}")
 
 
-@in_folder
-def asks_for_axes(program, _, folder):
+def asks_for_axes(folder):
     size, channels = [7, 6, 5], 3
-    shape = range(size[0]), range(size[1]), range(size[2]), range(channels)
-    values = {place: number % 251 for number, place in enumerate(itertools.product(*shape))}
-    content = in_order(values, size, channels, "zyxc", False, "little", 1)
-    save(folder / "in.npy", "|u1", [5, 6, 7, 3], False, content)
-    status, out, err = call(program, folder, "put", "in.npy", "d", "s")
-    if status != 1 or out or "--axes zyxc" not in err or (folder / "d").exists():
-        return f"no axes named: {status} {out!r} {err!r}"
-    for axes, number, wanted_size in [("zyxc", 3, size), ("czyx", 5, [3, 7, 6])]:
-        status, _, err = call(program, folder, "put", "in.npy", axes, "s", "--axes", axes)
-        info = json.loads((folder / axes / "info").read_text())
-        if status != 0 or info["num_channels"] != number or info["scales"][0]["size"] != wanted_size:
-            return f"{axes}: {status} {err!r} {info}"
-    call(program, folder, "get", "zyxc", "s", "all", "out.npy")
-    if load(folder / "out.npy")[3] != in_order(values, size, channels, "czyx", False, "little", 1):
-        return "zyxc has other values"
-    call(program, folder, "get", "zyxc", "s", "all", "out.npy", "--axes", "zyxc")
-    if load(folder / "out.npy") != ("|u1", [5, 6, 7, 3], False, content):
-        return "zyxc comes out otherwise than it went in"
-    return None
+    lengths = dict(zip("xyzc", [*size, channels]))
+    values = pick_values(random.Random(0), size, channels, 8)
+    content = in_order(values, lengths, "zyxc", False, "little", 1)
+    save(folder.path("in.npy"), "|u1", [5, 6, 7, 3], content)
+    folder.refuses("--axes zyxc", "put", "in.npy", "d", "s")
+    for axes, number, wanted in [("zyxc", 3, size), ("czyx", 5, [3, 7, 6])]:
+        folder.does("put", "in.npy", axes, "s", "--axes", axes)
+        info = folder.info(axes)
+        want((info["num_channels"], info["scales"][0]["size"]), (number, wanted), axes)
+    folder.does("get", "zyxc", "s", "all", "out.npy")
+    want(load(folder.path("out.npy"))[3], in_order(values, lengths, "czyx", False, "little", 1), "zyxc")
+    folder.does("get", "zyxc", "s", "all", "out.npy", "--axes", "zyxc")
+    want(load(folder.path("out.npy")), ("|u1", [5, 6, 7, 3], False, content), "zyxc as it went in")
 
 
-def cube(path, descr, side=2, width=1):
-    save(path, descr, [side] * 3, False, bytes(side**3 * width))
-
-
-@in_folder
-def refuses_types(program, _, folder):
+def refuses_types(folder):
     for descr, width in [("<i2", 2), ("<f4", 4), ("|b1", 1), ("<c8", 8), ("<i8", 8)]:
-        cube(folder / "in.npy", descr, width=width)
-        status, out, err = call(program, folder, "put", "in.npy", "d", "s")
-        if status != 1 or out or descr not in err or (folder / "d").exists():
-            return f"{descr} {status} {out!r} {err!r}"
-    return None
+        folder.cube(descr=descr, width=width)
+        folder.refuses(descr, "put", "in.npy", "d", "s")
 
 
-@in_folder
-def refuses_sizes(program, _, folder):
-    save(folder / "in.npy", "|u1", [1025, 1024, 1024], False, b"")
-    with open(folder / "in.npy", "r+b") as file:
-        file.truncate(math.prod([1025, 1024, 1024]) + 128)
-    status, out, err = call(program, folder, "put", "in.npy", "d", "s")
-    if status != 1 or "bytes" not in err or (folder / "d").exists():
-        return f"over 2^30 bytes: {status} {out!r} {err!r}"
-    cube(folder / "in.npy", "<u2", width=2)
-    status, out, err = call(program, folder, "put", "in.npy", "d", "s", "--encoding", "compressed_segmentation")
-    if status != 1 or "uint16" not in err or (folder / "d").exists():
-        return f"a segmentation of uint16: {status} {out!r} {err!r}"
-    return None
+def refuses_sizes(folder):
+    save(folder.path("in.npy"), "|u1", [1025, 1024, 1024], b"")
+    with folder.path("in.npy").open("r+b") as file:
+        file.truncate(1025 * 1024 * 1024 + 128)
+    folder.refuses("bytes", "put", "in.npy", "d", "s")
+    folder.cube(descr="<u2", width=2)
+    folder.refuses("uint16", "put", "in.npy", "d", "s", "--encoding", "compressed_segmentation")
 
 
-@in_folder
-def adds_scales(program, _, folder):
-    cube(folder / "in.npy", "|u1")
-    cube(folder / "other.npy", "<u2", width=2)
+def adds_scales(folder):
+    folder.cube()
+    folder.cube("other.npy", "<u2", 2)
     for key in ("s", "t"):
-        status, _, err = call(program, folder, "put", "in.npy", "d", key)
-        if status != 0:
-            return f"the scale {key}: {err!r}"
-    info = json.loads((folder / "d/info").read_text())
-    if [scale["key"] for scale in info["scales"]] != ["s", "t"]:
-        return f"the info has {info}"
-    status, _, err = call(program, folder, "put", "in.npy", "d", "s")
-    if status != REQUEST or err != "folder not empty\n":
-        return f"a scale that is there: {status} {err!r}"
-    status, _, err = call(program, folder, "put", "other.npy", "d", "u")
-    if status != 1 or "uint8" not in err or json.loads((folder / "d/info").read_text()) != info:
-        return f"another type: {status} {err!r}"
-    return None
+        folder.does("put", "in.npy", "d", key)
+    info = folder.info()
+    want([scale["key"] for scale in info["scales"]], ["s", "t"], "the keys")
+    want(folder.call("put", "in.npy", "d", "s"), (REQUEST, "", "folder not empty\n"), "a scale that is there")
+    folder.refuses("uint8", "put", "other.npy", "d", "u")
+    want(folder.info(), info, "the info")
 
 
-@in_folder
-def refuses_boxes(program, _, folder):
-    cube(folder / "in.npy", "|u1")
-    call(program, folder, "put", "in.npy", "d", "s")
-    for words, wanted in [
-        (("get", "d", "s", "[0:3,0:1,0:1]", "out.npy"), REQUEST),
-        (("get", "d", "s", "[0:1,0:1]", "out.npy"), 1),
-        (("get", "d", "t", "all", "out.npy"), 1),
-        (("get", "e", "s", "all", "out.npy"), 1),
+def refuses_boxes(folder):
+    folder.cube()
+    folder.does("put", "in.npy", "d", "s")
+    for words, status in [
+        (("d", "s", "[0:3,0:1,0:1]"), REQUEST),
+        (("d", "s", "[0:1,0:1]"), 1),
+        (("d", "t", "all"), 1),
+        (("e", "s", "all"), 1),
     ]:
-        status, _, err = call(program, folder, *words)
-        if status != wanted or not err or list(folder.glob("out.npy*")):
-            return f"{words} {status} {err!r}"
-    return None
+        folder.refuses("", "get", *words, "out.npy", status=status)
+        want(list(folder.trial.folder.glob("out.npy*")), [], f"{words}: what is left")
 
 
-@in_folder
-def refuses_names(program, _, folder):
-    cube(folder / "in.npy", "|u1")
-    for dataset, key in [(str(folder / "d"), "s"), ("d/", "s"), ("./d", "s"), ("d", "../s"), ("d", "8 8 40"), ("d", "s" * 201)]:
-        for words in [("put", "in.npy", dataset, key), ("add", dataset, "s", key)]:
-            status, out, err = call(program, folder, *words)
-            if status != 1 or out or not err.startswith("volume.py: ") or (folder / "d").exists():
-                return f"{words} {status} {out!r} {err!r}"
-    return None
+def refuses_names(folder):
+    folder.cube()
+    for dataset, key in [(str(folder.path("d")), "s"), ("d/", "s"), ("./d", "s"), ("d", "../s"), ("d", "8 8 40"), ("d", "s" * 201)]:
+        for words in (("put", "in.npy", dataset, key), ("add", dataset, "s", key)):
+            folder.refuses("", *words)
 
 
-@in_folder
-def keeps_info_without_program(program, _, folder):
-    cube(folder / "in.npy", "|u1")
-    (folder / "none").write_text("#!/bin/sh\nexit 125\n")
-    (folder / "none").chmod(0o755)
-    for there, wanted in [(folder / "none", 125), (folder / "missing", 1)]:
-        status, _, _ = call(there, folder, "put", "in.npy", "d", "s")
-        if status != wanted or (folder / "d/info").exists():
-            return f"{there.name}: {status}"
-    return None
+def keeps_info_without_program(folder):
+    folder.cube()
+    folder.path("none").write_text("#!/bin/sh\nexit 125\n")
+    folder.path("none").chmod(0o755)
+    for name, wanted in (("none", 125), ("missing", 1)):
+        status, _, _ = folder.call("put", "in.npy", "d", "s", program=folder.path(name))
+        want((status, folder.path("d/info").exists()), (wanted, False), name)
 
 
-@in_folder
-def keeps_info(program, _, folder):
-    cube(folder / "in.npy", "|u1")
-    (folder / "d/s").mkdir(parents=True)
-    (folder / "d/s/old").touch()
-    status, _, err = call(program, folder, "put", "in.npy", "d", "s")
-    if status != REQUEST or err != "folder not empty\n" or (folder / "d/info").exists():
-        return f"no info before: {status} {err!r}"
-    call(program, folder, "put", "in.npy", "d", "t")
-    before = (folder / "d/info").read_bytes()
-    status, _, _ = call(program, folder, "put", "in.npy", "d", "s")
-    return None if status == REQUEST and (folder / "d/info").read_bytes() == before else f"an info before: {status}"
+def keeps_info(folder):
+    folder.cube()
+    folder.trial.lay_out({"d/s/old": b""})
+    refused = (REQUEST, "", "folder not empty\n")
+    want(folder.call("put", "in.npy", "d", "s"), refused, "no info before")
+    want(folder.path("d/info").exists(), False, "an info")
+    folder.does("put", "in.npy", "d", "t")
+    before = folder.info()
+    want(folder.call("put", "in.npy", "d", "s"), refused, "an info before")
+    want(folder.info(), before, "the info")
 
 
-@in_folder
-def keeps_lengths(program, _, folder):
-    cube(folder / "in.npy", "|u1")
-    status, _, err = call(program, folder, "put", "in.npy", "d", "s", "--resolution", "4.5,4.5,40")
-    scale = json.loads((folder / "d/info").read_text())["scales"][0]
-    if status != 0 or scale["resolution"] != [4.5, 4.5, 40]:
-        return f"{status} {err!r} {scale}"
-    status, _, _ = call(program, folder, "put", "in.npy", "d", "t", "--resolution", "0,1,1")
-    return None if status != 0 else "a length of 0"
+def keeps_lengths(folder):
+    folder.cube()
+    folder.does("put", "in.npy", "d", "s", "--resolution", "4.5,4.5,40")
+    want(folder.info()["scales"][0]["resolution"], [4.5, 4.5, 40], "the lengths")
+    want_true(folder.call("put", "in.npy", "d", "t", "--resolution", "0,1,1")[0] != 0, "a length of 0")
 
 
-@in_folder
-def asks_for_lengths(program, _, folder):
-    cube(folder / "in.npy", "|u1")
-    status, out, err = call_as_it_is(program, folder, "put", "in.npy", "d", "s")
-    if (status, out) != (1, "") or "--resolution 8,8,40" not in err or (folder / "d").exists():
-        return f"a new scale: {status} {out!r} {err!r}"
-    call(program, folder, "put", "in.npy", "d", "s")
-    for path in (folder / "d/s").iterdir():
+def asks_for_lengths(folder):
+    folder.cube()
+    status, out, errors = folder.call_as_it_is("put", "in.npy", "d", "s")
+    want((status, out, "--resolution 8,8,40" in errors, folder.path("d").exists()), (1, "", True, False), "a new scale")
+    folder.does("put", "in.npy", "d", "s")
+    for path in folder.path("d/s").iterdir():
         path.unlink()
-    status, _, err = call_as_it_is(program, folder, "put", "in.npy", "d", "s")
-    return None if (status, err) == (0, "") else f"a scale that is there: {status} {err!r}"
+    status, _, errors = folder.call_as_it_is("put", "in.npy", "d", "s")
+    want((status, errors), (0, ""), "a scale that is there")
 
 
-@in_folder
-def takes_infos(program, _, folder):
+def takes_infos(folder):
     """Infos that others made: a type in capitals, a layout that the options' own wouldn't fit, and what is no info."""
-    (folder / "d").mkdir()
-    path = folder / "d/info"
     scale = {"key": "s", "size": [2, 2, 2], "chunk_sizes": [[1, 1, 1]], "resolution": [1, 1, 1], "encoding": "raw"}
     volume = {"type": "image", "data_type": "UINT64", "num_channels": 1024, "scales": [scale]}
-    path.write_text(json.dumps(volume))
-    save(folder / "in.npy", "<u8", [1024, 2, 2, 2], False, random.Random(1).randbytes(8 * 8 * 1024))
-    words = "--axes", "czyx", "--encoding", "compressed_segmentation", "--block", "128,128,128"
-    status, _, err = call(program, folder, "put", "in.npy", "d", "s", *words)
-    if status != 0:
-        return f"a layout that is there: {status} {err!r}"
-    call(program, folder, "get", "d", "s", "all", "out.npy")
-    if load(folder / "out.npy")[3] != load(folder / "in.npy")[3]:
-        return "other values"
-    for text in ["[]", "{}", "{", '{"data_type": "float32", "num_channels": 1, "scales": []}', json.dumps({**volume, "scales": [{}]})]:
-        path.write_text(text)
-        for words in [("put", "in.npy", "d", "s"), ("get", "d", "s", "all", "o.npy"), ("add", "d", "s", "t")]:
-            status, out, err = call(program, folder, *words)
-            if status != 1 or out or not err.startswith("volume.py: ") or err.count("\n") != 1 or path.read_text() != text:
-                return f"{text} {words} {status} {out!r} {err!r}"
-    return None
+    folder.trial.lay_out({"d/info": json.dumps(volume).encode()})
+    save(folder.path("in.npy"), "<u8", [1024, 2, 2, 2], random.Random(1).randbytes(8 * 8 * 1024))
+    options = "--axes", "czyx", "--encoding", "compressed_segmentation", "--block", "128,128,128"
+    folder.does("put", "in.npy", "d", "s", *options)
+    folder.does("get", "d", "s", "all", "out.npy")
+    want(load(folder.path("out.npy"))[3], load(folder.path("in.npy"))[3], "the values")
+    floats = '{"data_type": "float32", "num_channels": 1, "scales": []}'
+    for text in ("[]", "{}", "{", floats, json.dumps({**volume, "scales": [{}]})):
+        folder.trial.lay_out({"d/info": text.encode()})
+        for words in (("put", "in.npy", "d", "s"), ("get", "d", "s", "all", "o.npy"), ("add", "d", "s", "t")):
+            folder.refuses("", *words)
+            want(folder.path("d/info").read_text(), text, "the info")
 
 
-@in_folder
-def adds_layouts(program, _, folder):
-    side = 5
-    values = random.Random(0).randbytes(4 * side**3)
-    save(folder / "in.npy", "<u4", [side] * 3, False, values)
-    call(program, folder, "put", "in.npy", "d", "s", "--chunk", "4,4,4", "--offset=-3,0,7", "--resolution", "8,8,40")
+def adds_layouts(folder):
+    values = random.Random(0).randbytes(4 * 5**3)
+    save(folder.path("in.npy"), "<u4", [5] * 3, values)
+    folder.does("put", "in.npy", "d", "s", "--chunk", "4,4,4", "--offset=-3,0,7", "--resolution", "8,8,40")
     for key, options in [
         ("t", ["--chunk", "2,3,4", "--sharding", "0,identity,1,1"]),
         ("u", ["--chunk", "4,4,4", "--encoding", "compressed_segmentation", "--block", "2,2,2"]),
     ]:
-        if call(program, folder, "add", "d", "s", key, *options) != (0, "", ""):
-            return f"add of {key} fails"
-        subprocess.run([program, "reshard", "d", "s", "d", key], cwd=folder, check=True, capture_output=True, timeout=LIMIT)
-        if call(program, folder, "get", "d", key, "all", "out.npy") != (0, "", "") or load(folder / "out.npy")[3] != values:
-            return f"{key} has other values"
-    before = (folder / "d/info").read_bytes()
-    for words in [("d", "s", "t"), ("d", "v", "w"), ("e", "s", "t")]:
-        status, _, err = call(program, folder, "add", *words)
-        if status != 1 or not err or (folder / "d/info").read_bytes() != before:
-            return f"add {words} {status} {err!r}"
-    return None
+        folder.does("add", "d", "s", key, *options)
+        want(folder.trial.run(["reshard", "d", "s", "d", key])[0], 0, "the status of a copy")
+        folder.does("get", "d", key, "all", "out.npy")
+        want(load(folder.path("out.npy"))[3], values, f"the values of {key}")
+    before = folder.info()
+    for words in (("d", "s", "t"), ("d", "v", "w"), ("e", "s", "t")):
+        folder.refuses("", "add", *words)
+        want(folder.info(), before, "the info")
 
 
-def judge_all(program):
+# title, case
+CASES = [
+    ("channels behind x", asks_for_axes),
+    ("types that aren't stored", refuses_types),
+    ("sizes past the limits", refuses_sizes),
+    ("scales of one info", adds_scales),
+    ("boxes that aren't there", refuses_boxes),
+    ("names that the program takes as none", refuses_names),
+    ("an info after a refusal", keeps_info),
+    ("an info where there is no program", keeps_info_without_program),
+    ("lengths of a voxel", keeps_lengths),
+    ("no lengths of a voxel", asks_for_lengths),
+    ("infos that others made", takes_infos),
+    ("scales in other layouts", adds_layouts),
+]
+
+
+def in_folder(trial, case, *arguments):
+    case(Folder(trial), *arguments)
+
+
+def rows():
     for form in FORMS:
-        yield f"an array {form}", judge_form(program, form)
-    for judge, title in [
-        (asks_for_axes, "channels behind x"),
-        (refuses_types, "types that aren't stored"),
-        (refuses_sizes, "sizes past the limits"),
-        (adds_scales, "scales of one info"),
-        (refuses_boxes, "boxes that aren't there"),
-        (refuses_names, "names that the program takes as none"),
-        (keeps_info, "an info after a refusal"),
-        (keeps_info_without_program, "an info where there is no program"),
-        (keeps_lengths, "lengths of a voxel"),
-        (asks_for_lengths, "no lengths of a voxel"),
-        (takes_infos, "infos that others made"),
-        (adds_layouts, "scales in other layouts"),
-    ]:
-        yield title, judge(program, None)
+        yield f"an array {form}", in_folder, comes_back, *form
+    for title, case in CASES:
+        yield title, in_folder, case
 
 
 if __name__ == "__main__":
-    sys.exit(tell_all(judge_all))
+    main(rows)

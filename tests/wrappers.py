@@ -3,21 +3,19 @@
 
     tests/wrappers.py [PROGRAM]
 
-PROGRAM is crates/vol_tool/out/vol_tool if it is left out. Each case has a tree of its own: bin/vol_tool, install, demo, docs/ and examples/ of
-this one, a source, and what its title says of the program. The last line is 'N passed, N failed', and the status is 1 where a
-case failed.
+Each row has a tree of its own: bin/vol_tool, install, demo, docs/ and examples/ of this one, a source, and what its title says of
+the program.
 """
 import os
 import pathlib
 import shutil
 import subprocess
-import sys
-import tempfile
 
-from program import LIMIT, ROOT, tell_all
+from harness import LIMIT, ROOT, call, main, want, want_true
 
-# A program that tells its arguments and its folder, and ends with status 3.
+# A program that tells its arguments and its folder, and ends with status 3; and one that ends with the status in the file beside it.
 TELLS = '#!/bin/sh\necho "{name}:$*"\npwd\nexit 3\n'
+ENDS = '#!/bin/sh\nexit "$(cat "$(dirname "$0")/status")"\n'
 
 # Stand-ins for `rt`: each notes that it was called.
 BUILDS = "#!/bin/sh\necho called >>\"$CALLS\"\nprintf '%s\\n' '#!/bin/sh' 'echo \"new:$*\"' pwd 'exit 3' >out/vol_tool\nchmod +x out/vol_tool\n"
@@ -38,94 +36,6 @@ vol_tool cutout d s '[0:8,0:5,0:1]'
 # The rows of channel 0: three boxes, of which the later ones stand above.
 ROWS = ["11111111", "11222211", "11222331", "00222330", "00222200"]
 
-
-def make_tree(folder, builder):
-    for name in ("bin", "docs", "examples"):
-        shutil.copytree(ROOT / name, folder / name, ignore=shutil.ignore_patterns("__pycache__"))
-    for name in ("demo", "install"):
-        shutil.copy2(ROOT / name, folder)
-    (folder / "crates/vol_tool/out").mkdir(parents=True)
-    (folder / "crates/vol_tool/source.rt").touch()
-    (folder / "crates.txt").touch()
-    (folder / "tools").mkdir()
-    write_program(folder / "tools/rt", builder)
-
-
-def write_program(path, text):
-    path.write_text(text)
-    path.chmod(0o755)
-
-
-def set_time(path, seconds):
-    os.utime(path, (seconds, seconds))
-
-
-def call(folder, *words):
-    """What bin/vol_tool says with some words, and how often a build was called for."""
-    calls = folder / "calls"
-    path = f"{folder / 'tools'}:{os.environ['PATH']}"
-    done = subprocess.run(
-        [folder / "bin/vol_tool", *words], cwd=folder / "tools", capture_output=True, timeout=LIMIT, stdin=subprocess.DEVNULL,
-        env={**os.environ, "PATH": path, "CALLS": str(calls)},
-    )
-    count = len(calls.read_text().splitlines()) if calls.exists() else 0
-    return done.returncode, done.stdout.decode(), count
-
-
-def told(folder, name, count):
-    return 3, f"{name}:a b  c\n{folder / 'tools'}\n", count
-
-
-def judge_wrapper(found, wanted):
-    return None if found == wanted else f"{found} wanted {wanted}"
-
-
-def runs_what_is_there(folder):
-    make_tree(folder, FAILS)
-    write_program(folder / "crates/vol_tool/out/vol_tool", TELLS.format(name="old"))
-    return judge_wrapper(call(folder, "a", "b  c"), told(folder, "old", 0))
-
-
-def builds_the_first(folder):
-    make_tree(folder, BUILDS)
-    return judge_wrapper(call(folder, "a", "b  c"), told(folder, "new", 1))
-
-
-def builds_anew(folder):
-    make_tree(folder, BUILDS)
-    program = folder / "crates/vol_tool/out/vol_tool"
-    write_program(program, TELLS.format(name="old"))
-    set_time(program, 1)
-    found = judge_wrapper(call(folder, "a", "b  c"), told(folder, "new", 1))
-    return found or (f"{program}.old is left" if pathlib.Path(f"{program}.old").exists() else None)
-
-
-def keeps_the_old(folder):
-    make_tree(folder, FAILS)
-    program = folder / "crates/vol_tool/out/vol_tool"
-    write_program(program, TELLS.format(name="old"))
-    set_time(program, 1)
-    found = judge_wrapper(call(folder, "a"), (125, "", 1))
-    if found or not program.exists():
-        return found or "the old program is gone"
-    set_time(program, os.stat(folder / "crates.txt").st_mtime + 1)
-    return judge_wrapper(call(folder, "a", "b  c"), told(folder, "old", 1))
-
-
-def builds_none(folder):
-    make_tree(folder, FAILS)
-    return judge_wrapper(call(folder, "a"), (125, "", 1))
-
-
-def takes_up_what_was_killed(folder):
-    make_tree(folder, FAILS)
-    write_program(folder / "crates/vol_tool/out/vol_tool.old", TELLS.format(name="old"))
-    return judge_wrapper(call(folder, "a", "b  c"), told(folder, "old", 0))
-
-
-# A program that ends with the status in its folder's file `status`.
-ENDS = '#!/bin/sh\nexit "$(cat "$(dirname "$0")/status")"\n'
-
 # Words, the status that the program ends with, and the line of help that follows it on a terminal.
 HELP = [
     ("cut d s", 1, "there is no command cut; vol_tool --help tells them"),
@@ -139,95 +49,154 @@ HELP = [
 ]
 
 
-def tells_the_commands(folder):
-    make_tree(folder, FAILS)
-    commands = ["write", "cutout", "verify", "reshard", "generate", "serve"]
+class Tree:
+    """A checkout, with a stand-in for `rt` and the program that stands there at first."""
+
+    def __init__(self, folder, builder, program=None):
+        self.folder = folder
+        for name in ("bin", "docs", "examples"):
+            shutil.copytree(ROOT / name, folder / name, ignore=shutil.ignore_patterns("__pycache__"))
+        for name in ("demo", "install"):
+            shutil.copy2(ROOT / name, folder)
+        self.program = folder / "crates/vol_tool/out/vol_tool"
+        self.program.parent.mkdir(parents=True)
+        (folder / "crates/vol_tool/source.rt").touch()
+        (folder / "crates.txt").touch()
+        self.put("tools/rt", builder)
+        if program is not None:
+            self.put(self.program, program)
+
+    def put(self, name, text):
+        """A program."""
+        path = self.folder / name
+        path.parent.mkdir(exist_ok=True)
+        path.write_text(text)
+        path.chmod(0o755)
+
+    def set_time(self, seconds):
+        os.utime(self.program, (seconds, seconds))
+
+    def call(self, *words):
+        """What bin/vol_tool says with some words, and how often a build was called for."""
+        calls = self.folder / "calls"
+        path = f"{self.folder / 'tools'}:{os.environ['PATH']}"
+        status, out, _ = call([self.folder / "bin/vol_tool", *words], self.folder / "tools", PATH=path, CALLS=str(calls))
+        return status, out, len(calls.read_text().splitlines()) if calls.exists() else 0
+
+    def call_on_terminal(self, words):
+        """The status, and what a terminal shows of the error output."""
+        ours, theirs = os.openpty()
+        done = subprocess.run(
+            [self.folder / "bin/vol_tool", *words.split()], cwd=self.folder / "tools", stdout=subprocess.DEVNULL, stderr=theirs,
+            timeout=LIMIT, stdin=subprocess.DEVNULL,
+        )
+        os.close(theirs)
+        try:
+            text = os.read(ours, 4096).decode()
+        except OSError:
+            text = ""
+        os.close(ours)
+        return done.returncode, text.strip()
+
+    def wants_call(self, name, count):
+        """The program of this name is run, after so many builds."""
+        want(self.call("a", "b  c"), (3, f"{name}:a b  c\n{self.folder / 'tools'}\n", count))
+
+
+OLD = TELLS.format(name="old")
+
+
+def runs_what_is_there(trial):
+    Tree(trial.folder, FAILS, OLD).wants_call("old", 0)
+
+
+def builds_the_first(trial):
+    Tree(trial.folder, BUILDS).wants_call("new", 1)
+
+
+def builds_anew(trial):
+    tree = Tree(trial.folder, BUILDS, OLD)
+    tree.set_time(1)
+    tree.wants_call("new", 1)
+    want_true(not pathlib.Path(f"{tree.program}.old").exists(), "the old program is left")
+
+
+def keeps_the_old(trial):
+    tree = Tree(trial.folder, FAILS, OLD)
+    tree.set_time(1)
+    want(tree.call("a"), (125, "", 1))
+    want_true(tree.program.exists(), "the old program is gone")
+    tree.set_time(os.stat(trial.folder / "crates.txt").st_mtime + 1)
+    tree.wants_call("old", 1)
+
+
+def builds_none(trial):
+    want(Tree(trial.folder, FAILS).call("a"), (125, "", 1))
+
+
+def takes_up_what_was_killed(trial):
+    tree = Tree(trial.folder, FAILS)
+    tree.put(f"{tree.program}.old", OLD)
+    tree.wants_call("old", 0)
+
+
+def tells_the_commands(trial):
+    tree = Tree(trial.folder, FAILS)
     for words in ([], ["--help"], ["-h"], ["help"]):
-        status, text, count = call(folder, *words)
-        if (status, count) != (0, 0) or not all(f"vol_tool {command} " in text for command in commands):
-            return f"{words}: {status} {text!r}"
-        if not pathlib.Path(text.splitlines()[-1].split(": ")[1]).is_file():
-            return f"{words}: there is no such guide"
-    return None
+        status, text, count = tree.call(*words)
+        want((status, count), (0, 0), f"{words}")
+        for command in ("write", "cutout", "verify", "reshard", "generate", "serve"):
+            want_true(f"vol_tool {command} " in text, f"{words}: no {command} in {text!r}")
+        want_true(pathlib.Path(text.splitlines()[-1].split(": ")[1]).is_file(), f"{words}: there is no such guide")
 
 
-def call_on_terminal(folder, words):
-    """The status, and what a terminal shows of the error output."""
-    ours, theirs = os.openpty()
-    done = subprocess.run(
-        [folder / "bin/vol_tool", *words.split()], cwd=folder / "tools", stdout=subprocess.DEVNULL, stderr=theirs, timeout=LIMIT,
-        stdin=subprocess.DEVNULL,
-    )
-    os.close(theirs)
-    try:
-        text = os.read(ours, 4096).decode()
-    except OSError:
-        text = ""
-    os.close(ours)
-    return done.returncode, text.strip()
-
-
-def helps_on_a_terminal(folder):
-    make_tree(folder, FAILS)
-    write_program(folder / "crates/vol_tool/out/vol_tool", ENDS)
+def helps_on_a_terminal(trial):
+    tree = Tree(trial.folder, FAILS, ENDS)
     for words, status, line in HELP:
-        (folder / "crates/vol_tool/out/status").write_text(str(status))
-        found = call_on_terminal(folder, words)
-        if found != (status, line):
-            return f"{words}: {found} wanted {(status, line)}"
-        if call(folder, *words.split())[:2] != (status, ""):
-            return f"{words}: help without a terminal"
-    return None
+        (tree.program.parent / "status").write_text(str(status))
+        want(tree.call_on_terminal(words), (status, line), words)
+        want(tree.call(*words.split())[:2], (status, ""), f"{words}, without a terminal")
 
 
-def installs(folder):
-    make_tree(folder / "tree", FAILS)
-    write_program(folder / "tree/crates/vol_tool/out/vol_tool", TELLS.format(name="ours"))
-    prefix = folder / "prefix"
-    done = subprocess.run([folder / "tree/install", prefix], capture_output=True, timeout=LIMIT, stdin=subprocess.DEVNULL)
-    if done.returncode != 0 or f"{prefix}/bin isn't in PATH" not in done.stdout.decode():
-        return f"install: {done}"
-    shutil.rmtree(folder / "tree")
-    done = subprocess.run([prefix / "bin/vol_tool", "a", "b  c"], cwd=folder, capture_output=True, timeout=LIMIT)
-    if (done.returncode, done.stdout.decode()) != (3, f"ours:a b  c\n{folder}\n"):
-        return f"installed: {done}"
-    names = ("bin/volume.py", "bin/slices.html", "bin/fetch.py", "share/doc/vol_tool/guide.md")
-    missing = [name for name in names if not (prefix / name).is_file()]
-    return f"missing: {missing}" if missing else None
+def installs(trial):
+    Tree(trial.folder / "tree", FAILS, TELLS.format(name="ours"))
+    prefix = trial.folder / "prefix"
+    status, out, errors = call([trial.folder / "tree/install", prefix], trial.folder)
+    want_true(status == 0 and f"{prefix}/bin isn't in PATH" in out, f"install: {status} {out!r} {errors!r}")
+    shutil.rmtree(trial.folder / "tree")
+    found = call([prefix / "bin/vol_tool", "a", "b  c"], trial.folder)
+    want(found[:2], (3, f"ours:a b  c\n{trial.folder}\n"), "installed")
+    for name in ("bin/volume.py", "bin/slices.html", "bin/fetch.py", "share/doc/vol_tool/guide.md"):
+        want_true((prefix / name).is_file(), f"{name} is missing")
 
 
 def line_of(numbers):
     return "".join(f" {number:3d}" for number in numbers)
 
 
-def runs_the_demo(folder, program):
-    make_tree(folder, FAILS)
-    shutil.copy2(program, folder / "crates/vol_tool/out/vol_tool")
-    (folder / "crates/vol_tool/out/vol_tool").touch()
+def runs_the_demo(trial):
+    tree = Tree(trial.folder, FAILS)
+    shutil.copy2(trial.program, tree.program)
+    tree.program.touch()
     first = [line_of(x + 10 * y + 60 * z for x in range(4)) for z in range(4) for y in range(4)]
     second = [line_of(int(value) * scale for value in row) for scale in (1, 10) for row in ROWS]
-    wanted = DEMO.format(first="\n".join(first), second="\n".join(second))
-    done = subprocess.run([folder / "demo"], cwd=folder, capture_output=True, timeout=LIMIT, stdin=subprocess.DEVNULL)
-    found = done.returncode, done.stdout.decode(), done.stderr.decode()
-    return judge_wrapper(found, (0, wanted, ""))
+    want(call([trial.folder / "demo"], trial.folder), (0, DEMO.format(first="\n".join(first), second="\n".join(second)), ""))
 
 
-def judge_all(program):
-    for judge, title in [
-        (runs_what_is_there, "a program that is newer than each source"),
-        (builds_the_first, "no program"),
-        (builds_anew, "a program that is older than a source"),
-        (keeps_the_old, "an old program, and a build that fails"),
-        (builds_none, "no program, and a build that fails"),
-        (takes_up_what_was_killed, "a build that was killed"),
-        (tells_the_commands, "no words, and words that ask for help"),
-        (helps_on_a_terminal, "a line of help on a terminal"),
-        (installs, "an installed program, the checkout gone"),
-        (lambda folder: runs_the_demo(folder, program), "the demo"),
-    ]:
-        with tempfile.TemporaryDirectory() as folder:
-            yield title, judge(pathlib.Path(folder).resolve())
+def rows():
+    return [
+        ("a program that is newer than each source", runs_what_is_there),
+        ("no program", builds_the_first),
+        ("a program that is older than a source", builds_anew),
+        ("an old program, and a build that fails", keeps_the_old),
+        ("no program, and a build that fails", builds_none),
+        ("a build that was killed", takes_up_what_was_killed),
+        ("no words, and words that ask for help", tells_the_commands),
+        ("a line of help on a terminal", helps_on_a_terminal),
+        ("an installed program, the checkout gone", installs),
+        ("the demo", runs_the_demo),
+    ]
 
 
 if __name__ == "__main__":
-    sys.exit(tell_all(judge_all))
+    main(rows)

@@ -1,20 +1,20 @@
 """A plain model of sharded scales: chunk ids, places and shards (precomputed volume format, sharded format)."""
 import dataclasses
-import itertools
 import math
 import struct
 
-from murmur_table import hash8
+from .faults import Damaged
+from .murmur import hash8
 
 ROW = struct.Struct("<Q")
 
 
 @dataclasses.dataclass(frozen=True)
 class Sharding:
-    preshift: int
-    murmur: bool
-    minishard_bits: int
-    shard_bits: int
+    preshift: int = 0
+    murmur: bool = False
+    minishard_bits: int = 0
+    shard_bits: int = 0
 
     def member(self):
         """The scale's member `sharding`."""
@@ -37,56 +37,35 @@ class Sharding:
         return f"{shard:0{max(1, math.ceil(self.shard_bits / 4))}x}.shard"
 
 
-def grid_of(size, chunk):
-    """How many cells there are on each axis."""
-    return [-(-s // c) for s, c in zip(size, chunk)]
-
-
-def code_of(grid, cell):
-    """The compressed Morton code: the bits of x, y and z in turn, each as long as the grid has numbers that use it."""
-    code = place = 0
-    for bit in range(64):
-        for count, number in zip(grid, cell):
-            if 2**bit < count:
-                code |= (number >> bit & 1) << place
-                place += 1
-    return code
-
-
 def shard_of(minishard_bits, chunks):
     """
-    The bytes of a shard of chunks, each a minishard, an id and its bytes: the entries, and for each minishard its chunks
-    by id and then their index.
+    The bytes of a shard of chunks, each a minishard, an id and its bytes: the entries, and for each minishard its chunks by id
+    and then their index.
     """
-    entries, behind = [], b""
+    placed, entries, behind = {}, [], b""
+    for minishard, *row in sorted(chunks):
+        placed.setdefault(minishard, []).append(row)
     for minishard in range(2**minishard_bits):
-        rows = sorted((number, chunk) for place, number, chunk in chunks if place == minishard)
-        if not rows:
+        rows = placed.get(minishard)
+        if rows is None:
             entries += [0, 0]
             continue
-        start = len(behind)
+        start, ids = len(behind), [number for number, _ in rows]
         behind += b"".join(chunk for _, chunk in rows)
-        ids = [number for number, _ in rows]
-        deltas = [b - a for a, b in zip([0] + ids, ids)]
+        deltas = [number - before for before, number in zip([0, *ids], ids)]
         starts = [start] + [0] * (len(rows) - 1)
-        sizes = [len(chunk) for _, chunk in rows]
         entries += [len(behind), len(behind) + 24 * len(rows)]
-        behind += b"".join(map(ROW.pack, deltas + starts + sizes))
+        behind += b"".join(map(ROW.pack, deltas + starts + [len(chunk) for _, chunk in rows]))
     return b"".join(map(ROW.pack, entries)) + behind
 
 
 def files_of(sharding, chunks):
-    """The files of chunks, each an id and its bytes, by the last parts of their names."""
-    placed = [(*sharding.place(number), number, chunk) for number, chunk in chunks]
-    shards = sorted({shard for shard, *_ in placed})
-    return {
-        sharding.file(shard): shard_of(sharding.minishard_bits, [row for other, *row in placed if other == shard])
-        for shard in shards
-    }
-
-
-class Damaged(Exception):
-    """A fault on the way to a chunk, as it is told."""
+    """The files of chunks, by their ids: the bytes of each shard by the last part of its name, in the order of the shards."""
+    shards = {}
+    for number, chunk in chunks.items():
+        shard, minishard = sharding.place(number)
+        shards.setdefault(shard, []).append((minishard, number, chunk))
+    return {sharding.file(shard): shard_of(sharding.minishard_bits, shards[shard]) for shard in sorted(shards)}
 
 
 def number_at(shard, place):
@@ -141,22 +120,9 @@ def stored_in(minishard_bits, minishard, wanted, limit, shard):
     if found is None:
         return None
     start, size = found
-    base = 16 << minishard_bits
+    begin = (16 << minishard_bits) + start
     if size > limit:
         raise Damaged(f"chunk too long {size} limit {limit}")
-    if base + start + size > len(shard):
+    if begin + size > len(shard):
         raise Damaged("shard short chunk")
-    return shard[base + start : base + start + size]
-
-
-def chunk_in(minishard_bits, minishard, wanted, limit, shard):
-    """The bytes of a chunk of so many bytes, or None where it is absent."""
-    chunk = stored_in(minishard_bits, minishard, wanted, limit, shard)
-    if chunk is not None and len(chunk) != limit:
-        raise Damaged(f"chunk length {len(chunk)} wanted {limit}")
-    return chunk
-
-
-def cells_of(grid):
-    """The cells of a grid, x fastest."""
-    return [cell[::-1] for cell in itertools.product(*(range(count) for count in reversed(grid)))]
+    return shard[begin : begin + size]

@@ -2,7 +2,7 @@
 import dataclasses
 import itertools
 
-from shards import Damaged
+from .faults import Damaged
 
 BITS = [0, 1, 2, 4, 8, 16, 32]
 
@@ -25,17 +25,12 @@ class Shape:
         x, y, z = self.block
         return x * y * z
 
-    def voxels_of(self, begin):
-        """The voxels of a block in the chunk, each with its number in the block."""
+    def voxels_of(self, channel, begin):
+        """The voxels of a block: the number of each one's value in the chunk, and in the block."""
         x, y, z = (range(first, min(first + step, size)) for first, step, size in zip(begin, self.block, self.size))
         for k, j, i in itertools.product(z, y, x):
-            at = [i - begin[0], j - begin[1], k - begin[2]]
-            yield (i, j, k), at[0] + self.block[0] * (at[1] + self.block[1] * at[2])
-
-    def place(self, channel, voxel):
-        """The number of a voxel's value among those of the chunk."""
-        x, y, z = voxel
-        return x + self.size[0] * (y + self.size[1] * (z + self.size[2] * channel))
+            place = i + self.size[0] * (j + self.size[1] * (k + self.size[2] * channel))
+            yield place, i - begin[0] + self.block[0] * (j - begin[1] + self.block[1] * (k - begin[2]))
 
     def count(self):
         x, y, z = self.size
@@ -52,8 +47,20 @@ def bytes_of(words):
 
 def values_in(shape, raw):
     """The values of raw bytes, in their order."""
-    width = shape.width
-    return [int.from_bytes(raw[at : at + width], "little") for at in range(0, len(raw), width)]
+    return [int.from_bytes(raw[at : at + shape.width], "little") for at in range(0, len(raw), shape.width)]
+
+
+def words_in(number, count):
+    """The words of a number, the low one first."""
+    return [number >> (32 * word) & 0xFFFFFFFF for word in range(count)]
+
+
+def words_of_table(shape, values):
+    return [word for value in values for word in words_in(value, shape.width // 4)]
+
+
+def number_of(words):
+    return sum(word << (32 * at) for at, word in enumerate(words))
 
 
 def packed_words(voxels, bits):
@@ -61,25 +68,21 @@ def packed_words(voxels, bits):
     return -(-voxels * bits // 32)
 
 
-def least_bits(entries):
-    return next(bits for bits in BITS if entries <= 2**bits)
-
-
 def encode_channel(shape, values, channel):
     """The words of a channel: headers, and behind them each block's indices and, where it is new, its table."""
     blocks = shape.blocks()
     headers, behind, tables = [], [], {}
     for begin in blocks:
-        own = {number: values[shape.place(channel, voxel)] for voxel, number in shape.voxels_of(begin)}
+        own = {number: values[place] for place, number in shape.voxels_of(channel, begin)}
         table = tuple(sorted(set(own.values())))
-        bits = least_bits(len(table))
-        packed = sum(table.index(value) << (number * bits) for number, value in own.items())
+        index = {value: place for place, value in enumerate(table)}
+        bits = next(bits for bits in BITS if len(table) <= 2**bits)
+        packed = sum(index[value] << (number * bits) for number, value in own.items())
         indices = 2 * len(blocks) + len(behind)
-        count = packed_words(shape.block_voxels(), bits)
-        behind += [packed >> (32 * word) & 0xFFFFFFFF for word in range(count)]
+        behind += words_in(packed, packed_words(shape.block_voxels(), bits))
         if table not in tables:
             tables[table] = 2 * len(blocks) + len(behind)
-            behind += [value >> (32 * half) & 0xFFFFFFFF for value in table for half in range(shape.width // 4)]
+            behind += words_of_table(shape, table)
         headers += [tables[table] | bits << 24, indices]
     return headers + behind
 
@@ -88,8 +91,8 @@ def encode(shape, raw):
     """This project's spelling of the values of raw bytes."""
     values = values_in(shape, raw)
     channels = [encode_channel(shape, values, channel) for channel in range(shape.channels)]
-    starts = [shape.channels + sum(map(len, channels[:channel])) for channel in range(shape.channels)]
-    return bytes_of(starts + list(itertools.chain(*channels)))
+    starts = itertools.accumulate(map(len, channels[:-1]), initial=shape.channels)
+    return bytes_of([*starts, *itertools.chain(*channels)])
 
 
 def decode_block(shape, words, channel, number, begin, start, found):
@@ -102,14 +105,13 @@ def decode_block(shape, words, channel, number, begin, start, found):
     count = packed_words(shape.block_voxels(), bits)
     if bits and first + count > len(words):
         raise Damaged(f"seg values {channel} {number}")
-    packed = sum(word << (32 * at) for at, word in enumerate(words[first : first + count]))
+    packed = number_of(words[first : first + count])
     half = shape.width // 4
-    for voxel, own in shape.voxels_of(begin):
+    for place, own in shape.voxels_of(channel, begin):
         entry = start + table + half * (packed >> (own * bits) & (2**bits - 1))
         if entry + half > len(words):
             raise Damaged(f"seg table {channel} {number} {own}")
-        value = sum(word << (32 * at) for at, word in enumerate(words[entry : entry + half]))
-        found[shape.place(channel, voxel)] = value
+        found[place] = number_of(words[entry : entry + half])
 
 
 def decode(shape, chunk):
@@ -126,3 +128,37 @@ def decode(shape, chunk):
         for number, begin in enumerate(blocks):
             decode_block(shape, words, channel, number, begin, start, found)
     return b"".join(value.to_bytes(shape.width, "little") for value in found)
+
+
+# Another program's spelling.
+
+
+def spell_block(chance, shape, own):
+    """A block's bits, and the words of its indices and of its table: values in any order, also twice, and any padding."""
+    table = list(set(own.values())) + chance.choices(list(own.values()), k=chance.randint(0, 2))
+    chance.shuffle(table)
+    bits = chance.choice([bits for bits in BITS if len(table) <= 2**bits])
+    packed = 0
+    for number in range(shape.block_voxels()):
+        index = table.index(own[number]) if number in own else chance.getrandbits(32)
+        packed |= (index & (2**bits - 1)) << (number * bits)
+    return bits, words_in(packed, packed_words(shape.block_voxels(), bits)), words_of_table(shape, table)
+
+
+def spell_loosely(chance, shape, raw):
+    """The values of raw bytes with all headers in front, and behind them indices and tables in any order, with gaps."""
+    values, blocks = values_in(shape, raw), shape.blocks()
+    spelled = []
+    for channel, begin in itertools.product(range(shape.channels), blocks):
+        own = {number: values[place] for place, number in shape.voxels_of(channel, begin)}
+        spelled.append(spell_block(chance, shape, own))
+    parts = [(number, which) for number in range(len(spelled)) for which in (1, 2)]
+    chance.shuffle(parts)
+    starts = [shape.channels + 2 * len(blocks) * channel for channel in range(shape.channels)]
+    words = starts + [0] * (2 * len(spelled))
+    for number, which in parts:
+        words += [chance.getrandbits(32)] * chance.choice([0, 0, 0, 1])
+        header, place = shape.channels + 2 * number, len(words) - starts[number // len(blocks)]
+        words[header + 2 - which] = place | spelled[number][0] << 24 if which == 2 else place
+        words += spelled[number][which]
+    return bytes_of(words)

@@ -1,0 +1,149 @@
+"""What the scripts share that disturb small runs: the runs, over a row of three voxels and a volume of two layers, and what may come."""
+import dataclasses
+import pathlib
+import tempfile
+
+from harness import files_in, lay_out, want_front, want_true
+from model import (
+    SEGMENTED, Sharding, Volume, along, answer, files_of, generated, info_of, printed, refused, sound, stored, stream_of, sum_of,
+)
+
+ROW = info_of([3, 1, 1], [1, 1, 1])
+ROW_OBJECTS = {"d/s/0-1_0-1_0-1": b"\1", "d/s/1-2_0-1_0-1": b"\2", "d/s/2-3_0-1_0-1": b"\3"}
+TORN = {**ROW_OBJECTS, "d/s/1-2_0-1_0-1": b"\2\2"}
+TORN_LINE = "damaged 1,0,0: chunk length 2 wanted 1"
+
+# The same row in two shards, of two minishards each.
+SHARDING = Sharding(0, False, 1, 1)
+IN_SHARDS = info_of([3, 1, 1], [1, 1, 1], sharding=SHARDING.member())
+
+
+def shards_of(*chunks, dataset="d"):
+    return {f"{dataset}/s/{name}": shard for name, shard in files_of(SHARDING, dict(enumerate(chunks))).items()}
+
+
+SHARDS = shards_of(b"\1", b"\2", b"\3")
+
+# Copies of the row into pairs; and of the row with labels of four bytes into blocks.
+PAIRS = info_of([3, 1, 1], [2, 1, 1])
+COPIED_PAIRS = {"e/s/0-2_0-1_0-1": b"\1\2", "e/s/2-3_0-1_0-1": b"\3"}
+WIDE = {"data_type": "uint32"}
+LABELS = info_of([3, 1, 1], [1, 1, 1], WIDE)
+LABELLED = {name: 2 * (content + b"\0") for name, content in ROW_OBJECTS.items()}
+BLOCKS = info_of([3, 1, 1], [2, 1, 1], WIDE, **SEGMENTED)
+BLOCK_VOLUME = Volume([3, 1, 1], [2, 1, 1], width=4, block=(8, 8, 8), dataset="e")
+COPIED_BLOCKS = BLOCK_VOLUME.files(BLOCK_VOLUME.chunks_after([(along(0, 3), b"".join(LABELLED.values()))]))
+
+# Two layers of two channels each, a chunk a voxel.
+LAYERS = info_of([1, 1, 2], [1, 1, 1], {"num_channels": 2})
+LAYER_OBJECTS = {"d/s/0-1_0-1_0-1": b"\1\2", "d/s/0-1_0-1_1-2": b"\3\4"}
+TORN_LAYER = {**LAYER_OBJECTS, "d/s/0-1_0-1_1-2": b"\3"}
+
+# A list of three writes into the row, which has all its objects.
+ROW_VOLUME = Volume([3, 1, 1], [1, 1, 1])
+LIST = generated(ROW_VOLUME, 7, 3)
+LIST_CHUNKS = ROW_VOLUME.chunks_after(LIST)
+LIST_OBJECTS = ROW_VOLUME.files(LIST_CHUNKS)
+LIST_SHARDS = shards_of(*LIST_CHUNKS.values())
+
+THREE = stream_of([(along(0, 3), b"\1\2\3")])
+TWICE = stream_of([(along(0, 3), b"\1\2\3"), (along(1, 2), b"\2")])
+OUTSIDE = stream_of([(along(0, 4), b"\1\2\3\4")])
+WRITE, GENERATE, VERIFY, COPY, CUT = "write d s", "generate d s 7 3", "verify d s", "reshard d s e s", "cutout d s [0:3,0:1,0:1]"
+CUT_LAYERS = "cutout d s [0:1,0:1,0:2]"
+WORKERS = " --workers=3"
+FULL = refused("folder not empty")
+BEYOND = refused("box [0:4,0:1,0:1] outside [0:3,0:1,0:1]")
+
+
+@dataclasses.dataclass(frozen=True)
+class Run:
+    """
+    A run: the info of the data set d, what stands beside it, the words and the stream, what it ends with, the objects that it puts, and
+    how many files that aren't finished it may leave.
+    """
+
+    title: str
+    info: bytes
+    objects: dict
+    words: str
+    stream: bytes
+    ending: tuple
+    put: dict = dataclasses.field(default_factory=dict)
+    parts: int = 0
+
+    def before(self):
+        return {**self.objects, **({} if self.info is None else {"d/info": self.info})}
+
+    def after(self):
+        return {**self.before(), **self.put}
+
+    def want_front(self, found, endings, parts_allowed=0):
+        """A run that is disturbed has one of these statuses and lines, and a front of its output and of its files."""
+        status, output, errors, files = found
+        want_true((status, errors) in endings, f"status {status}, {errors!r}")
+        want_true(self.ending[1].startswith(output), f"output {output!r}")
+        want_front(files, self.before(), self.put, max(self.parts, parts_allowed))
+
+
+def with_target(info, objects=None):
+    """What stands of a source, and the info of the data set e."""
+    return {**(ROW_OBJECTS if objects is None else objects), "e/info": info}
+
+
+RUNS = [
+    Run("a write", ROW, {}, WRITE, TWICE, stored(3, 3), ROW_OBJECTS),
+    Run("a write with workers", ROW, {}, WRITE + WORKERS, THREE, stored(3, 3), ROW_OBJECTS),
+    Run("a write beside unfinished files", ROW, {"d/s/a/b.part": b"", "d/s/c/d/e.part": b""}, WRITE, THREE, stored(3, 3), ROW_OBJECTS),
+    Run("a write of nothing", ROW, {}, WRITE, stream_of([]), stored(0, 0)),
+    Run("a write into shards", IN_SHARDS, {}, WRITE, TWICE, stored(2, 3), SHARDS),
+    Run("a list", ROW, {}, GENERATE, b"", answer(3, LIST_OBJECTS, sum_of(ROW_VOLUME, LIST)), LIST_OBJECTS),
+    Run("a list with workers", ROW, {}, GENERATE + WORKERS, b"", answer(3, LIST_OBJECTS, sum_of(ROW_VOLUME, LIST)), LIST_OBJECTS),
+    Run("a list into shards", IN_SHARDS, {}, GENERATE, b"", answer(3, LIST_SHARDS, sum_of(ROW_VOLUME, LIST)), LIST_SHARDS),
+    Run("a list beside objects", ROW, ROW_OBJECTS, GENERATE, b"", FULL),
+    Run("a cutout", ROW, ROW_OBJECTS, CUT, b"", printed(b"\1\2\3")),
+    Run("a cutout of nothing", ROW, {}, CUT, b"", printed(bytes(3))),
+    Run("a cutout of layers", LAYERS, LAYER_OBJECTS, CUT_LAYERS, b"", printed(b"\1\3\2\4")),
+    Run("a cutout of a damaged layer", LAYERS, TORN_LAYER, CUT_LAYERS, b"", refused("damaged 0,0,1: chunk length 1 wanted 2", b"\1")),
+    Run("a cutout of shards", IN_SHARDS, SHARDS, CUT, b"", printed(b"\1\2\3")),
+    Run("a copy", ROW, with_target(PAIRS), COPY, b"", stored(2, 2), COPIED_PAIRS),
+    Run("a copy with workers", ROW, with_target(PAIRS), COPY + WORKERS, b"", stored(2, 2), COPIED_PAIRS),
+    Run("a copy of nothing", ROW, with_target(PAIRS, {}), COPY, b"", stored(0, 0)),
+    Run("a copy into shards", ROW, with_target(IN_SHARDS), COPY, b"", stored(2, 3), shards_of(b"\1", b"\2", b"\3", dataset="e"), 1),
+    Run("a copy out of shards", IN_SHARDS, with_target(PAIRS, SHARDS), COPY, b"", stored(2, 2), COPIED_PAIRS),
+    Run("a copy into blocks", LABELS, with_target(BLOCKS, LABELLED), COPY, b"", stored(2, 2), COPIED_BLOCKS),
+    Run("a copy into blocks with workers", LABELS, with_target(BLOCKS, LABELLED), COPY + WORKERS, b"", stored(2, 2), COPIED_BLOCKS),
+    Run("a copy of a damaged object", ROW, with_target(ROW, TORN), COPY, b"", refused(TORN_LINE), {"e/s/0-1_0-1_0-1": b"\1"}),
+    Run("a copy into a folder that isn't empty", ROW, {**with_target(PAIRS), "e/s/a": b""}, COPY, b"", FULL),
+    Run("a copy into another volume", ROW, with_target(LABELS), COPY, b"", refused("differs data_type")),
+    Run("a copy into no scale", ROW, ROW_OBJECTS, COPY, b"", refused("info of e: absent")),
+    Run("a judgement", ROW, ROW_OBJECTS, VERIFY, b"", sound(3, 3)),
+    Run("a judgement of a box", ROW, ROW_OBJECTS, f"{VERIFY} [1:3,0:1,0:1]", b"", sound(2, 2)),
+    Run("a judgement of shards", IN_SHARDS, SHARDS, VERIFY, b"", sound(3, 3)),
+    Run("a judgement of a damaged object", ROW, TORN, VERIFY, b"", refused(TORN_LINE)),
+    Run("a judgement of a damaged shard", IN_SHARDS, shards_of(b"\1", b"\2", b"\3\3"), VERIFY, b"",
+        refused("damaged 2,0,0: chunk too long 2 limit 1")),
+    Run("a judgement outside", ROW, ROW_OBJECTS, f"{VERIFY} [0:4,0:1,0:1]", b"", BEYOND),
+    Run("a folder that isn't empty", ROW, {"d/s/a/b": b""}, WRITE, THREE, FULL),
+    Run("a write outside", ROW, {}, WRITE, OUTSIDE, refused("write 0: outside scale")),
+    Run("a broken stream", ROW, {}, WRITE, THREE[:-1], refused("write 0: truncated")),
+    Run("a box outside", ROW, {}, "cutout d s [0:4,0:1,0:1]", b"", BEYOND),
+    Run("a damaged object", ROW, TORN, CUT, b"", refused(TORN_LINE)),
+    Run("no such scale", ROW, {}, "cutout d t [0:3,0:1,0:1]", b"", refused("info of d: scale absent")),
+    Run("a broken info", ROW[:-1], {}, CUT, b"", refused("info of d: not json")),
+    Run("no info", None, {}, CUT, b"", refused("info of d: absent")),
+    Run("no command", ROW, {}, "cut", b"", refused("usage")),
+]
+
+
+def in_store(trial, files, run_in):
+    """
+    What a run in a folder with files leaves, its files last, and what it noted: `run_in` is given the folder and the path of a note that
+    may be made.
+    """
+    with tempfile.TemporaryDirectory(dir=trial.folder) as name:
+        folder, note = pathlib.Path(name) / "store", pathlib.Path(name) / "note"
+        folder.mkdir()
+        lay_out(folder, files)
+        found = run_in(folder, note)
+        return (*found, files_in(folder)), note.read_text(errors="replace") if note.exists() else None

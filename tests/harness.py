@@ -1,0 +1,321 @@
+"""
+What the scripts share: rows that have names and are picked, run side by side and told; and runs of the built program, each row in
+a temporary folder of its own.
+
+A script gives `main` its rows: each a title, a function and what it is called with behind the row's `Trial`. The function raises
+`Wrong` where something is wrong; one that goes through several rows at once yields each one's title, and what is wrong or None.
+"""
+import argparse
+import contextlib
+import dataclasses
+import multiprocessing
+import os
+import pathlib
+import resource
+import subprocess
+import sys
+import tempfile
+import traceback
+
+from model import cutout, infos_of, printed, spell, stored, stream_of
+
+ROOT = pathlib.Path(__file__).resolve().parent.parent
+PROGRAM = ROOT / "crates" / "vol_tool" / "out" / "vol_tool"
+
+# How long a run may take, in seconds.
+LIMIT = 60
+
+
+# What is wrong
+
+
+class Wrong(Exception):
+    """What is wrong with a row."""
+
+
+def shorten(value):
+    """A value as it is told, with its length where it is long."""
+    text = repr(value)
+    return text if len(text) <= 200 else f"{text[:200]}.. ({len(text)} characters)"
+
+
+def tell_difference(found, wanted):
+    """Two values that differ; of long bytes or texts what stands around the first difference."""
+    if type(found) is type(wanted) and isinstance(found, (bytes, str)) and max(len(found), len(wanted)) > 100:
+        pairs = enumerate(zip(found, wanted))
+        place = next((place for place, (one, other) in pairs if one != other), min(len(found), len(wanted)))
+        part = slice(max(0, place - 8), place + 24)
+        lengths = f" of {len(found)} and {len(wanted)}"
+        return f"from {part.start}{lengths} on {found[part]!r} wanted {wanted[part]!r}"
+    return f"{shorten(found)} wanted {shorten(wanted)}"
+
+
+def want(found, wanted, what="it"):
+    if found != wanted:
+        raise Wrong(f"{what}: {tell_difference(found, wanted)}")
+
+
+def want_true(is_right, wrong):
+    if not is_right:
+        raise Wrong(wrong)
+
+
+def want_ending(found, wanted, what="it"):
+    """The status, the output and the standard error of a run."""
+    for part, one, other in zip(("status", "output", "standard error"), found, wanted):
+        want(one, other, f"{what}: {part}" + (f" (it tells {found[2]!r:.200})" if part == "status" else ""))
+
+
+def want_files(found, wanted, what="file"):
+    """Files by their paths."""
+    for path in sorted({*found, *wanted}):
+        want(found.get(path), wanted.get(path), f"{what} {path}")
+
+
+def want_front(files, before, due, parts_allowed=0):
+    """
+    Files are those before and a front of those that are put, in their order, and at most so many whose names end in .part. Gives how
+    many stand of those that are put.
+    """
+    count = sum(path in files for path in due)
+    wanted = {**before, **dict(list(due.items())[:count])}
+    parts = [path for path in files if path not in wanted and path.endswith(".part")]
+    want_files({path: content for path, content in files.items() if path not in parts}, wanted)
+    want_true(len(parts) <= parts_allowed, f"not finished: {parts}")
+    return count
+
+
+# Folders
+
+# What a file may be instead of its bytes: nothing, another kind of file, or bytes by their places, with holes between.
+NONE, PIPE, FOLDER, LOOP, DEVICE = None, "pipe", "folder", "loop", "device"
+
+
+def lay_out(folder, files):
+    """Puts files, and the folders above them."""
+    for name, content in files.items():
+        path = folder / name
+        if content is NONE:
+            with contextlib.suppress(FileNotFoundError, NotADirectoryError):
+                path.unlink()
+            continue
+        path.parent.mkdir(parents=True, exist_ok=True)
+        if content == PIPE:
+            os.mkfifo(path)
+        elif content == FOLDER:
+            path.mkdir(parents=True)
+        elif content in (LOOP, DEVICE):
+            path.symlink_to(path.name if content == LOOP else "/dev/zero")
+        elif isinstance(content, dict):
+            with path.open("wb") as file:
+                for place, piece in content.items():
+                    file.seek(place)
+                    file.write(piece)
+                file.truncate()
+        else:
+            path.write_bytes(content)
+
+
+def files_in(folder):
+    """The bytes of each file below a folder, by its path."""
+    return {str(path.relative_to(folder)): path.read_bytes() for path in sorted(folder.rglob("*")) if path.is_file()}
+
+
+def snapshot(folder):
+    """Each path of a folder, with what it is and what it holds."""
+    found = {}
+    for path in sorted(folder.rglob("*")):
+        content = os.readlink(path) if path.is_symlink() else path.read_bytes() if path.is_file() else None
+        found[str(path.relative_to(folder))] = (path.lstat().st_mode, path.lstat().st_mtime_ns, content)
+    return found
+
+
+def open_full():
+    """A device that takes nothing."""
+    return os.open("/dev/full", os.O_WRONLY)
+
+
+def open_closed_pipe():
+    """The end to write to of a pipe that nobody reads."""
+    read_end, write_end = os.pipe()
+    os.close(read_end)
+    return write_end
+
+
+def memory_limit(count):
+    """From now on a process takes no more than so many bytes of memory for its data."""
+    return lambda: resource.setrlimit(resource.RLIMIT_DATA, (count, count))
+
+
+# Runs
+
+
+def call(command, folder, **environment):
+    """What a command ends with that reads nothing: its status, its output and its standard error, as texts."""
+    variables = {**os.environ, **environment}
+    done = subprocess.run(command, cwd=folder, capture_output=True, timeout=LIMIT, stdin=subprocess.DEVNULL, env=variables)
+    return done.returncode, done.stdout.decode(), done.stderr.decode()
+
+
+def words_in(text):
+    return text.split() if isinstance(text, str) else text
+
+
+@dataclasses.dataclass(frozen=True)
+class Trial:
+    """A row that is tried: the program, and the folder in which it runs."""
+
+    program: pathlib.Path
+    folder: pathlib.Path
+
+    def run(self, words, feed=b"", output=subprocess.PIPE, prepare=None, **environment):
+        """
+        What a run ends with: its status, its output where that is a pipe, and its standard error. `words` are a text without blanks
+        in them, or a list. `feed` is what the standard input gives: bytes, or an open file. `output` may be a function that opens it,
+        and `prepare` is called in the new process before the program begins.
+        """
+        given = {"input": feed} if isinstance(feed, bytes) else {"stdin": feed}
+        stdout = output() if callable(output) else output
+        try:
+            done = subprocess.run(
+                [os.fsencode(self.program), *map(os.fsencode, words_in(words))], cwd=self.folder, stdout=stdout,
+                stderr=subprocess.PIPE, timeout=LIMIT, preexec_fn=prepare, env={**os.environ, **environment}, **given,
+            )
+        finally:
+            if callable(output):
+                os.close(stdout)
+        return done.returncode, done.stdout or b"", done.stderr
+
+    def want(self, words, wanted, feed=b"", **how):
+        """A run ends with this status, output and standard error."""
+        spelled = " ".join(map(str, words_in(words)))
+        want_ending(self.run(words, feed, **how), wanted, f"{spelled:.120}")
+
+    def want_unchanged(self, words, wanted, feed=b"", **how):
+        """So does a run that leaves the folder as it is."""
+        before = snapshot(self.folder)
+        self.want(words, wanted, feed, **how)
+        want_true(snapshot(self.folder) == before, "the folder isn't as before")
+
+    def start(self, words, **streams):
+        """A run that goes on beside the row."""
+        quiet = {name: subprocess.DEVNULL for name in ("stdin", "stdout", "stderr")}
+        return subprocess.Popen([self.program, *words_in(words)], cwd=self.folder, **{**quiet, **streams})
+
+    def lay_out(self, files):
+        lay_out(self.folder, files)
+
+    def files(self):
+        """The files in the folder but for the data sets' info documents."""
+        return {path: content for path, content in files_in(self.folder).items() if pathlib.Path(path).name != "info"}
+
+    def write(self, volume, writes, *options):
+        """Writes boxes into a scale, whose info it puts; what is due is told and stands. Gives the files."""
+        self.lay_out(infos_of(volume))
+        chunks = volume.chunks_after(writes)
+        files = volume.files(chunks)
+        self.want(volume.words("write", *options), stored(len(files), len(chunks)), stream_of(writes))
+        want_files(self.files(), files)
+        return files
+
+    def store(self, volume, chunks):
+        """Puts a scale's info and its chunks. Gives the files."""
+        files = volume.files(chunks)
+        self.lay_out({**infos_of(volume), **files})
+        return files
+
+    def want_cuts(self, volume, files, boxes):
+        """Cutouts of boxes are what a scale's files give, or their fault."""
+        for box in boxes:
+            self.want(volume.words("cutout", spell(box)), cutout(volume, files, box))
+
+    def want_values(self, volume, values, boxes):
+        """Cutouts of boxes have these values."""
+        for box in boxes:
+            self.want(volume.words("cutout", spell(box)), printed(values.of(box)))
+
+
+def answers(trial, files, words, wanted, feed=b"", **how):
+    """A run over files ends so, and changes nothing."""
+    trial.lay_out(files)
+    trial.want_unchanged(words, wanted, feed, **how)
+
+
+# Rows
+
+
+def judge(program, title, judge_row, *arguments):
+    """The titles of a row, or of the rows that it goes through, each with what is wrong or None."""
+    told = []
+    with tempfile.TemporaryDirectory(ignore_cleanup_errors=True) as name:
+        try:
+            found = judge_row(Trial(program, pathlib.Path(name).resolve()), *arguments)
+            if found is None:
+                return [(title, None)]
+            for row in found:
+                told.append(row)
+        except Wrong as wrong:
+            told.append((title, str(wrong)))
+        except subprocess.TimeoutExpired:
+            told.append((title, "it didn't end in time"))
+        except Exception as error:  # pylint: disable=broad-except
+            place = traceback.extract_tb(error.__traceback__)[-1]
+            told.append((title, f"{error!r} in {pathlib.Path(place.filename).name}:{place.lineno}"))
+    return told
+
+
+class Rows:
+    """The rows that are judged, for the processes that judge them."""
+
+    program = None
+    picked = []
+
+
+def judge_number(number):
+    return judge(Rows.program, *Rows.picked[number])
+
+
+def judge_all(jobs):
+    """What is told of all rows, in their order."""
+    if jobs == 1 or len(Rows.picked) < 2:
+        yield from map(judge_number, range(len(Rows.picked)))
+        return
+    with multiprocessing.get_context("fork").Pool(jobs) as pool:
+        yield from pool.imap(judge_number, range(len(Rows.picked)))
+
+
+def read_options(count, jobs, needs_program):
+    page = sys.modules["__main__"].__doc__ or ""
+    parser = argparse.ArgumentParser(description=page.strip().splitlines()[0])
+    if needs_program:
+        parser.add_argument("program", nargs="?", type=pathlib.Path, default=PROGRAM, help="crates/vol_tool/out/vol_tool if it is left out")
+    if count is not None:
+        parser.add_argument("count", nargs="?", type=int, default=count, help=f"how many trials at random there are of a kind ({count})")
+    parser.add_argument("-k", metavar="WORD", default="", help="judges the rows alone that have this in their titles")
+    parser.add_argument("--jobs", metavar="N", type=int, default=jobs, help=f"how many rows are judged at once ({jobs})")
+    return parser.parse_args()
+
+
+def main(rows_of, count=None, jobs=None, needs_program=True):
+    """
+    Judges the rows that `rows_of` gives, of so many random trials where it takes a count; prints each row that is wrong, and how many
+    passed and failed; and ends with status 1 where one failed or there was none.
+    """
+    processors = len(os.sched_getaffinity(0))
+    options = read_options(count, min(jobs or processors, processors), needs_program)
+    passed = failed = 0
+    if needs_program:
+        Rows.program = options.program.resolve()
+        if not os.access(Rows.program, os.X_OK):
+            print(f"there is no program {Rows.program}\n0 passed, 1 failed")
+            sys.exit(1)
+    rows = rows_of() if count is None else rows_of(options.count)
+    Rows.picked = [row for row in rows if options.k in row[0]]
+    for told in judge_all(options.jobs):
+        for title, wrong in told:
+            passed += wrong is None
+            failed += wrong is not None
+            if wrong is not None:
+                print(f"{title}: {wrong}", flush=True)
+    print(f"{passed} passed, {failed} failed")
+    sys.exit(1 if failed or not passed else 0)

@@ -1,0 +1,69 @@
+"""
+A plain model of what a cutout and a judgement answer of stored files.
+
+The cells that meet a box are taken x fastest, then y, then z. A cutout prints, before the first fault, the first channel of what
+lies below the damaged cell's layer. Of a cell in a shard a judgement goes the way to the index of its minishard, then judges every
+row of this index in order, and then the cell's own chunk. Of a row its id is judged, then its start, and then whether it stands in
+the shard and the minishard of its id. What is absent is sound, and so is all that no cell of the box asks for. (That whole indexes
+are judged and in which order is this project's profile.)
+"""
+import functools
+
+from .faults import Damaged, damaged, printed, refused
+from .shards import rows_of, walk_rows
+from .volumes import Values
+
+
+def cutout(volume, files, box=None):
+    """What a cutout of a box, or of the whole scale, ends with."""
+    values, box = Values(volume), box or volume.whole
+    for cell in volume.cells_in(box):
+        try:
+            raw = volume.read(files, cell)
+        except Damaged as fault:
+            (begin, end), layer = box[2], volume.box_of(cell)[2][0]
+            below = [*box[:2], (begin, max(begin, min(end, layer)))]
+            return refused(damaged(cell, fault), values.of(below, channels=1))
+        if raw is not None:
+            values.put(volume.box_of(cell), raw)
+    return printed(values.of(box))
+
+
+class Misplaced(Exception):
+    """A row in another index than its id's own, as it is told."""
+
+
+@functools.lru_cache(maxsize=64)
+def judge_index(sharding, place, shard):
+    """All rows of the index of a minishard, in the bytes of a shard."""
+    number, minishard = place
+    for own, _, _ in walk_rows(shard, *rows_of(sharding.minishard_bits, minishard, shard)):
+        if sharding.place(own) != place:
+            raise Misplaced(f"misplaced {number} {minishard} {own}")
+
+
+def is_stored(volume, files, cell):
+    """Whether a cell's chunk is stored; raises what is wrong with it, or on the way to it."""
+    shard = files.get(volume.path_of(cell))
+    if volume.sharding is not None and shard is not None:
+        judge_index(volume.sharding, volume.place(cell), shard)
+    return volume.read(files, cell) is not None
+
+
+def sound(cells, stored):
+    """What a judgement of a part ends with that is sound."""
+    return printed(f"cells {cells} stored {stored} absent {cells - stored}")
+
+
+def verdict(volume, files, box=None):
+    """What judging a box, or the whole scale, ends with."""
+    cells = volume.cells_in(box or volume.whole)
+    stored = 0
+    for cell in cells:
+        try:
+            stored += is_stored(volume, files, cell)
+        except Damaged as fault:
+            return refused(damaged(cell, fault))
+        except Misplaced as row:
+            return refused(str(row))
+    return sound(len(cells), stored)

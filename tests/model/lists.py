@@ -1,0 +1,50 @@
+"""The list of writes that is made from a number, after the page of the generator, its sum, and the line that tells them."""
+from .boxes import voxels_in
+from .faults import printed
+from .volumes import Values
+
+
+class Draws:
+    """Numbers that are drawn from a state."""
+
+    def __init__(self, state):
+        self.state = state
+
+    def below(self, bound):
+        self.state = (1103515245 * self.state + 12345) % 2**31
+        return (self.state >> 8) % bound
+
+
+def draw_boxes(volume, number, count):
+    """The boxes of the list of a number."""
+    draws, boxes = Draws(number), []
+    for _ in range(count):
+        box = []
+        for offset, size in zip(volume.offset, volume.size):
+            begin = draws.below(size)
+            length = 1 + draws.below(min(64, size - begin))
+            box.append((offset + begin, offset + begin + length))
+        boxes.append(box)
+    return boxes
+
+
+def generated(volume, number, count):
+    """The list: boxes with the bytes of their values."""
+    writes, zeros = [], bytes(volume.width - 1)
+    for write, box in enumerate(draw_boxes(volume, number, count)):
+        first, length = (number + 31 * write) % 256, voxels_in(box) * volume.channels
+        values = (bytes(range(256)) * (length // 256 + 2))[first : first + length]
+        writes.append((box, b"".join(bytes([value]) + zeros for value in values) if zeros else values))
+    return writes
+
+
+def sum_of(volume, writes):
+    """The sum of all values after writes."""
+    raw, width = Values(volume, writes).all(), volume.width
+    return sum(sum(raw[byte::width]) << (8 * byte) for byte in range(width)) % 2**64
+
+
+def answer(count, objects, total):
+    """What the command ends with after so many writes that leave these objects and this sum."""
+    length = sum(map(len, objects.values()))
+    return printed(f"writes {count} objects {len(objects)} bytes {length} sum {total}")
