@@ -15,11 +15,16 @@ use Rattle.encode_round.specs.Ready.{chunk_ready}
 use Rattle.encode_round.specs.declared.desk.Desk.{Desk}
 use Rattle.encode_round.specs.declared.desk.Segments.{Segments}
 
--- room for the values of each cell, and a scratch for its chunk
+-- the most bytes that a chunk of the scale has
+abbrev pub most : Scale → ℕ
+most s = limit_of s.encoding s.width s.channels s.size s.chunk
+
+-- room for the values of each cell, and a scratch and room for its chunk
 pub record AreSegments (s : Scale) (segments : Segments) : Type 0 where
   pub block : s.encoding ≡ Seg segments.block
-  pub values : length segments.values.items ≡ first_bytes s.width s.channels s.size s.chunk
+  pub values : length segments.values.bytes ≡ first_bytes s.width s.channels s.size s.chunk
   pub scratch : ServesScale s segments.scratch
+  pub chunk : length segments.chunk.bytes ≡ most s
 
 -- none are needed for raw chunks
 abbrev pub FitSegments : Scale → Option Segments → Type 0
@@ -28,10 +33,6 @@ FitSegments s (Some segments) = AreSegments s segments
 
 abbrev pub ServesDesk : Scale → Desk → Type 0
 ServesDesk s desk = FitSegments s desk.segments
-
--- the most bytes that a chunk of the scale has
-abbrev pub most : Scale → ℕ
-most s = limit_of s.encoding s.width s.channels s.size s.chunk
 
 -- the jobs from one number up to, not with, another are prepared, of a scale that can be written
 pub record ArePrepared (s : Scale) (work : Work) (ready : ℕ → Option Bytes) (from to : ℕ) : Type 0 where

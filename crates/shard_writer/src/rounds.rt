@@ -54,21 +54,21 @@ pub(crate) fn count_workers(scale: &Scale, workers: u32) -> u32
 }
 
 // The bytes of the frames of several workers, where two frames for each do not have more.
-const ROOM: u64 = 1 << 26;
+const ROOM: u64 = 1 << 27;
 
 // How many chunks of a scale have room in these bytes.
 fn count_in_room(scale: &Scale) -> u64
-    ensures { result ≡ 2 ^ 26 / frame_len scale.now }
+    ensures { result ≡ 2 ^ 27 / frame_len scale.now }
 {
     ROOM / scale.raw_limit().max(scale.chunk_limit())
 }
 
-// How many jobs of a scale a round has at most. Where several workers encode them it is as many as have 64 MiB of
+// How many jobs of a scale a round has at most. Where several workers encode them it is as many as have 128 MiB of
 // frames, or two for each worker if that is more, but no more than a window; else one, so that all chunks are made in
 // the same memory.
 fn count_at_once(scale: &Scale, workers: u32) -> u64
     ensures several { 1 < workers → result ≡ min (window_of scale.now)
-        (max (2 * workers) (2 ^ 26 / frame_len scale.now)) }
+        (max (2 * workers) (2 ^ 27 / frame_len scale.now)) }
     ensures one { workers ≤ 1 → result ≡ 1 }
     ensures some { 0 < result }
     ensures most { result ≤ window_of scale.now }

@@ -58,7 +58,7 @@ fn check_scale<R: Threads + Wait + Abort + Sync>(
     objects: &[(&[u8], &[u8])],
     stand: u64,
 ) -> Result<(), Fail> {
-    for workers in [1, 3, 16] {
+    for workers in [1, 2, 3, 16] {
         check_workers(
             rt, alloc, workers, scale, writes, failing, wanted, objects, stand,
         )?;

@@ -1,4 +1,4 @@
-use Rattle.std.proofs.Common.{arith, rules, ◌∙◌, length}
+use Rattle.std.proofs.Common.{arith, rules, ◌∙◌}
 use Rattle.std.proofs.lemmas.List.{length-set}
 use Rattle.encode_round.proofs.Placing.{put_more}
 use Rattle.encode_round.proofs.places.seat_all.Goals as goal
