@@ -3,3 +3,4 @@ pub mod FrameSteps
 pub mod HeldSteps
 pub mod JobSteps
 pub mod MarkSteps
+mod AskedSteps

@@ -1,3 +1,4 @@
 pub mod Held
 pub mod HeldLaws
 pub mod Marks
+pub mod Sources

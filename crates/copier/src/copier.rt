@@ -1,16 +1,19 @@
 //! The copier.
-ghost use Rattle.std.specs.Prelude.{◌≡◌, ◌≢◌, ◌≤◌, ◌^◌, All, AllPairs, length, IfOk, IfSome};
+ghost use Rattle.std.specs.Prelude.{◌≡◌, ◌≢◌, ◌-◌, ◌<◌, ◌≤◌, ◌^◌, ◌+◌, All, AllPairs, List, ℕ, length, IfOk, IfSome, IsOk, IsSome, OnOk};
 ghost use Rattle.vol_base.specs.Causes.{HasCauseOf};
 ghost use Rattle.vol_base.specs.Outside.{OnlyReads};
 ghost use Rattle.vol_spec.specs.Copies.{AreOfOneVolume, copied_cells};
 ghost use Rattle.vol_spec.specs.Grid.{IsCell};
 ghost use Rattle.vol_spec.specs.StoredLists.{in_key_order};
+ghost use Rattle.vol_spec.specs.declared.scale.Scale.{Scale};
+ghost use Rattle.write_plan.specs.Jobs.{AreReady, Prepares, jobs_fault, window_of};
 ghost use Rattle.write_plan.specs.Pairs.{cell_count};
 ghost use Rattle.copier.specs.Held.{Holds, cells_of};
+ghost use Rattle.copier.specs.Sources.{window_cost};
 
 use crate::found::find_copied;
 use crate::reading::read_jobs;
-use cutout::Reader;
+use cutout::{KeepingReader, Reader};
 use std::alloc::{AllocError, Global};
 use std::marker::Model;
 use vol_base::{Name, OutOfMemory, Store, StoreRefusal};
@@ -36,7 +39,7 @@ fn reserve_frames(alloc: Global, scale: &Scale, count: u64) -> Result<Vec<Vec<u8
 /// as what it holds.
 #[derive(Drop)]
 pub struct Copier {
-    reader: Reader,
+    reader: KeepingReader,
     to: Scale,
     jobs: JobList,
     first: u64,
@@ -49,11 +52,12 @@ impl Model for Copier {
 
     ghost Value = { Held };
 
-    ghost view = { λ c. holding c.reader.dataset c.reader.scale c.to c.jobs c.first c.count c.frames.items };
+    ghost view = { λ c. holding c.reader.opened.dataset c.reader.opened.scale c.to c.jobs c.first c.count
+        c.frames.items };
 
     ghost invariant = { λ c. IsHeld
-        (holding c.reader.dataset c.reader.scale c.to c.jobs c.first c.count c.frames.items) c.jobs
-        c.frames.items };
+        (holding c.reader.opened.dataset c.reader.opened.scale c.to c.jobs c.first c.count c.frames.items)
+        c.jobs c.frames.items };
 }
 
 impl Copier {
@@ -98,7 +102,7 @@ impl Copier {
             return Err(StoreRefusal::OutOfMemory);
         };
         Ok(Copier {
-            reader,
+            reader: reader.keeping(),
             to: to.duplicate(),
             jobs,
             first: 0,
@@ -138,7 +142,7 @@ impl Copier {
             return Err(OutOfMemory);
         };
         Ok(Copier {
-            reader,
+            reader: reader.keeping(),
             to: to.duplicate(),
             jobs,
             first: 0,
@@ -173,7 +177,28 @@ impl Chunks for Copier {
     }
 
     /// Cuts the boxes of the jobs out of the source. It takes no memory.
-    fn prepare<S: Store>(&mut self, store: &mut S, from: u64, to: u64) -> Result<(), PrepareFault> {
+    fn prepare<S: Store>(&mut self, store: &mut S, from: u64, to: u64) -> Result<(), PrepareFault>
+        requires order { from ≤ to }
+        requires within { to ≤ length (work_of self.old).cells }
+        requires window { to - from ≤ window_of (work_of self.old).scale }
+        ensures prepared { OnOk result ((job : ℕ) → from ≤ job → job < to →
+            IsSome (ready_of self.new job)) }
+        ensures ready { OnOk result (IfSome (S.objects store.old) (λ m.
+            AreReady (ready_of self.new) ((work_of self.old).raw m) from to)) }
+        ensures answer { IfSome (S.objects store.old) (λ m.
+            Prepares result (jobs_fault (work_of self.old) m from (to - from))) }
+        ensures sure { ⊥ → IsOk result × ⊥ }
+        ensures work { work_of self.new ≡ work_of self.old }
+        ensures apart { (dataset : List ℕ) (s : Scale) → IsApart self.old dataset s →
+            IsApart self.new dataset s }
+        ensures objects { S.objects store.new ≡ S.objects store.old }
+        ensures draft { S.draft store.new ≡ S.draft store.old }
+        ensures cause { HasCauseOf PrepareFault.StoreFault (S.faults store.old) (S.faults store.new) result }
+
+        // It asks for the rows of an index once, as long as each cell stands behind the one before it.
+        ensures asked { IfSome (S.objects store.old) (λ m.
+            S.asked store.new ≤ S.asked store.old + window_cost self.old m from (to - from)) }
+    {
         self.count = 0;
         let count = to - from;
         match read_jobs(

@@ -5,5 +5,7 @@ mod copier;
 mod found;
 mod marks;
 mod reading;
+#[cfg(test)]
+mod tests;
 
 pub use copier::Copier;

@@ -1,33 +1,41 @@
 //! Reading the bytes of jobs.
-ghost use Rattle.std.specs.Prelude.{◌≡◌, ◌+◌, ◌<◌, ◌≤◌, ◌^◌, Err, length, map, take, All, IfSome, OnOk};
+ghost use Rattle.std.specs.Prelude.{is_ok, ◌≡◌, ◌+◌, ◌<◌, ◌≤◌, ◌^◌, Err, length, map, take, All, IfSome, OnOk};
 ghost use Rattle.vol_base.specs.Causes.{HasCauseOf};
 ghost use Rattle.vol_base.specs.Outside.{OnlyReads};
 ghost use Rattle.vol_spec.specs.Copies.{AreOfOneVolume};
 ghost use Rattle.vol_spec.specs.Encodings.{raw_size};
 ghost use Rattle.vol_spec.specs.Grid.{IsCell};
 ghost use Rattle.write_plan.specs.Jobs.{cells_in};
+ghost use Rattle.cutout.specs.Kept.{KeepsIndex};
+ghost use Rattle.cutout.specs.Runs.{run_cost, RunsOn};
 ghost use Rattle.copier.specs.Held.{AreFilled, Holds, IsFilled, ReadsJob, ReadsJobs};
+ghost use Rattle.copier.specs.Sources.{cells_under, sources};
 
 use chunk_grid::{byte_len, cell_box};
-use cutout::{CutFault, Reader};
+use cutout::{CutFault, KeepingReader};
 use vol_base::Source;
 use vol_spec::Scale;
 use write_plan::{JobList, PrepareFault};
 
 // Reads the source's values in the box of a cell of the target.
 fn read_job<S: Source>(
-    reader: &mut Reader,
+    reader: &mut KeepingReader,
     store: &mut S,
     to: &Scale,
     cell: [u64; 3],
     out: &mut [u8],
 ) -> Result<(), PrepareFault>
-    requires volume { AreOfOneVolume reader.old.scale to.now }
+    requires volume { AreOfOneVolume reader.old.opened.scale to.now }
+    requires keeps { KeepsIndex (S.objects store.old) reader.old }
     requires cell { IsCell to.now cell }
     requires len { length out.old ≡ raw_size to.now cell }
     ensures read { IfSome (S.objects store.old) (λ m.
-        ReadsJob result m reader.old.dataset reader.old.scale to.now cell out.new) }
-    ensures same { reader.new ≡ reader.old }
+        ReadsJob result m reader.old.opened.dataset reader.old.opened.scale to.now cell out.new) }
+    ensures keeps { KeepsIndex (S.objects store.old) reader.new }
+    ensures same { reader.new.opened ≡ reader.old.opened }
+    ensures run { IfSome (S.objects store.old) (λ m. RunsOn (is_ok result) m reader.old.opened.dataset
+        reader.old.opened.scale (cells_under reader.old.opened.scale to.now cell)
+        (S.asked store.old) (S.asked store.new) reader.old.shards reader.new.shards) }
     ensures kept { OnlyReads (S.objects store.old) (S.objects store.new) (S.draft store.old)
         (S.draft store.new) }
     ensures cause { HasCauseOf PrepareFault.StoreFault (S.faults store.old) (S.faults store.new) result }
@@ -52,20 +60,25 @@ fn values_len(scale: &Scale, cell: [u64; 3]) -> usize
 
 // Reads the source's values in the box of a cell of the target into the front of a frame.
 fn read_into<S: Source>(
-    reader: &mut Reader,
+    reader: &mut KeepingReader,
     store: &mut S,
     to: &Scale,
     cell: [u64; 3],
     frame: &mut [u8],
 ) -> Result<(), PrepareFault>
-    requires volume { AreOfOneVolume reader.old.scale to.now }
+    requires volume { AreOfOneVolume reader.old.opened.scale to.now }
+    requires keeps { KeepsIndex (S.objects store.old) reader.old }
     requires cell { IsCell to.now cell }
     requires len { raw_size to.now cell ≤ length frame.old }
     ensures read { IfSome (S.objects store.old) (λ m.
-        ReadsJob result m reader.old.dataset reader.old.scale to.now cell
+        ReadsJob result m reader.old.opened.dataset reader.old.opened.scale to.now cell
         (take (raw_size to.now cell) frame.new)) }
     ensures len { length frame.new ≡ length frame.old }
-    ensures same { reader.new ≡ reader.old }
+    ensures keeps { KeepsIndex (S.objects store.old) reader.new }
+    ensures same { reader.new.opened ≡ reader.old.opened }
+    ensures run { IfSome (S.objects store.old) (λ m. RunsOn (is_ok result) m reader.old.opened.dataset
+        reader.old.opened.scale (cells_under reader.old.opened.scale to.now cell)
+        (S.asked store.old) (S.asked store.new) reader.old.shards reader.new.shards) }
     ensures kept { OnlyReads (S.objects store.old) (S.objects store.new) (S.draft store.old)
         (S.draft store.new) }
     ensures cause { HasCauseOf PrepareFault.StoreFault (S.faults store.old) (S.faults store.new) result }
@@ -86,21 +99,26 @@ fn fill_up(scale: &Scale, frame: &mut Vec<u8>)
 
 // Fills a frame up, and reads the source's values in the box of a cell of the target into its front.
 fn read_frame<S: Source>(
-    reader: &mut Reader,
+    reader: &mut KeepingReader,
     store: &mut S,
     to: &Scale,
     cell: [u64; 3],
     frame: &mut Vec<u8>,
 ) -> Result<(), PrepareFault>
-    requires volume { AreOfOneVolume reader.old.scale to.now }
+    requires volume { AreOfOneVolume reader.old.opened.scale to.now }
+    requires keeps { KeepsIndex (S.objects store.old) reader.old }
     requires cell { IsCell to.now cell }
     requires room { Holds to.now frame.old }
     ensures read { IfSome (S.objects store.old) (λ m.
-        ReadsJob result m reader.old.dataset reader.old.scale to.now cell
+        ReadsJob result m reader.old.opened.dataset reader.old.opened.scale to.now cell
         (take (raw_size to.now cell) frame.new.items)) }
     ensures filled { IsFilled to.now frame.new.items }
     ensures room { Holds to.now frame.new }
-    ensures same { reader.new ≡ reader.old }
+    ensures keeps { KeepsIndex (S.objects store.old) reader.new }
+    ensures same { reader.new.opened ≡ reader.old.opened }
+    ensures run { IfSome (S.objects store.old) (λ m. RunsOn (is_ok result) m reader.old.opened.dataset
+        reader.old.opened.scale (cells_under reader.old.opened.scale to.now cell)
+        (S.asked store.old) (S.asked store.new) reader.old.shards reader.new.shards) }
     ensures kept { OnlyReads (S.objects store.old) (S.objects store.new) (S.draft store.old)
         (S.draft store.new) }
     ensures cause { HasCauseOf PrepareFault.StoreFault (S.faults store.old) (S.faults store.new) result }
@@ -109,9 +127,10 @@ fn read_frame<S: Source>(
     read_into(reader, store, to, cell, frame)
 }
 
-/// Reads so many jobs, one after the other from a number on, into frames, and fills up those that it uses.
+/// Reads so many jobs, one after the other from a number on, into frames, and fills up those that it uses. What
+/// the reader kept before is forgotten; an index that it reads here is kept from job to job.
 pub(crate) fn read_jobs<S: Source>(
-    reader: &mut Reader,
+    reader: &mut KeepingReader,
     store: &mut S,
     to: &Scale,
     jobs: &JobList,
@@ -119,23 +138,27 @@ pub(crate) fn read_jobs<S: Source>(
     first: u64,
     count: usize,
 ) -> Result<(), PrepareFault>
-    requires volume { AreOfOneVolume reader.old.scale to.now }
+    requires volume { AreOfOneVolume reader.old.opened.scale to.now }
     requires cells { All (IsCell to.now) (cells_in jobs.now) }
     requires each { All (Holds to.now) frames.old }
     requires within { first + count ≤ length jobs.now }
     requires fits { first + count < 2 ^ 64 }
     requires room { count ≤ length frames.old }
     ensures read { IfSome (S.objects store.old) (λ m.
-        ReadsJobs result m reader.old.dataset reader.old.scale to.now (cells_in jobs.now) first count
-        (map (λ f. f.items) frames.new)) }
+        ReadsJobs result m reader.old.opened.dataset reader.old.opened.scale to.now (cells_in jobs.now)
+        first count (map (λ f. f.items) frames.new)) }
     ensures filled { OnOk result (AreFilled to.now count (map (λ f. f.items) frames.new)) }
     ensures each { All (Holds to.now) frames.new }
     ensures frames { length frames.new ≡ length frames.old }
-    ensures same { reader.new ≡ reader.old }
+    ensures same { reader.new.opened ≡ reader.old.opened }
+    ensures asked { IfSome (S.objects store.old) (λ m. S.asked store.new ≤ S.asked store.old + run_cost m
+        reader.old.opened.dataset reader.old.opened.scale
+        (sources reader.old.opened.scale to.now (cells_in jobs.now) first count)) }
     ensures kept { OnlyReads (S.objects store.old) (S.objects store.new) (S.draft store.old)
         (S.draft store.new) }
     ensures cause { HasCauseOf PrepareFault.StoreFault (S.faults store.old) (S.faults store.new) result }
 {
+    reader.forget();
     for k in 0..count {
         let cell = jobs.get(first + k as u64).cell;
         match read_frame(reader, store, to, cell, &mut frames[k]) {

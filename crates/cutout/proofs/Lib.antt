@@ -12,3 +12,4 @@ pub mod ReadSteps
 pub mod StoredSteps
 pub mod StreamSteps
 pub mod TakeSteps
+pub mod RunSteps

@@ -1,18 +1,19 @@
 //! The values of a part, read from the chunks of its cells.
-ghost use Rattle.std.specs.Prelude.{◌≡◌, ◌≢◌, ◌+◌, ◌<◌, ◌≤◌, ◌^◌, length, IfSome, None, Some, Ok, Err};
+ghost use Rattle.std.specs.Prelude.{is_ok, ◌≡◌, ◌≢◌, ◌∷◌, [], ◌+◌, ◌<◌, ◌≤◌, ◌^◌, length, IfSome, None, Some, Ok, Err};
 ghost use Rattle.std.specs.Option.{option_map};
 ghost use Rattle.vol_base.specs.Causes.{HasCauseOf};
 ghost use Rattle.vol_base.specs.Outside.{OnlyReads};
 ghost use Rattle.vol_spec.specs.Chunks.{chunk_in};
 ghost use Rattle.vol_spec.specs.Costs.{cost};
 ghost use Rattle.vol_spec.specs.Encodings.{raw_size};
-ghost use Rattle.vol_spec.specs.Grid.{Inside, IsCell};
+ghost use Rattle.vol_spec.specs.Grid.{cells_in, Inside, IsCell};
 ghost use Rattle.vol_spec.specs.Limits.{first_bytes};
 ghost use Rattle.vol_spec.specs.Raw.{raw_len};
 ghost use Rattle.vol_spec.specs.declared.encoding.Encoding.TheVariants.{Raw};
 ghost use Rattle.cutout.specs.Keeping.{cell_cost, KeepsShards};
 ghost use Rattle.cutout.specs.Opened.{chunk_room, values_room};
 ghost use Rattle.cutout.specs.Reading.{placed, Reads, ReadsAll, Took};
+ghost use Rattle.cutout.specs.Runs.{RunsOn};
 
 use crate::CutFault;
 use crate::channels::Channels;
@@ -50,6 +51,8 @@ fn read_one<S: Source>(
     ensures keeps { KeepsShards (S.objects store.old) dataset.now scale.now shards.new }
     ensures asked { IfSome (S.objects store.old) (λ m.
         S.asked store.new ≤ S.asked store.old + cell_cost m dataset.now scale.now cell) }
+    ensures run { IfSome (S.objects store.old) (λ m. RunsOn (is_ok result) m dataset.now scale.now (cell ∷ [])
+        (S.asked store.old) (S.asked store.new) shards.old shards.new) }
     ensures kept { OnlyReads (S.objects store.old) (S.objects store.new) (S.draft store.old)
         (S.draft store.new) }
     ensures cause { HasCauseOf LookupFault.NotRead (S.faults store.old) (S.faults store.new) result }
@@ -108,6 +111,8 @@ pub(crate) fn read_cells<S: Source>(
     ensures inside { result ≢ Err CutFault.OutsideScale }
     ensures asked { IfSome (S.objects store.old) (λ m.
         S.asked store.new ≤ S.asked store.old + cost m dataset.now scale.now part.now) }
+    ensures run { IfSome (S.objects store.old) (λ m. RunsOn (is_ok result) m dataset.now scale.now
+        (cells_in scale.now part.now) (S.asked store.old) (S.asked store.new) shards.old shards.new) }
     ensures kept { OnlyReads (S.objects store.old) (S.objects store.new) (S.draft store.old)
         (S.draft store.new) }
     ensures cause { HasCauseOf CutFault.StoreFault (S.faults store.old) (S.faults store.new) result }

@@ -1,5 +1,5 @@
 //! The bytes of a cell's chunk, read from its own object or out of a shard.
-ghost use Rattle.std.specs.Prelude.{◌≡◌, ◌+◌, ◌<◌, ◌≤◌, ◌^◌, length, Err, IfOk, IfSome, take};
+ghost use Rattle.std.specs.Prelude.{is_ok, ◌≡◌, ◌∷◌, [], ◌+◌, ◌<◌, ◌≤◌, ◌^◌, length, Err, IfOk, IfSome, take};
 ghost use Rattle.std.specs.FinMap as map;
 ghost use Rattle.vol_base.specs.Causes.{HasCauseOf};
 ghost use Rattle.vol_base.specs.Outside.{OnlyReads};
@@ -11,6 +11,7 @@ ghost use Rattle.vol_spec.specs.StoredBytes.{stored_bytes};
 ghost use Rattle.vol_spec.specs.declared.encoding.Encoding.TheVariants.{Raw};
 ghost use Rattle.shard_reader.specs.Reading.{Gets};
 ghost use Rattle.cutout.specs.Keeping.{cell_cost, front_of, KeepsShards};
+ghost use Rattle.cutout.specs.Runs.{RunsOn};
 
 use chunk_grid::{grid, object_name};
 use morton_code::code;
@@ -63,6 +64,8 @@ pub fn read_stored<S: Source>(
     ensures keeps { KeepsShards (S.objects store.old) dataset.now scale.now shards.new }
     ensures asked { IfSome (S.objects store.old) (λ m.
         S.asked store.new ≤ S.asked store.old + cell_cost m dataset.now scale.now cell) }
+    ensures run { IfSome (S.objects store.old) (λ m. RunsOn (is_ok result) m dataset.now scale.now (cell ∷ [])
+        (S.asked store.old) (S.asked store.new) shards.old shards.new) }
     ensures kept { OnlyReads (S.objects store.old) (S.objects store.new) (S.draft store.old)
         (S.draft store.new) }
     ensures cause { HasCauseOf LookupFault.NotRead (S.faults store.old) (S.faults store.new) result }

@@ -4,8 +4,10 @@
 mod cells;
 mod channels;
 mod chunk;
+mod cutting;
 mod fault;
 mod found;
+mod keeping;
 mod layers;
 mod reader;
 mod stream;
@@ -16,4 +18,5 @@ mod values;
 pub use chunk::read_stored;
 pub use fault::{CutFault, StreamFault};
 pub use found::Found;
+pub use keeping::KeepingReader;
 pub use reader::{Reader, values_limit};

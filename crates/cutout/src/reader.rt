@@ -10,11 +10,11 @@ ghost use Rattle.cutout.specs.Opened.{values_room};
 ghost use Rattle.cutout.specs.Reading.{HasCut, Locates};
 ghost use Rattle.cutout.specs.Streaming.{Leaves, Streams};
 
-use crate::cells::read_cells;
-use crate::channels::Channels;
+use crate::cutting::cut_box;
 use crate::found::{locate_in_shard, locate_own};
+use crate::keeping::KeepingReader;
 use crate::layers::layer_room;
-use crate::stream::{stream_channels, tell_bytes};
+use crate::stream::stream_channels;
 use crate::{CutFault, Found, StreamFault};
 use chunk_grid::inside;
 use chunk_pool::Frame;
@@ -75,6 +75,19 @@ impl Reader {
         })
     }
 
+    /// The same reader, which from now on keeps the index that it opened last from call to call.
+    pub fn keeping(self) -> KeepingReader
+        ensures { result.opened ≡ self }
+    {
+        KeepingReader {
+            dataset: self.dataset,
+            scale: self.scale,
+            chunk: self.chunk,
+            values: self.values,
+            shards: self.shards,
+        }
+    }
+
     /// Cuts a box out: the bytes of its values, x fastest, then y, z and the channel; 0 where a chunk is
     /// absent. The box is refused where it isn't inside the scale, and damaged where a cell that meets it
     /// has a fault, which is the first one's, x fastest. After a refusal `out` holds anything.
@@ -99,17 +112,10 @@ impl Reader {
             (S.draft store.new) }
         ensures cause { HasCauseOf CutFault.StoreFault (S.faults store.old) (S.faults store.new) result }
     {
-        if !inside(&self.scale, part) {
-            return Err(CutFault::OutsideScale);
-        }
-        let all = Channels {
-            first: 0,
-            count: self.scale.channels,
-        };
         let chunk = self.chunk.room();
         let values = self.values.room();
         self.shards.forget();
-        read_cells(
+        cut_box(
             &mut self.shards,
             store,
             &self.dataset,
@@ -117,11 +123,8 @@ impl Reader {
             chunk,
             values,
             part,
-            all,
             out,
-        )?;
-        tell_bytes(out);
-        Ok(())
+        )
     }
 
     /// Writes a box: the same bytes as `cutout`, channel by channel, and within a channel by layers of cells

@@ -25,7 +25,7 @@ pub record IsSame (new kept : Option KeptIndex) (v w : Progress) (n count : ℕ)
 pub same_reader : (new old : ShardReader) → new ≡ old → IsSame new.kept old.kept new.window.before old.window.before new.window.count old.window.count
 same_reader new old e = record { index = ap (λ (r : ShardReader). r.kept) e; before = ap (λ (r : ShardReader). r.window.before) e; rows = ap (λ (r : ShardReader). r.window.count) e }
 
-opened_of : (new : Option KeptIndex) (kept : KeptIndex) (shard m : ℕ) (opened : OpenedIndex) → new ≡ Some kept → IsKept new shard m opened → kept.opened ≡ opened
+pub opened_of : (new : Option KeptIndex) (kept : KeptIndex) (shard m : ℕ) (opened : OpenedIndex) → new ≡ Some kept → IsKept new shard m opened → kept.opened ≡ opened
 opened_of new kept shard m opened e is = let here : IsKept (Some kept) shard m opened = subst (λ x. IsKept x shard m opened) e is in here.2
 
 -- a look-up that ends at a row that is kept is one in the index that is kept

@@ -6,3 +6,4 @@ mod FoundSteps
 mod KeepSteps
 mod ChunkSteps
 mod AgainSteps
+mod PastSteps

@@ -25,6 +25,13 @@ resumes_below rows id wanted h some = grind (arith, nat_tests)
 pub at_window : (w : Progress) (wanted count : ℕ) (columns bytes : List ℕ) → IsWindow w count columns bytes → resumes w wanted ≡ true → IsAt (columns_of bytes) w wanted
 at_window w wanted count columns bytes is h = record { walked = is.walked; passed = is.passed; below = resumes_below w.rows w.id wanted h }
 
+resumes_at : (rows id wanted : ℕ) → (0 < rows → id < wanted) → resumes (record { rows = rows; id = id; end = 0 }) wanted ≡ true
+resumes_at rows id wanted h = grind (arith, nat_tests)
+
+-- a look-up of the same id goes on behind the walk that it has come to
+pub goes_on : (c : Columns) (w v : Progress) (wanted : ℕ) → w ≡ v → IsAt c v wanted → resumes w wanted ≡ true
+goes_on c w v wanted e is = subst (λ u. resumes u wanted ≡ true) (sym e) (resumes_at v.rows v.id wanted is.below)
+
 pub window_at : (bytes : List ℕ) (w v : Progress) (wanted count : ℕ) (columns : List ℕ) → w ≡ v → IsAt (columns_of bytes) v wanted → Holds (columns_of bytes) v.rows count columns (starts_of columns) (sizes_of columns) → IsWindow w count columns bytes
 window_at bytes w v wanted count columns e was holds =
     subst (λ u. IsWindow u count columns bytes) (sym e) (record { walked = was.walked; passed = was.passed; holds = holds })

@@ -39,6 +39,28 @@ abbrev pub rows_left : ShardReader → Sharding → ℕ → Option ℕ
 rows_left reader sharding id = left_by reader.kept reader.window.before reader.window.count
     (shard_of sharding id) (minishard_of sharding id) id
 
+-- how many rows of the index of an id a reader is past, where a look-up of the id goes on behind them
+abbrev pub past_by : Option KeptIndex → Progress → ℕ → ℕ → ℕ → ℕ → ℕ
+past_by None w count shard m id = 0
+past_by (Some kept) w count shard m id =
+    if (kept.shard == shard) && (kept.minishard == m) then resumed w count kept.opened.index.rows id else 0
+
+abbrev pub rows_past : ShardReader → Sharding → ℕ → ℕ
+rows_past reader sharding id = past_by reader.kept reader.window.before reader.window.count
+    (shard_of sharding id) (minishard_of sharding id) id
+
+-- an id stands behind another one in one index
+pub record IsBehind (sharding : Sharding) (id next : ℕ) : Type 0 where
+  pub same_shard : shard_of sharding next ≡ shard_of sharding id
+  pub same_minishard : minishard_of sharding next ≡ minishard_of sharding id
+  pub above : id < next
+
+-- a look-up of an id asked for the rows up to those that the reader is past now, but for those that it was past, and for so many
+-- bytes more: and so no look-up of an id behind it has to ask for these rows
+abbrev pub AsksOnce : Sharding → ℕ → ShardReader → ShardReader → ℕ → ℕ → ℕ → Type 0
+AsksOnce sharding id old new before after more = (next : ℕ) → IsBehind sharding id next →
+    after + 24 * rows_past old sharding id ≤ before + more + 24 * rows_past new sharding next
+
 -- a look-up of an id ends at a row that is kept
 pub record EndsInside (kept : KeptIndex) (w : Progress) (count shard m id : ℕ) (object : Bytes) : Type 0 where
   pub row : ℕ

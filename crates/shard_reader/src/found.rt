@@ -1,6 +1,6 @@
 //! The chunk of an id, in an index whose place is known.
-ghost use Rattle.std.specs.Prelude.{◌≡◌, ◌+◌, ◌*◌, ◌<◌, ◌≤◌, ◌^◌, ◌-◌, ℕ, Err, IfOk, IfSome, ◌≢◌, IfErr};
-ghost use Rattle.shard_reader.specs.Reading.{Answers, EndsAt, EndsIn, IsOpened, IsWindow, OnIndex, OnObject, resumed};
+ghost use Rattle.std.specs.Prelude.{◌≡◌, ◌+◌, ◌*◌, ◌<◌, ◌≤◌, ◌^◌, ◌-◌, ℕ, true, Err, IfOk, IfSome, ◌≢◌, IfErr, OnOk};
+ghost use Rattle.shard_reader.specs.Reading.{Answers, EndsAt, EndsIn, IsOpened, IsWindow, OnIndex, OnObject, resumed, resumes};
 ghost use Rattle.vol_base.specs.Causes.{HasCauseOf};
 ghost use Rattle.vol_base.specs.Outside.{OnlyReads};
 ghost use Rattle.vol_spec.specs.Entries.{base_of};
@@ -72,6 +72,12 @@ pub(crate) fn find_chunk<S: Source>(
         (IsWindow window.new.before window.new.count window.new.columns.bytes) }
     ensures kept { OnlyReads (S.objects store.old) (S.objects store.new) (S.draft store.old)
         (S.draft store.new) }
+    ensures rows { window.new.before.rows + window.new.count ≤ opened.now.index.rows }
+    ensures behind { OnIndex (S.objects store.old) name.now opened.now.index.at opened.now.index.rows (λ _.
+        resumes window.new.before id ≡ true) }
+    ensures once { OnOk result (S.asked store.new
+        + 24 * resumed window.old.before window.old.count opened.now.index.rows id ≤ S.asked store.old
+        + 24 * (window.new.before.rows + window.new.count)) }
     ensures asked { S.asked store.new ≤ S.asked store.old
         + 24 * (opened.now.index.rows - resumed window.old.before window.old.count opened.now.index.rows id) }
     ensures ends { IfOk result (λ span. IfSome span (λ _.

@@ -1,10 +1,11 @@
 //! A reader of shards, which keeps the index that it opened last.
-ghost use Rattle.std.specs.Prelude.{◌≡◌, ◌≢◌, ◌+◌, ◌*◌, ◌<◌, ◌≤◌, ◌^◌, ◌-◌, length, None, Some, Ok, Err, IfOk, IfSome, OnErr, IfErr};
+ghost use Rattle.std.specs.Prelude.{◌≡◌, ◌≢◌, ◌+◌, ◌*◌, ◌<◌, ◌≤◌, ◌^◌, ◌-◌, length, None, Some, Ok, Err, IfOk, IfSome, OnErr, OnOk, IfErr};
 ghost use Rattle.std.specs.FinMap as map;
 ghost use Rattle.shard_reader.specs.Keeping.{IsKept, IsOf};
 ghost use Rattle.shard_reader.specs.Reading.{Answers, chunk_bytes, chunk_cost, cost_of, found_of, Gets, IsWindow, OnIndex, Opens};
 ghost use Rattle.vol_base.specs.Causes.{HasCauseOf};
 ghost use Rattle.vol_base.specs.Outside.{OnlyReads};
+ghost use Rattle.vol_spec.specs.Costs.{span_cost};
 ghost use Rattle.vol_spec.specs.Places.{shard_of};
 ghost use Rattle.vol_spec.specs.ShardNames.{shard_name};
 
@@ -50,7 +51,7 @@ fn kept_of(kept: &Option<KeptIndex>, place: &ShardPlace) -> Option<OpenedIndex>
 }
 
 impl ShardReader {
-    ghost use Rattle.shard_reader.specs.Readers.{EndsKept, Keeps, KeepsNothing, KeepsOf, rows_left};
+    ghost use Rattle.shard_reader.specs.Readers.{AsksOnce, EndsKept, Keeps, KeepsNothing, KeepsOf, rows_left, rows_past};
 
     /// A reader that keeps nothing, over a frame of `WINDOW_LEN` bytes.
     pub fn new(window: Frame) -> ShardReader
@@ -156,6 +157,11 @@ impl ShardReader {
         ensures asked { IfSome (S.objects store.old) (λ m.
             S.asked store.new ≤ S.asked store.old + cost_of
             (map.get m (shard_name dataset.now scale.now (shard_of sharding.now id))) sharding.now id) }
+        ensures once { IfSome (S.objects store.old) (λ m.
+            S.asked store.new + 24 * rows_past self.old sharding.now id ≤ S.asked store.old + cost_of
+            (map.get m (shard_name dataset.now scale.now (shard_of sharding.now id))) sharding.now id) }
+        ensures onward { IfSome (S.objects store.old) (λ _. OnOk result (AsksOnce sharding.now id self.old
+            self.new (S.asked store.old) (S.asked store.new) 16)) }
         ensures asked_most { S.asked store.new ≤ S.asked store.old + (16 + 24 * 2 ^ 22) }
         ensures asked_left { IfSome (rows_left self.old sharding.now id) (λ rows.
             S.asked store.new ≤ S.asked store.old + 24 * rows) }
@@ -219,6 +225,14 @@ impl ShardReader {
         ensures asked { IfSome (S.objects store.old) (λ m.
             S.asked store.new ≤ S.asked store.old + chunk_cost
             (map.get m (shard_name dataset.now scale.now (shard_of sharding.now id))) sharding.now limit id) }
+
+        // Less what is kept of the index; and what was read of it needn't be read for an id behind this one.
+        ensures once { IfSome (S.objects store.old) (λ m.
+            S.asked store.new + 24 * rows_past self.old sharding.now id ≤ S.asked store.old + chunk_cost
+            (map.get m (shard_name dataset.now scale.now (shard_of sharding.now id))) sharding.now limit id) }
+        ensures onward { IfSome (S.objects store.old) (λ m. OnOk result (AsksOnce sharding.now id self.old
+            self.new (S.asked store.old) (S.asked store.new) (16 + span_cost (found_of
+            (map.get m (shard_name dataset.now scale.now (shard_of sharding.now id))) sharding.now limit id)))) }
     {
         match self.locate(store, dataset, scale, sharding, limit, id) {
             Err(fault) => Err(fault),

@@ -301,6 +301,9 @@ impl Window {
         ensures found { OnIndex (S.objects store.old) name.now index.now.at index.now.rows (λ bytes.
             Answers (of_index (find_in (columns_of bytes) id)) result) }
         ensures within { self.new.before.rows + self.new.count ≤ index.now.rows }
+        // A look-up of a higher id goes on behind the window.
+        ensures behind { OnIndex (S.objects store.old) name.now index.now.at index.now.rows (λ _.
+            resumes self.new.before id ≡ true) }
         ensures window { OnIndex (S.objects store.old) name.now index.now.at index.now.rows
             (IsWindow self.new.before self.new.count self.new.columns.bytes) }
         ensures kept { OnlyReads (S.objects store.old) (S.objects store.new) (S.draft store.old)
@@ -377,6 +380,10 @@ impl Window {
             (IsWindow self.old.before self.old.count self.old.columns.bytes) }
         ensures found { OnIndex (S.objects store.old) name.now index.now.at index.now.rows (λ bytes.
             Answers (of_index (find_in (columns_of bytes) id)) result) }
+        ensures within { self.new.before.rows + self.new.count ≤ index.now.rows }
+        // A look-up of a higher id goes on behind the window.
+        ensures behind { OnIndex (S.objects store.old) name.now index.now.at index.now.rows (λ _.
+            resumes self.new.before id ≡ true) }
         ensures window { OnIndex (S.objects store.old) name.now index.now.at index.now.rows
             (IsWindow self.new.before self.new.count self.new.columns.bytes) }
         ensures kept { OnlyReads (S.objects store.old) (S.objects store.new) (S.draft store.old)

@@ -5,14 +5,21 @@ use Rattle.vol_spec.specs.Encodings.{raw_size}
 use Rattle.vol_spec.specs.Grid.{IsCell}
 use Rattle.vol_spec.specs.StoredCells.{cell_of}
 use Rattle.vol_spec.proofs.Told.{from_told, in_told}
+use Rattle.cutout.specs.Kept.{KeepsIndex}
+use Rattle.cutout.specs.Opened.{Opened}
 use Rattle.write_plan.specs.Jobs.{cells_in}
 use Rattle.copier.specs.Held.{AreFilled, AreRead, ReadsJob}
 use Rattle.copier.proofs.FrameSteps.{filled_more, holds_set, read_failed, read_more, read_none}
+use Rattle.cutout.proofs.RunSteps.{begun}
+use Rattle.copier.proofs.AskedSteps.{asked_job, asked_jobs, asked_refused}
 use Rattle.copier.proofs.JobSteps.{job_cell_at}
 use Rattle.copier.proofs.reading.read_jobs.Goals as goal
 
 pub read_frame-requires-clause-volume : goal.read_frame-requires-clause-volume
-read_frame-requires-clause-volume g c = subst (λ r. AreOfOneVolume r.scale c.args.to.now) (sym c.loop-k.invariant.same) c.requires.volume
+read_frame-requires-clause-volume g c = subst (λ (r : Opened). AreOfOneVolume r.scale c.args.to.now) (sym c.loop-k.invariant.same) c.requires.volume
+
+pub read_frame-requires-clause-keeps : goal.read_frame-requires-clause-keeps
+read_frame-requires-clause-keeps g c = subst (λ o. KeepsIndex o c.loop-k.reader) (sym c.loop-k.invariant.kept.same_objects) c.loop-k.invariant.keeps
 
 pub read_frame-requires-clause-cell : goal.read_frame-requires-clause-cell
 read_frame-requires-clause-cell g c =
@@ -34,10 +41,14 @@ loop-k-preserved g c =
       each = holds_set c.args.to.now c.loop-k.frames c.loop-k.k _ c.loop-k.invariant.each c.read_frame.ensures.room;
       frames = length-set c.loop-k.frames c.loop-k.k _ ∙ c.loop-k.invariant.frames;
       read = λ m told.
-          read_more m c.args.reader.now.dataset c.args.reader.now.scale c.args.to.now (cells_in c.args.jobs.now) c.args.first c.loop-k.k c.loop-k.frames _ c.get.result.cell here inside (c.loop-k.invariant.read m told)
-          (subst (λ r. ReadsJob (Ok tt) m r.dataset r.scale c.args.to.now c.get.result.cell (take (raw_size c.args.to.now c.get.result.cell) c.read_frame.new.frame.items)) c.loop-k.invariant.same
+          read_more m c.args.reader.now.opened.dataset c.args.reader.now.opened.scale c.args.to.now (cells_in c.args.jobs.now) c.args.first c.loop-k.k c.loop-k.frames _ c.get.result.cell here inside (c.loop-k.invariant.read m told)
+          (subst (λ (r : Opened). ReadsJob (Ok tt) m r.dataset r.scale c.args.to.now c.get.result.cell (take (raw_size c.args.to.now c.get.result.cell) c.read_frame.new.frame.items)) c.loop-k.invariant.same
           (from_told _ _ m (c.loop-k.invariant.kept.same_objects ∙ told) c.in-Ok.ensures.read));
       same = c.read_frame.ensures.same ∙ c.loop-k.invariant.same;
+      run = λ m told.
+          asked_job m c.loop-k.reader.opened c.args.reader.now.opened c.args.to.now (cells_in c.args.jobs.now) c.get.result.cell c.args.first c.loop-k.k (g.S.Source.asked c.args.store.now) (g.S.Source.asked c.loop-k.store) (g.S.Source.asked c.read_frame.new.store)
+          c.loop-k.reader c.read_frame.new.reader c.loop-k.invariant.same here (c.loop-k.invariant.run m told) (from_told _ _ m (c.loop-k.invariant.kept.same_objects ∙ told) c.in-Ok.ensures.run);
+      keeps = subst (λ o. KeepsIndex o c.read_frame.new.reader) c.loop-k.invariant.kept.same_objects c.read_frame.ensures.keeps;
       kept = record {
         same_objects = c.read_frame.ensures.kept.same_objects ∙ c.loop-k.invariant.kept.same_objects;
         same_draft = c.read_frame.ensures.kept.same_draft ∙ c.loop-k.invariant.kept.same_draft;
@@ -50,8 +61,10 @@ loop-k-init g c = record {
   filled = λ k l. absurd (omega (arith, l));
   each = c.requires.each;
   frames = refl;
-  read = λ m told. read_none m c.args.reader.now.dataset c.args.reader.now.scale c.args.to.now (cells_in c.args.jobs.now) c.args.first _;
-  same = refl;
+  read = λ m told. read_none m c.args.reader.now.opened.dataset c.args.reader.now.opened.scale c.args.to.now (cells_in c.args.jobs.now) c.args.first _;
+  same = c.forget.ensures.same;
+  keeps = c.forget.ensures.nothing _;
+  run = λ m told. begun m c.args.reader.now.opened.dataset c.args.reader.now.opened.scale (g.S.Source.asked c.args.store.now) c.forget.new.self.shards;
   kept = record { same_objects = refl; same_draft = refl };
   later = omega arith;
 }
@@ -61,9 +74,9 @@ returns-in-Err-clause-read g c =
     let number : c.args.first + c.loop-k.k < length c.args.jobs.now = omega (arith, c.requires.within, c.loop-k-test.true) in
     let here : c.get.result.cell ≡ cell_of (cells_in c.args.jobs.now) (c.args.first + c.loop-k.k) = ap (λ job. job.cell) c.get.ensures ∙ job_cell_at c.args.jobs.now (c.args.first + c.loop-k.k) number in
     in_told _ _ (λ m told.
-    read_failed m c.args.reader.now.dataset c.args.reader.now.scale c.args.to.now (cells_in c.args.jobs.now) c.args.first c.loop-k.k c.args.count (map (λ f. f.items) c.loop-k.frames) _ c.get.result.cell (take (raw_size c.args.to.now c.get.result.cell) c.read_frame.new.frame.items) c.in-Err.fault here c.loop-k-test.true
+    read_failed m c.args.reader.now.opened.dataset c.args.reader.now.opened.scale c.args.to.now (cells_in c.args.jobs.now) c.args.first c.loop-k.k c.args.count (map (λ f. f.items) c.loop-k.frames) _ c.get.result.cell (take (raw_size c.args.to.now c.get.result.cell) c.read_frame.new.frame.items) c.in-Err.fault here c.loop-k-test.true
     (c.loop-k.invariant.read m told)
-    (subst (λ r. ReadsJob (Err c.in-Err.fault) m r.dataset r.scale c.args.to.now c.get.result.cell (take (raw_size c.args.to.now c.get.result.cell) c.read_frame.new.frame.items)) c.loop-k.invariant.same
+    (subst (λ (r : Opened). ReadsJob (Err c.in-Err.fault) m r.dataset r.scale c.args.to.now c.get.result.cell (take (raw_size c.args.to.now c.get.result.cell) c.read_frame.new.frame.items)) c.loop-k.invariant.same
     (from_told _ _ m (c.loop-k.invariant.kept.same_objects ∙ told) c.in-Err.ensures.read)))
 
 pub returns-in-Err-clause-each : goal.returns-in-Err-clause-each
@@ -72,9 +85,23 @@ returns-in-Err-clause-each g c = holds_set c.args.to.now c.loop-k.frames c.loop-
 pub returns-clause-read : goal.returns-clause-read
 returns-clause-read g c =
     let done : c.loop-k.k ≡ c.args.count = omega (arith, c.loop-k-test.false, c.loop-k.auto.k-end) in
-    in_told _ _ (λ m told. subst (λ n. AreRead m c.args.reader.now.dataset c.args.reader.now.scale c.args.to.now (cells_in c.args.jobs.now) c.args.first n (map (λ f. f.items) c.loop-k.frames)) done (c.loop-k.invariant.read m told))
+    in_told _ _ (λ m told. subst (λ n. AreRead m c.args.reader.now.opened.dataset c.args.reader.now.opened.scale c.args.to.now (cells_in c.args.jobs.now) c.args.first n (map (λ f. f.items) c.loop-k.frames)) done (c.loop-k.invariant.read m told))
 
 pub returns-clause-filled : goal.returns-clause-filled
 returns-clause-filled g c =
     let done : c.loop-k.k ≡ c.args.count = omega (arith, c.loop-k-test.false, c.loop-k.auto.k-end) in
     subst (λ n. AreFilled c.args.to.now n (map (λ f. f.items) c.loop-k.frames)) done c.loop-k.invariant.filled
+
+pub returns-in-Err-clause-asked : goal.returns-in-Err-clause-asked
+returns-in-Err-clause-asked g c =
+    let number : c.args.first + c.loop-k.k < length c.args.jobs.now = omega (arith, c.requires.within, c.loop-k-test.true) in
+    let here : c.get.result.cell ≡ cell_of (cells_in c.args.jobs.now) (c.args.first + c.loop-k.k) = ap (λ job. job.cell) c.get.ensures ∙ job_cell_at c.args.jobs.now (c.args.first + c.loop-k.k) number in
+    asked_refused (g.S.Source.objects c.args.store.now) (g.S.Source.objects c.loop-k.store) c.loop-k.reader.opened c.args.reader.now.opened c.args.to.now (cells_in c.args.jobs.now) c.get.result.cell c.args.first c.loop-k.k c.args.count
+    (g.S.Source.asked c.args.store.now) (g.S.Source.asked c.loop-k.store) (g.S.Source.asked c.read_frame.new.store) c.loop-k.reader c.read_frame.new.reader
+    c.loop-k.invariant.kept.same_objects c.loop-k.invariant.same here (omega (arith, c.loop-k-test.true)) c.loop-k.invariant.run c.in-Err.ensures.run
+
+pub returns-clause-asked : goal.returns-clause-asked
+returns-clause-asked g c =
+    let done : c.loop-k.k ≡ c.args.count = omega (arith, c.loop-k-test.false, c.loop-k.auto.k-end) in
+    asked_jobs (g.S.Source.objects c.args.store.now) c.args.reader.now.opened c.args.to.now (cells_in c.args.jobs.now) c.args.first c.loop-k.k c.args.count (g.S.Source.asked c.args.store.now) (g.S.Source.asked c.loop-k.store)
+    c.loop-k.reader done c.loop-k.invariant.run

@@ -1,11 +1,13 @@
 use Rattle.std.proofs.Common.{◌≡◌, ◌↔◌, ◌∙◌, arith, refl, subst, sym}
-use Rattle.std.specs.Prelude.{Contains}
+use Rattle.std.specs.Prelude.{Contains, true, ◌∷◌, []}
 use Rattle.std.proofs.lemmas.List.Elements.{All-contains}
 use Rattle.vol_base.specs.Boxes.{Covers}
 use Rattle.vol_spec.specs.Grid.{cell_at, cell_box, cells_in, IsCell}
 use Rattle.cutout.specs.Reading.{ReadSoFar}
 use Rattle.cutout.proofs.CellSteps.{read_none, read_more, read_refused, read_whole, IsHome}
 use Rattle.cutout.proofs.CostSteps.{asked_all, asked_more, asked_next, asked_none}
+use Rattle.cutout.specs.Runs.{RunsOn}
+use Rattle.cutout.proofs.RunSteps.{run_next, run_none, run_stopped}
 use Rattle.cutout.proofs.StoredSteps.{keeps_still}
 use Rattle.chunk_grid.proofs.Walked.{here, one_on, at_end}
 use Rattle.vol_spec.proofs.Told.{from_told, in_told}
@@ -17,6 +19,7 @@ loop-cell-init g c = record {
   read = λ m told. read_none m c.args.dataset.now c.args.scale.now c.args.part.now c.args.channels c.args.out.now;
   keeps = c.requires.keeps;
   asked = asked_none (g.S.Source.objects c.args.store.now) c.args.dataset.now c.args.scale.now (g.S.Source.asked c.args.store.now);
+  run = λ m told. run_none m c.args.dataset.now c.args.scale.now (g.S.Source.asked c.args.store.now) c.args.shards.now;
   kept = record { same_objects = refl; same_draft = refl };
   later = omega arith;
 }
@@ -40,6 +43,9 @@ loop-cell-preserved g c =
       asked =
           asked_more (g.S.Source.objects c.args.store.now) (g.S.Source.objects c.loop-cell.store) c.args.dataset.now c.args.scale.now c.loop-cell.yielded c.in-Some.cell _ _ _ c.loop-cell.invariant.kept.same_objects
           c.loop-cell.invariant.asked c.read_one.ensures.asked;
+      run = λ m told.
+          run_next true m c.args.dataset.now c.args.scale.now c.loop-cell.yielded (c.in-Some.cell ∷ []) (g.S.Source.asked c.args.store.now) (g.S.Source.asked c.loop-cell.store) (g.S.Source.asked c.read_one.new.store) c.args.shards.now c.loop-cell.shards c.read_one.new.shards (c.loop-cell.invariant.run m told)
+          (from_told _ _ m (c.loop-cell.invariant.kept.same_objects ∙ told) c.in-Ok.ensures.run);
       kept = record {
         same_objects = c.read_one.ensures.kept.same_objects ∙ c.loop-cell.invariant.kept.same_objects;
         same_draft = c.read_one.ensures.kept.same_draft ∙ c.loop-cell.invariant.kept.same_draft;
@@ -76,3 +82,16 @@ returns-clause-read g c =
 pub returns-clause-asked : goal.returns-clause-asked
 returns-clause-asked g c =
     asked_all (g.S.Source.objects c.args.store.now) c.args.dataset.now c.args.scale.now c.args.part.now c.loop-cell.yielded c.loop-cell.cell-iterator _ _ c.loop-cell.invariant.left c.loop-cell.invariant.asked
+
+pub returns-in-Err-clause-run : goal.returns-in-Err-clause-run
+returns-in-Err-clause-run g c =
+    in_told _ _ (λ m told.
+    run_stopped m c.args.dataset.now c.args.scale.now c.loop-cell.yielded c.loop-cell.cell-iterator c.next.new.self (cells_in c.args.scale.now c.args.part.now) c.in-Some.cell
+    (g.S.Source.asked c.args.store.now) (g.S.Source.asked c.loop-cell.store) (g.S.Source.asked c.read_one.new.store) c.args.shards.now c.loop-cell.shards c.read_one.new.shards
+    c.in-Some.ensures.steps c.loop-cell.invariant.left (c.loop-cell.invariant.run m told) (from_told _ _ m (c.loop-cell.invariant.kept.same_objects ∙ told) c.in-Err.ensures.run))
+
+pub returns-clause-run : goal.returns-clause-run
+returns-clause-run g c =
+    in_told _ _ (λ m told.
+    subst (λ cells. RunsOn true m c.args.dataset.now c.args.scale.now cells (g.S.Source.asked c.args.store.now) (g.S.Source.asked c.loop-cell.store) c.args.shards.now c.loop-cell.shards)
+    (at_end c.loop-cell.yielded c.loop-cell.cell-iterator (cells_in c.args.scale.now c.args.part.now) c.in-None.ensures.steps.0 c.loop-cell.invariant.left) (c.loop-cell.invariant.run m told))

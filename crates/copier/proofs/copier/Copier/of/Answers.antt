@@ -1,4 +1,4 @@
-use Rattle.std.proofs.Common.{◌≡◌, ◌≤◌, ◌^◌, IfSome, arith, length, subst, sym}
+use Rattle.std.proofs.Common.{◌≡◌, ◌∙◌, ◌≤◌, ◌^◌, IfSome, arith, length, subst, sym}
 use Rattle.std.specs.Prelude.{filter}
 use Rattle.vol_spec.specs.Copies.{AreOfOneVolume, copied_cells}
 use Rattle.vol_spec.specs.Grid.{cells_on, numbers_on}
@@ -24,7 +24,7 @@ of-requires-clause-distinct g c = distinct_cells c.args.to.now c.in-Ok-find_copi
 pub invariant_of-result : goal.invariant_of-result
 invariant_of-result g c =
     let frames = c.in-Ok-reserve_frames.frames.items in
-    subst (λ (r : Opened). IsHeld (holding r.dataset r.scale c.duplicate.result c.in-Ok-of.jobs 0 0 frames) c.in-Ok-of.jobs frames) (sym c.find_copied.ensures.same)
+    subst (λ (r : Opened). IsHeld (holding r.dataset r.scale c.duplicate.result c.in-Ok-of.jobs 0 0 frames) c.in-Ok-of.jobs frames) (sym (c.keeping.ensures ∙ c.find_copied.ensures.same))
     (subst (λ (s : Scale). IsHeld (holding c.in-Ok.reader.dataset c.in-Ok.reader.scale s c.in-Ok-of.jobs 0 0 frames) c.in-Ok-of.jobs frames) (sym c.duplicate.ensures)
     (held_new c.in-Ok.reader.dataset c.in-Ok.reader.scale c.args.to.now c.in-Ok-find_copied.cells.items c.in-Ok-of.jobs frames
     (subst (λ s. AreOfOneVolume s c.args.to.now) (sym c.in-Ok.ensures.scale) c.requires.volume) c.in-Ok-find_copied.ensures.order.each c.in-Ok-of.ensures.jobs

@@ -9,7 +9,7 @@ use Rattle.copier.proofs.copier.CopierChunks.fill.Goals as goal
 
 pub index-frame-requires : goal.index-frame-requires
 index-frame-requires c =
-    let h : Held = holding c.self.inside.reader.dataset c.self.inside.reader.scale c.self.inside.to c.self.inside.jobs c.self.inside.first c.self.inside.count c.self.inside.frames.items in
+    let h : Held = holding c.self.inside.reader.opened.dataset c.self.inside.reader.opened.scale c.self.inside.to c.self.inside.jobs c.self.inside.first c.self.inside.count c.self.inside.frames.items in
     let some : IsSomeAnd (ready_of h c.args.job) (λ b. length b ≡ length c.args.raw.now) = subst (λ x. IsSomeAnd (ready_of x c.args.job) (λ b. length b ≡ length c.args.raw.now)) (sym c.self.view_is) c.requires in
     let facts : (h.first ≤ c.args.job) × (c.args.job < h.first + h.count) × (raw_size h.to (cell_of (cells_of h) c.args.job) ≡ length c.args.raw.now) = ready_facts h c.args.job (length c.args.raw.now) some in
     let low = facts.0 in
@@ -21,7 +21,7 @@ index-frame-requires c =
 
 pub slice_bounds-copy_from_slice-end : goal.slice_bounds-copy_from_slice-end
 slice_bounds-copy_from_slice-end c =
-    let h : Held = holding c.self.inside.reader.dataset c.self.inside.reader.scale c.self.inside.to c.self.inside.jobs c.self.inside.first c.self.inside.count c.self.inside.frames.items in
+    let h : Held = holding c.self.inside.reader.opened.dataset c.self.inside.reader.opened.scale c.self.inside.to c.self.inside.jobs c.self.inside.first c.self.inside.count c.self.inside.frames.items in
     let some : IsSomeAnd (ready_of h c.args.job) (λ b. length b ≡ length c.args.raw.now) = subst (λ x. IsSomeAnd (ready_of x c.args.job) (λ b. length b ≡ length c.args.raw.now)) (sym c.self.view_is) c.requires in
     let facts : (h.first ≤ c.args.job) × (c.args.job < h.first + h.count) × (raw_size h.to (cell_of (cells_of h) c.args.job) ≡ length c.args.raw.now) = ready_facts h c.args.job (length c.args.raw.now) some in
     let low = facts.0 in
@@ -35,7 +35,7 @@ slice_bounds-copy_from_slice-end c =
 
 pub copy_from_slice-requires : goal.copy_from_slice-requires
 copy_from_slice-requires c =
-    let h : Held = holding c.self.inside.reader.dataset c.self.inside.reader.scale c.self.inside.to c.self.inside.jobs c.self.inside.first c.self.inside.count c.self.inside.frames.items in
+    let h : Held = holding c.self.inside.reader.opened.dataset c.self.inside.reader.opened.scale c.self.inside.to c.self.inside.jobs c.self.inside.first c.self.inside.count c.self.inside.frames.items in
     let some : IsSomeAnd (ready_of h c.args.job) (λ b. length b ≡ length c.args.raw.now) = subst (λ x. IsSomeAnd (ready_of x c.args.job) (λ b. length b ≡ length c.args.raw.now)) (sym c.self.view_is) c.requires in
     let facts : (h.first ≤ c.args.job) × (c.args.job < h.first + h.count) × (raw_size h.to (cell_of (cells_of h) c.args.job) ≡ length c.args.raw.now) = ready_facts h c.args.job (length c.args.raw.now) some in
     let low = facts.0 in
@@ -49,7 +49,7 @@ copy_from_slice-requires c =
 
 pub returns : goal.returns
 returns c =
-    let h : Held = holding c.self.inside.reader.dataset c.self.inside.reader.scale c.self.inside.to c.self.inside.jobs c.self.inside.first c.self.inside.count c.self.inside.frames.items in
+    let h : Held = holding c.self.inside.reader.opened.dataset c.self.inside.reader.opened.scale c.self.inside.to c.self.inside.jobs c.self.inside.first c.self.inside.count c.self.inside.frames.items in
     let some : IsSomeAnd (ready_of h c.args.job) (λ b. length b ≡ length c.args.raw.now) = subst (λ x. IsSomeAnd (ready_of x c.args.job) (λ b. length b ≡ length c.args.raw.now)) (sym c.self.view_is) c.requires in
     let facts : (h.first ≤ c.args.job) × (c.args.job < h.first + h.count) × (raw_size h.to (cell_of (cells_of h) c.args.job) ≡ length c.args.raw.now) = ready_facts h c.args.job (length c.args.raw.now) some in
     let low = facts.0 in

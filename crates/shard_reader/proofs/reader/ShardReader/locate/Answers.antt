@@ -1,10 +1,11 @@
-use Rattle.std.proofs.Common.{◌≡◌, ◌∙◌, ap, Ok}
+use Rattle.std.proofs.Common.{◌≡◌, ◌∙◌, ap, refl, None, Ok}
 use Rattle.vol_spec.specs.ShardNames.{shard_name}
 use Rattle.vol_spec.proofs.Told.{from_told}
 use Rattle.shard_reader.specs.Keeping.{IsKept}
 use Rattle.shard_reader.specs.Reading.{told_object}
 use Rattle.shard_reader.proofs.AgainSteps.{again_by, again_located, ends_kept, left_by_along, left_found, same_reader}
 use Rattle.shard_reader.proofs.KeepSteps.{is_of_kept, keeps_new, located, located_fault, on_span}
+use Rattle.shard_reader.proofs.PastSteps.{once_opened, once_unopened, onward_opened, onward_unopened}
 use Rattle.shard_reader.proofs.reader.ShardReader.locate.Goals as goal
 
 pub returns-in-Err-clause-found : goal.returns-in-Err-clause-found
@@ -63,3 +64,36 @@ returns-in-Ok-Some-clause-ends g c =
     c.open.ensures.kept.same_objects (c.in-Ok-Some.is ∙ ap Ok c.in-Ok-Some.field-0-is) c.shard_name-name.ensures c.place-place.ensures.shard c.place-place.ensures.minishard
     (from_told c.in-Ok-Some.field-0 (IsKept c.open.new.self.kept c.place-place.result.shard c.place-place.result.minishard) c.in-Ok-Some.opened c.in-Ok-Some.field-0-is c.in-Ok-Some.ensures.index)
     c.open.ensures.opened c.find_chunk.ensures.ends
+
+pub returns-in-Err-clause-once : goal.returns-in-Err-clause-once
+returns-in-Err-clause-once g c =
+    once_unopened _ (shard_name c.args.dataset.now c.args.scale.now) c.args.self.now c.open.new.self c.args.sharding.now c.place-place.result.shard c.place-place.result.minishard c.args.id _ _
+    c.place-place.ensures.shard c.place-place.ensures.minishard c.open.ensures.same c.in-Err.ensures.err c.open.ensures.asked
+
+pub returns-in-Ok-None-clause-once : goal.returns-in-Ok-None-clause-once
+returns-in-Ok-None-clause-once g c =
+    once_unopened _ (shard_name c.args.dataset.now c.args.scale.now) c.args.self.now c.open.new.self c.args.sharding.now c.place-place.result.shard c.place-place.result.minishard c.args.id (g.S.Source.asked c.args.store.now) (g.S.Source.asked c.open.new.store)
+    c.place-place.ensures.shard c.place-place.ensures.minishard c.open.ensures.same (c.open.ensures.none (c.in-Ok-None.is ∙ ap Ok c.in-Ok-None.field-0-is)) c.open.ensures.asked
+
+pub returns-in-Ok-Some-clause-once : goal.returns-in-Ok-Some-clause-once
+returns-in-Ok-Some-clause-once g c =
+    once_opened _ (shard_name c.args.dataset.now c.args.scale.now) c.shard_name-name.result c.args.self.now c.open.new.self.kept c.open.new.self.window.before c.args.sharding.now c.open.new.self.window.count c.place-place.result.shard c.place-place.result.minishard c.args.id
+    (g.S.Source.asked c.args.store.now) (g.S.Source.asked c.open.new.store) (g.S.Source.asked c.find_chunk.new.store) c.open.result c.in-Ok-Some.opened
+    (c.in-Ok-Some.is ∙ ap Ok c.in-Ok-Some.field-0-is) c.shard_name-name.ensures c.place-place.ensures.shard c.place-place.ensures.minishard
+    (λ of. same_reader c.open.new.self c.args.self.now (c.open.ensures.same of)) c.open.ensures.asked_same c.open.ensures.asked
+    (from_told c.in-Ok-Some.field-0 (IsKept c.open.new.self.kept c.place-place.result.shard c.place-place.result.minishard) c.in-Ok-Some.opened c.in-Ok-Some.field-0-is c.in-Ok-Some.ensures.index)
+    c.open.ensures.opened c.find_chunk.ensures.asked
+
+pub returns-in-Ok-None-clause-onward : goal.returns-in-Ok-None-clause-onward
+returns-in-Ok-None-clause-onward g c =
+    onward_unopened (g.S.Source.objects c.args.store.now) c.args.self.now c.open.new.self (Ok None) c.args.sharding.now c.place-place.result.shard c.place-place.result.minishard c.args.id (g.S.Source.asked c.args.store.now) (g.S.Source.asked c.open.new.store)
+    c.place-place.ensures.shard c.place-place.ensures.minishard c.open.ensures.same (c.open.ensures.none (c.in-Ok-None.is ∙ ap Ok c.in-Ok-None.field-0-is)) c.open.ensures.asked
+
+pub returns-in-Ok-Some-clause-onward : goal.returns-in-Ok-Some-clause-onward
+returns-in-Ok-Some-clause-onward g c =
+    onward_opened _ _ (shard_name c.args.dataset.now c.args.scale.now) c.shard_name-name.result c.args.self.now (record c.open.new.self { window = c.find_chunk.new.window }) c.open.new.self.kept c.open.new.self.window.before c.args.sharding.now c.open.new.self.window.count c.place-place.result.shard c.place-place.result.minishard c.args.id
+    (g.S.Source.asked c.args.store.now) (g.S.Source.asked c.open.new.store) (g.S.Source.asked c.find_chunk.new.store) c.open.result c.in-Ok-Some.opened c.find_chunk.result
+    c.open.ensures.kept.same_objects refl (c.in-Ok-Some.is ∙ ap Ok c.in-Ok-Some.field-0-is) c.shard_name-name.ensures c.place-place.ensures.shard c.place-place.ensures.minishard
+    (λ of. same_reader c.open.new.self c.args.self.now (c.open.ensures.same of)) c.open.ensures.asked_same c.open.ensures.asked
+    (from_told c.in-Ok-Some.field-0 (IsKept c.open.new.self.kept c.place-place.result.shard c.place-place.result.minishard) c.in-Ok-Some.opened c.in-Ok-Some.field-0-is c.in-Ok-Some.ensures.index)
+    c.open.ensures.opened c.find_chunk.ensures.rows c.find_chunk.ensures.behind c.find_chunk.ensures.once

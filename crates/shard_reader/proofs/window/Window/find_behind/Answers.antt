@@ -3,7 +3,7 @@ use Rattle.minishard.specs.Walks.{Progress}
 use Rattle.vol_base.specs.Outside.{part}
 use Rattle.vol_spec.specs.Rows.{columns_of}
 use Rattle.shard_reader.specs.Reading.{EndsIn, OnIndex, told_object}
-use Rattle.shard_reader.proofs.WindowSteps.{ends_first, ends_on, on_some, part_rows, seen_first, tells_end, tells_err, tells_on, tells_row, window_at}
+use Rattle.shard_reader.proofs.WindowSteps.{ends_first, ends_on, goes_on, on_some, part_rows, seen_first, tells_end, tells_err, tells_on, tells_row, window_at}
 use Rattle.shard_reader.proofs.window.Window.find_behind.Goals as goal
 
 pub returns-in-Err-clause-found : goal.returns-in-Err-clause-found
@@ -30,6 +30,7 @@ loop-walk-init g c =
           tells_on (columns_of (part object c.args.index.now.at (24 * c.args.index.now.rows))) c.args.id c.look.result c.in-Ok-Nothing.field-0 c.look.new.walk c.in-Ok-Nothing.is c.in-Ok-Nothing.field-0-is
           (seen_first object c.args.self.now.columns.bytes c.args.index.now.at c.args.index.now.rows c.args.id c.args.self.now.count c.args.self.now.before c.duplicate-walk.result c.look.new.walk c.look.result fits c.duplicate-walk.ensures c.requires.behind c.requires.within (c.requires.window object told fits) c.look.ensures.seen);
       window = c.requires.window;
+      behind = λ object told fits. c.requires.behind;
       kept = record { same_objects = refl; same_draft = refl };
       asked = omega (arith, rows);
       later = omega arith;
@@ -68,6 +69,7 @@ loop-walk-preserved g c =
       window = λ object told fits.
           let now = ap (λ o. told_object o c.args.name.now) c.loop-walk.invariant.kept.same_objects ∙ told in
           window_at (part object c.args.index.now.at (24 * c.args.index.now.rows)) _ c.loop-walk.walk c.args.id _ _ c.in-Ok.ensures.before (c.loop-walk.invariant.at object told fits) (c.in-Ok.ensures.read object now fits);
+      behind = λ object told fits. goes_on _ _ c.loop-walk.walk c.args.id c.in-Ok.ensures.before (c.loop-walk.invariant.at object told fits);
       kept = record {
         same_objects = c.in-Ok.ensures.kept.same_objects ∙ c.loop-walk.invariant.kept.same_objects;
         same_draft = c.in-Ok.ensures.kept.same_draft ∙ c.loop-walk.invariant.kept.same_draft;
@@ -98,3 +100,9 @@ returns-in-Ok-Answer-look-clause-ends g c =
     ends_on (columns_of bytes) c.args.id c.look-in-loop-walk.result c.in-Ok-Answer-look.field-0 c.in-Ok-Answer-look.row c.fill.new.self.before c.loop-walk.walk c.fill.new.self.count c.in-Ok-Answer-look.is c.in-Ok-Answer-look.field-0-is c.in-Ok.ensures.before
     (c.look-in-loop-walk.ensures.ends (columns_of bytes) (c.loop-walk.invariant.at object told fits) (c.in-Ok.ensures.read object now fits)
     (omega (arith, c.in-Ok.ensures.within, part_rows object c.args.index.now.at c.args.index.now.rows fits))))
+
+pub returns-in-Err-look-clause-behind : goal.returns-in-Err-look-clause-behind
+returns-in-Err-look-clause-behind g c = λ object told fits. goes_on _ _ c.loop-walk.walk c.args.id c.in-Ok.ensures.before (c.loop-walk.invariant.at object told fits)
+
+pub returns-in-Ok-Answer-look-clause-behind : goal.returns-in-Ok-Answer-look-clause-behind
+returns-in-Ok-Answer-look-clause-behind g c = λ object told fits. goes_on _ _ c.loop-walk.walk c.args.id c.in-Ok.ensures.before (c.loop-walk.invariant.at object told fits)

@@ -1,0 +1,101 @@
+//! The reader of a scale that keeps an index from call to call.
+ghost use Rattle.std.specs.Prelude.{is_ok, ◌≡◌, ◌≢◌, ◌↔◌, ◌+◌, ◌≤◌, ◌^◌, length, IfSome, Err, Option};
+ghost use Rattle.vol_base.specs.Causes.{HasCauseOf};
+ghost use Rattle.vol_base.specs.Outside.{Objects, OnlyReads};
+ghost use Rattle.vol_spec.specs.Costs.{cost};
+ghost use Rattle.vol_spec.specs.Grid.{cells_in, Inside};
+ghost use Rattle.vol_spec.specs.Raw.{raw_len};
+ghost use Rattle.cutout.specs.Kept.{KeepsIndex};
+ghost use Rattle.cutout.specs.Reading.{HasCut};
+ghost use Rattle.cutout.specs.Runs.{RunsOn};
+
+use crate::CutFault;
+use crate::cutting::cut_box;
+use chunk_pool::Frame;
+use shard_reader::ShardReader;
+use std::marker::Model;
+use vol_base::{Box3, Name, Source};
+use vol_spec::Scale;
+
+/// Reads a scale of a data set as a `Reader` does, and keeps the index that it opened last from call to call.
+/// So boxes that are read one after the other, in the order of the ids, read an index once. It is seen
+/// as the reader, and what it keeps.
+#[derive(Drop)]
+pub struct KeepingReader {
+    pub(crate) dataset: Name,
+    pub(crate) scale: Scale,
+    pub(crate) chunk: Frame,
+    pub(crate) values: Frame,
+    pub(crate) shards: ShardReader,
+}
+
+impl Model for KeepingReader {
+    ghost use Rattle.cutout.specs.Kept.{Keeping};
+    ghost use Rattle.cutout.specs.Opened.{IsReady};
+
+    ghost Value = { Keeping };
+
+    ghost view = { λ r. record {
+      opened = record { dataset = r.dataset; scale = r.scale };
+      shards = r.shards;
+    } };
+
+    ghost invariant = { λ r. IsReady (record { dataset = r.dataset; scale = r.scale }) r.chunk r.values };
+}
+
+impl KeepingReader {
+    /// Forgets what is kept, as has to be done where the objects may have changed.
+    pub fn forget(&mut self)
+        ensures same { self.new.opened ≡ self.old.opened }
+        ensures nothing { (objects : Option Objects) → KeepsIndex objects self.new }
+    {
+        self.shards.forget();
+    }
+
+    /// Cuts a box out, as `Reader::cutout` does, and forgets nothing: it reads no row that it has passed in the
+    /// index that it keeps, nor the index's entry. What it keeps must be what the objects say, as it is
+    /// after `forget`, and behind another cut where the objects stayed the same.
+    pub fn cutout<S: Source>(
+        &mut self,
+        store: &mut S,
+        part: &Box3,
+        out: &mut [u8],
+    ) -> Result<(), CutFault>
+        requires len { length out.old ≡ raw_len part.now self.old.opened.scale.channels
+            self.old.opened.scale.width }
+        requires limit { Inside self.old.opened.scale part.now → length out.old ≤ 2 ^ 30 }
+        requires keeps { KeepsIndex (S.objects store.old) self.old }
+        ensures outside { result ≡ Err CutFault.OutsideScale ↔
+            (Inside self.old.opened.scale part.now → ⊥) }
+        ensures cut { IfSome (S.objects store.old) (λ m.
+            HasCut result m self.old.opened.dataset self.old.opened.scale part.now out.new) }
+        ensures keeps { KeepsIndex (S.objects store.old) self.new }
+        ensures same { self.new.opened ≡ self.old.opened }
+        ensures unasked { result ≡ Err CutFault.OutsideScale → store.new ≡ store.old }
+
+        // It asks for no more than the entries, the indexes and the chunks of the cells.
+        ensures asked { IfSome (S.objects store.old) (λ m. S.asked store.new ≤ S.asked store.old
+            + cost m self.old.opened.dataset self.old.opened.scale part.now) }
+
+        // Over several cuts it asks for the rows of an index once, where each cell stands behind the one before.
+        ensures run { IfSome (S.objects store.old) (λ m. RunsOn (is_ok result) m self.old.opened.dataset
+            self.old.opened.scale (cells_in self.old.opened.scale part.now) (S.asked store.old)
+            (S.asked store.new) self.old.shards self.new.shards) }
+        ensures kept { OnlyReads (S.objects store.old) (S.objects store.new) (S.draft store.old)
+            (S.draft store.new) }
+        ensures cause { HasCauseOf CutFault.StoreFault (S.faults store.old) (S.faults store.new) result }
+    {
+        let chunk = self.chunk.room();
+        let values = self.values.room();
+        cut_box(
+            &mut self.shards,
+            store,
+            &self.dataset,
+            &self.scale,
+            chunk,
+            values,
+            part,
+            out,
+        )
+    }
+}
