@@ -3,6 +3,7 @@
 #![tactic(auto)]
 
 mod buffers;
+mod crew;
 mod info;
 mod lines;
 mod printing;
@@ -10,6 +11,7 @@ mod refusal;
 mod status;
 mod telling;
 
+pub use crew::Crew;
 pub use info::read_scale;
 pub use lines::{
     write_cells_line, write_damaged_line, write_folder_line, write_info_line, write_large_line,

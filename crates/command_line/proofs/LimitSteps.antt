@@ -7,7 +7,7 @@ use Rattle.std.proofs.Common.{arith}
 use Rattle.vol_base.specs.Names.{is_name}
 use Rattle.vol_base.specs.declared.boxes.Box3.{Box3}
 use Rattle.command_line.specs.declared.commands.Command.{Command}
-use Rattle.command_line.specs.Words.{box_of, connection_count, cutout_line, cutout_of, either_value, generate_line, generate_of, KeepsLimits, line, number, other_words, part_of, plain_words, port_number, reshard_line, reshard_of, seed, serve_line, serve_of, short_name, verify_line, verify_of, workers, write_count, write_line, write_of}
+use Rattle.command_line.specs.Words.{box_of, connection_count, cutout_line, cutout_of, either_value, generate_line, generate_of, KeepsLimits, line, number, other_words, part_of, plain_words, port_number, reshard_line, reshard_of, seed, serve_line, serve_of, short_name, update_line, update_of, verify_line, verify_of, workers, write_count, write_line, write_of}
 
 abbrev IsShort : Option (List ℕ) → Type 0
 IsShort name = IfSome name (λ n. length n ≤ 200)
@@ -34,6 +34,12 @@ write_keeps (Some a) (Some b) (Some n) ha hb = (ha, hb)
 write_keeps (Some a) (Some b) None ha hb = tt
 write_keeps (Some a) None n ha hb = tt
 write_keeps None b n ha hb = tt
+
+update_keeps : (a b : Option (List ℕ)) (n : Option ℕ) → IsShort a → IsShort b → KeepsLimits (update_of a b n)
+update_keeps (Some a) (Some b) (Some n) ha hb = (ha, hb)
+update_keeps (Some a) (Some b) None ha hb = tt
+update_keeps (Some a) None n ha hb = tt
+update_keeps None b n ha hb = tt
 
 reshard_keeps : (a b c d : Option (List ℕ)) (n : Option ℕ) → IsShort a → IsShort b → IsShort c → IsShort d → KeepsLimits (reshard_of a b c d n)
 reshard_keeps (Some a) (Some b) (Some c) (Some d) (Some n) ha hb hc hd = (ha, hb, hc, hd)
@@ -140,6 +146,12 @@ write_line_keeps [] others = tt
 write_line_keeps (a ∷ []) others = tt
 write_line_keeps (a ∷ b ∷ c ∷ plain) others = tt
 
+update_line_keeps : (plain others : List (List ℕ)) → KeepsLimits (update_line plain others)
+update_line_keeps (a ∷ b ∷ []) others = update_keeps (short_name a) (short_name b) (workers others) (short_is a) (short_is b)
+update_line_keeps [] others = tt
+update_line_keeps (a ∷ []) others = tt
+update_line_keeps (a ∷ b ∷ c ∷ plain) others = tt
+
 generate_line_keeps : (plain others : List (List ℕ)) → KeepsLimits (generate_line plain others)
 generate_line_keeps (a ∷ b ∷ n ∷ m ∷ []) others =
     generate_keeps (short_name a) (short_name b) (seed n) (write_count m) (workers others) (short_is a) (short_is b) (found_seed (number n)) (found_count (number m))
@@ -170,10 +182,11 @@ line_keeps (command ∷ words) =
     let others = other_words words in
     either_keeps (bytes_eq command (codes "cutout")) (cutout_line plain others) _ (cutout_line_keeps plain others)
     (either_keeps (bytes_eq command (codes "write")) (write_line plain others) _ (write_line_keeps plain others)
+    (either_keeps (bytes_eq command (codes "update")) (update_line plain others) _ (update_line_keeps plain others)
     (either_keeps (bytes_eq command (codes "generate")) (generate_line plain others) _ (generate_line_keeps plain others)
     (either_keeps (bytes_eq command (codes "reshard")) (reshard_line plain others) _ (reshard_line_keeps plain others)
     (either_keeps (bytes_eq command (codes "verify")) (verify_line plain others) _ (verify_line_keeps plain others)
-    (either_keeps (bytes_eq command (codes "serve")) (serve_line plain others) None (serve_line_keeps plain others) tt)))))
+    (either_keeps (bytes_eq command (codes "serve")) (serve_line plain others) None (serve_line_keeps plain others) tt))))))
 
 pub command_keeps : (found : Option Command) (words : List (List ℕ)) → found ≡ line words → KeepsLimits found
 command_keeps found words e = subst KeepsLimits (sym e) (line_keeps words)

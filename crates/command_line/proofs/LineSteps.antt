@@ -2,7 +2,7 @@
 use Rattle.std.proofs.Common.{◌≡◌, ◌<◌, ℕ, List, [], ◌∷◌, false, Option, Some, None, length, map, option_and_then, arith, refl}
 use Rattle.std.specs.Borrow.{Bor}
 use Rattle.command_line.specs.Parsers.{is_given}
-use Rattle.command_line.specs.Words.{cutout_line, generate_line, generate_of, numbered, reshard_line, reshard_of, targeted, verify_line, worker_count, workers, write_line, write_of}
+use Rattle.command_line.specs.Words.{cutout_line, generate_line, generate_of, numbered, over, reshard_line, reshard_of, short_name, targeted, update_line, update_of, verify_line, worker_count, workers, write_line, write_of}
 
 -- the texts behind references
 abbrev pub texts : List (Bor (List ℕ)) → List (List ℕ)
@@ -67,6 +67,19 @@ generate_is (Some d) (Some k) None writes (Some count) = refl
 generate_is (Some d) (Some k) None writes None = refl
 generate_is (Some d) None n writes count = refl
 generate_is None key n writes count = refl
+
+-- and but for its name a line of `update` is one of `write`
+over_is : (dataset key : Option (List ℕ)) (count : Option ℕ) → over (write_of dataset key count) ≡ update_of dataset key count
+over_is (Some d) (Some k) (Some count) = refl
+over_is (Some d) (Some k) None = refl
+over_is (Some d) None count = refl
+over_is None key count = refl
+
+pub update_is : (plain others : List (List ℕ)) → over (write_line plain others) ≡ update_line plain others
+update_is [] others = refl
+update_is (a ∷ []) others = refl
+update_is (a ∷ b ∷ []) others = over_is (short_name a) (short_name b) (workers others)
+update_is (a ∷ b ∷ c ∷ rest) others = refl
 
 -- the same of `reshard`, of whose words the first two and the others are those of `write`
 pub no_reshard : (plain others : List (Bor (List ℕ))) → (length plain ≡ 4 → ⊥) → None ≡ reshard_line (texts plain) (texts others)

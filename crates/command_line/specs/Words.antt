@@ -10,7 +10,7 @@ use Rattle.vol_base.specs.BoxText.{box_numbers, parsed}
 use Rattle.vol_base.specs.Names.{is_name}
 use Rattle.vol_base.specs.declared.boxes.Box3.{Box3}
 use Rattle.command_line.specs.declared.commands.Command.{Command}
-use Rattle.command_line.specs.declared.commands.Command.TheVariants.{Cutout, Generate, Reshard, Serve, Verify, Write}
+use Rattle.command_line.specs.declared.commands.Command.TheVariants.{Cutout, Generate, Reshard, Serve, Update, Verify, Write}
 
 -- a plain word isn't empty and doesn't begin with `-`
 abbrev pub is_plain : List ℕ → Bool
@@ -81,6 +81,22 @@ write_of None key count = None
 abbrev pub write_line : List (List ℕ) → List (List ℕ) → Option Command
 write_line (dataset ∷ key ∷ []) others = write_of (short_name dataset) (short_name key) (workers others)
 write_line plain others = None
+
+-- `update DATASET KEY [--workers=N]`, by its plain words and the others
+abbrev pub update_of : Option (List ℕ) → Option (List ℕ) → Option ℕ → Option Command
+update_of (Some dataset) (Some key) (Some count) = Some (Update dataset key count)
+update_of (Some dataset) (Some key) None = None
+update_of (Some dataset) None count = None
+update_of None key count = None
+
+abbrev pub update_line : List (List ℕ) → List (List ℕ) → Option Command
+update_line (dataset ∷ key ∷ []) others = update_of (short_name dataset) (short_name key) (workers others)
+update_line plain others = None
+
+-- a command `write` as the command `update`
+abbrev pub over : Option Command → Option Command
+over (Some (Write dataset key count)) = Some (Update dataset key count)
+over found = None
 
 -- `generate DATASET KEY NUMBER WRITES [--workers=N]`, by its plain words and the others
 abbrev pub generate_of : Option (List ℕ) → Option (List ℕ) → Option ℕ → Option ℕ → Option ℕ → Option Command
@@ -177,6 +193,7 @@ line [] = None
 line (command ∷ words) = if bytes_eq command (codes "cutout")
     then cutout_line (plain_words words) (other_words words)
     else if bytes_eq command (codes "write") then write_line (plain_words words) (other_words words)
+    else if bytes_eq command (codes "update") then update_line (plain_words words) (other_words words)
     else if bytes_eq command (codes "generate") then generate_line (plain_words words) (other_words words)
     else if bytes_eq command (codes "reshard") then reshard_line (plain_words words) (other_words words)
     else if bytes_eq command (codes "verify") then verify_line (plain_words words) (other_words words)
@@ -187,6 +204,7 @@ abbrev pub KeepsLimits : Option Command → Type 0
 KeepsLimits None = Unit {0}
 KeepsLimits (Some (Cutout dataset key part)) = (length dataset ≤ 200) × (length key ≤ 200)
 KeepsLimits (Some (Write dataset key count)) = (length dataset ≤ 200) × (length key ≤ 200)
+KeepsLimits (Some (Update dataset key count)) = (length dataset ≤ 200) × (length key ≤ 200)
 KeepsLimits (Some (Generate dataset key n writes count)) =
     (length dataset ≤ 200) × (length key ≤ 200) × (n < 2 ^ 31) × (writes ≤ 4096)
 KeepsLimits (Some (Reshard dataset key to_dataset to_key count)) =

@@ -16,6 +16,12 @@ pub enum Command {
         key: Name,
         workers: u32,
     },
+    /// `update DATASET KEY [--workers=N]`: a stream of writes over what a scale holds, by 1 to 16 workers.
+    Update {
+        dataset: Name,
+        key: Name,
+        workers: u32,
+    },
     /// `generate DATASET KEY NUMBER WRITES [--workers=N]`: at most 4,096 writes that are made from a number
     /// below 2^31, into an empty scale, by 1 to 16 workers.
     Generate {

@@ -7,6 +7,7 @@ mod resharding;
 mod serving;
 #[cfg(test)]
 mod tests;
+mod updating;
 mod verifying;
 mod words;
 

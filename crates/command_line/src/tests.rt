@@ -11,6 +11,8 @@ write d s => write 1
 write d s --workers=16 => write 16
 write --workers=2 d s => write 2
 write d --workers=9 s => write 9
+update d s => update 1
+update --workers=16 d s => update 16
 generate d s 7 200 => generate 7 200 1
 generate d s 0 0 => generate 0 0 1
 generate d s 2147483647 4096 --workers=3 => generate 2147483647 4096 3
@@ -48,6 +50,11 @@ write d s -
 write d s x
 write d  s
 write d
+update d
+update d s x
+update d ../s
+update d s --workers=17
+update d s --port=1
 generate d s 2147483648 1
 generate d s 1 4097
 generate d s 01 1
@@ -99,6 +106,7 @@ fn print_command(alloc: Global, command: &Command) -> Result<String, AllocError>
     match command {
         Command::Cutout { .. } => String::from_str(alloc, "cutout"),
         Command::Write { workers, .. } => format!(in alloc; "write {workers}"),
+        Command::Update { workers, .. } => format!(in alloc; "update {workers}"),
         Command::Generate {
             number,
             writes,

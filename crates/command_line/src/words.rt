@@ -9,6 +9,7 @@ use crate::commands::Command;
 use crate::parsers::find_values;
 use crate::resharding::read_reshard;
 use crate::serving::read_serve;
+use crate::updating::read_update;
 use crate::verifying::read_verify;
 use std::alloc::{AllocError, Global};
 use vol_base::{Box3, Name, OutOfMemory};
@@ -215,8 +216,12 @@ pub(crate) fn read_write_others(
     }
 }
 
-// `write DATASET KEY [--workers=N]`.
-fn read_write(alloc: Global, plain: &[&str], others: &[&str]) -> Result<Option<Command>, AllocError>
+/// `write DATASET KEY [--workers=N]`.
+pub(crate) fn read_write(
+    alloc: Global,
+    plain: &[&str],
+    others: &[&str],
+) -> Result<Option<Command>, AllocError>
     requires { IsTrue (list_all is_plain (map (λ word. word.now) plain.now)) }
     ensures { IfOk result (λ command. command ≡ write_line (map (λ word. word.now) plain.now)
         (map (λ word. word.now) others.now)) }
@@ -322,6 +327,7 @@ fn read_command(
     match command {
         "cutout" => read_cutout(alloc, &sorted.plain, &sorted.others),
         "write" => read_write(alloc, &sorted.plain, &sorted.others),
+        "update" => read_update(alloc, &sorted.plain, &sorted.others),
         "generate" => read_generate(alloc, &sorted.plain, &sorted.others),
         "reshard" => read_reshard(alloc, &sorted.plain, &sorted.others),
         "verify" => Ok(read_verify(&sorted.plain, &sorted.others)),

@@ -1,5 +1,6 @@
 -- What `generate` answers over the objects that a store tells (this project's profile).
-use Rattle.std.specs.Prelude.{◌≡◌, ◌⊎◌, ℕ, ◌*◌, ◌≤◌, ◌<◌, ◌^◌, false, length, Option, Some, None, Result, Ok, Err, ⊤, IfErr, IfSome, IsOkAnd}
+use Rattle.std.specs.Prelude.{◌≡◌, ◌⊎◌, ℕ, ◌*◌, ◌≤◌, ◌<◌, ◌^◌, false, length, Option, Some, None, Result, Ok, Err, ⊤, IfErr, IfSome, IsOkAnd, OnOk}
+use Rattle.vol_base.specs.Causes.{Rose}
 use Rattle.vol_base.specs.Outside.{Objects}
 use Rattle.vol_spec.specs.Cut.{cut, first_fault}
 use Rattle.vol_spec.specs.Grid.{whole}
@@ -18,6 +19,7 @@ use Rattle.command_base.specs.Scales.{IsFull, IsReady, stored_scale}
 use Rattle.command_base.specs.Statuses.{puts}
 use Rattle.command_base.specs.declared.refusal.NoScale.{NoScale}
 use Rattle.command_base.specs.declared.status.Status.{Status}
+use Rattle.command_base.specs.declared.status.Status.TheVariants.{StoreFault as StoreStatus}
 use Rattle.cutout_cmd.specs.Cutouts.{IsRequest, IsTooLarge}
 use Rattle.cutout_cmd.specs.declared.refusal.CutoutRefusal.{CutoutRefusal}
 use Rattle.cutout_cmd.specs.declared.refusal.CutoutRefusal.TheVariants as uncut
@@ -117,6 +119,12 @@ IsRefusal (Cutout (uncut.Damaged cell fault)) = Unit {0}
 IsRefusal (Cutout uncut.StoreFault) = Unit {0}
 IsRefusal (Cutout uncut.NoMemory) = Unit {0}
 IsRefusal (Cutout other) = ⊥
+
+-- no count of the store falls, a refusal with the status of its faults comes only where it rose, and success only where it stands
+pub record HasStoreCause (before now : ℕ) (result : Result Summary GenerateRefusal) : Type 0 where
+  pub later : before ≤ now
+  pub failed : IfErr result (λ refusal. generate_status refusal ≡ StoreStatus → Rose before now)
+  pub stands : OnOk result (now ≡ before)
 
 -- what is right of the answer of `generate`: over objects; and where nothing is told, the refusals that come, those of a status that
 -- puts nothing without a change of the objects

@@ -1,5 +1,5 @@
 //! The command `generate`.
-ghost use Rattle.std.specs.Prelude.{OnOk, ◌≡◌, ◌≤◌, ◌<◌, ◌^◌, ℕ, List, Some, false, length, IfErr, IfSome};
+ghost use Rattle.std.specs.Prelude.{◌≡◌, ◌≤◌, ◌<◌, ◌^◌, ℕ, List, Some, false, length, IfErr, IfSome};
 ghost use Rattle.vol_base.specs.Causes.{HasCauseOf, Rose};
 ghost use Rattle.vol_base.specs.Outside.{Objects, OnlyReads};
 ghost use Rattle.vol_spec.specs.Grid.{whole as whole_of};
@@ -9,16 +9,15 @@ ghost use Rattle.command_base.specs.Ending.{EndsWell, IsCaused};
 ghost use Rattle.command_base.specs.Outlets.{outlets_of};
 ghost use Rattle.command_base.specs.Scales.{IsReady, stored_scale};
 ghost use Rattle.command_base.specs.Statuses.{puts};
-ghost use Rattle.command_base.specs.declared.status.Status.TheVariants.{StoreFault as StoreStatus};
 ghost use Rattle.cutout_cmd.specs.Cutouts.{IsRequest};
 ghost use Rattle.write_cmd.specs.Storing.{WrittenBack};
-ghost use Rattle.generate_cmd.specs.Generating.{CanGenerate, drawn, Generated, Generates, IsRefusal, IsUnsummed, JudgesWhole, SumsScale};
+ghost use Rattle.generate_cmd.specs.Generating.{CanGenerate, drawn, Generated, Generates, HasStoreCause, IsRefusal, IsUnsummed, JudgesWhole, SumsScale};
 ghost use Rattle.generate_cmd.specs.Refusals.{generate_status};
 
 use crate::lines::write_generated_line;
 use crate::refusal::GenerateRefusal;
 use chunk_grid::{find_folder, whole};
-use command_base::{Status, finish, read_scale, report, tell};
+use command_base::{Crew, Status, finish, read_scale, report};
 use cutout::Reader;
 use cutout_cmd::{CutoutRefusal, judge_part, stream_part};
 use info_doc::Scale;
@@ -114,19 +113,14 @@ fn sum_scale<S: Source>(
 }
 
 // Writes a list that a number makes into a scale that is ready, and sums the scale.
-fn write_and_sum<R, S: Store, G: Gate + Sync>(
-    rt: &R,
-    alloc: Global,
+fn write_and_sum<R: Threads + Wait + Sync, S: Store, G: Gate + Sync>(
+    crew: &Crew<R, G>,
     store: &mut S,
     dataset: &Name,
     scale: &Scale,
     number: u32,
     count: u32,
-    workers: u32,
-    gate: &G,
 ) -> Result<Summary, GenerateRefusal>
-where
-    R: Threads + Wait + Sync,
     requires dataset { length dataset.now ≤ 200 }
     requires writable { IsWritable scale.now }
     requires empty { IfSome (S.objects store.old) (λ m. IsReady m dataset.now scale.now) }
@@ -139,80 +133,29 @@ where
     ensures draft { Drops (S.draft store.old) (S.draft store.new) }
     ensures kept { IfErr result (λ refusal. puts (generate_status refusal) ≡ false →
         OnlyReads (S.objects store.old) (S.objects store.new) (S.draft store.old) (S.draft store.new)) }
-    ensures later { S.faults store.old ≤ S.faults store.new }
-    ensures fault { IfErr result (λ refusal. generate_status refusal ≡ StoreStatus →
-        Rose (S.faults store.old) (S.faults store.new)) }
-    ensures stands { OnOk result (S.faults store.new ≡ S.faults store.old) }
+    ensures cause { HasStoreCause (S.faults store.old) (S.faults store.new) result }
 {
     let mut list = Generator::new(scale, number, count);
-    let written = match write_list(rt, alloc, store, &mut list, dataset, scale, workers, gate) {
+    let written = match write_list(crew, store, &mut list, dataset, scale) {
         Ok(written) => written,
         Err(refusal) => return Err(GenerateRefusal::Write(refusal)),
     };
-    match sum_scale(alloc, store, dataset, scale) {
+    match sum_scale(crew.alloc, store, dataset, scale) {
         Ok(sum) => Ok(Summary { written, sum }),
         Err(refusal) => Err(GenerateRefusal::Cutout(refusal)),
     }
 }
 
-// Writes a list that a number makes into a scale that keeps the writing limit, and sums the scale. The folder is
+// Writes the list of writes that a number makes into the scale of a key, and sums the scale's values. The folder is
 // judged before the scale's size.
-fn generate_scale<R, S: Store, G: Gate + Sync>(
-    rt: &R,
-    alloc: Global,
-    store: &mut S,
-    dataset: &Name,
-    scale: &Scale,
-    number: u32,
-    count: u32,
-    workers: u32,
-    gate: &G,
-) -> Result<Summary, GenerateRefusal>
-where
-    R: Threads + Wait + Sync,
-    requires dataset { length dataset.now ≤ 200 }
-    requires writable { IsWritable scale.now }
-    requires number { number < 2 ^ 31 }
-    requires count { count ≤ 4096 }
-    ensures generates { (key : List ℕ) → IfSome (S.objects store.old) (λ m.
-        Generates result (Ok scale.now) m (S.objects store.new) (drawn number count) dataset.now key) }
-    ensures refused { IfErr result IsRefusal }
-    ensures draft { Drops (S.draft store.old) (S.draft store.new) }
-    ensures kept { IfErr result (λ refusal. puts (generate_status refusal) ≡ false →
-        OnlyReads (S.objects store.old) (S.objects store.new) (S.draft store.old) (S.draft store.new)) }
-    ensures later { S.faults store.old ≤ S.faults store.new }
-    ensures fault { IfErr result (λ refusal. generate_status refusal ≡ StoreStatus →
-        Rose (S.faults store.old) (S.faults store.new)) }
-    ensures stands { OnOk result (S.faults store.new ≡ S.faults store.old) }
-{
-    match store.any_under(&find_folder(dataset, scale)) {
-        Ok(false) => {}
-        Ok(true) => return Err(GenerateRefusal::Write(WriteRefusal::NotEmpty)),
-        Err(_) => return Err(GenerateRefusal::Write(WriteRefusal::StoreFault)),
-    }
-    match judge_whole(scale) {
-        Ok(()) => {}
-        Err(refusal) => return Err(refusal),
-    }
-    write_and_sum(
-        rt, alloc, store, dataset, scale, number, count, workers, gate,
-    )
-}
-
-// Writes the list of writes that a number makes into the scale of a key, and sums the scale's values.
-fn generate_objects<R, S: Store, G: Gate + Sync>(
-    rt: &R,
-    alloc: Global,
+fn generate_objects<R: Threads + Wait + Sync, S: Store, G: Gate + Sync>(
+    crew: &Crew<R, G>,
     store: &mut S,
     dataset: &Name,
     key: &Name,
     number: u32,
     count: u32,
-    workers: u32,
-    gate: &G,
 ) -> Result<Summary, GenerateRefusal>
-where
-    R: Threads + Wait + Sync,
     requires dataset { length dataset.now ≤ 200 }
     requires key { length key.now ≤ 200 }
     requires number { number < 2 ^ 31 }
@@ -224,29 +167,28 @@ where
     ensures draft { Drops (S.draft store.old) (S.draft store.new) }
     ensures kept { IfErr result (λ refusal. puts (generate_status refusal) ≡ false →
         OnlyReads (S.objects store.old) (S.objects store.new) (S.draft store.old) (S.draft store.new)) }
-    ensures later { S.faults store.old ≤ S.faults store.new }
-    ensures fault { IfErr result (λ refusal. generate_status refusal ≡ StoreStatus →
-        Rose (S.faults store.old) (S.faults store.new)) }
-    ensures stands { OnOk result (S.faults store.new ≡ S.faults store.old) }
+    ensures cause { HasStoreCause (S.faults store.old) (S.faults store.new) result }
 {
-    let scale = match read_scale(alloc, store, dataset, key) {
+    let scale = match read_scale(crew.alloc, store, dataset, key) {
         Ok(scale) => scale,
         Err(refusal) => return Err(GenerateRefusal::Write(WriteRefusal::from(refusal))),
     };
-    match judge_limit(&scale) {
-        Ok(()) => {}
-        Err(refusal) => return Err(GenerateRefusal::Write(refusal)),
+    if let Err(refusal) = judge_limit(&scale) {
+        return Err(GenerateRefusal::Write(refusal));
     }
-    generate_scale(
-        rt, alloc, store, dataset, &scale, number, count, workers, gate,
-    )
+    match store.any_under(&find_folder(dataset, &scale)) {
+        Ok(false) => {}
+        Ok(true) => return Err(GenerateRefusal::Write(WriteRefusal::NotEmpty)),
+        Err(_) => return Err(GenerateRefusal::Write(WriteRefusal::StoreFault)),
+    }
+    judge_whole(&scale)?;
+    write_and_sum(crew, store, dataset, &scale, number, count)
 }
 
 /// The command `generate`: puts the list of so many writes that a number makes into the scale of a key, sums the values
-/// of the whole scale, and prints how many objects of how many bytes were put, and the sum. Workers call `gate`.
-pub fn run_generate<R, S: Store, O: Outlet, E: Outlet, G: Gate + Sync>(
-    rt: &R,
-    alloc: Global,
+/// of the whole scale, and prints how many objects of how many bytes were put, and the sum. The crew encodes.
+pub fn run_generate<R: Threads + Wait + Sync, S: Store, O: Outlet, E: Outlet, G: Gate + Sync>(
+    crew: &Crew<R, G>,
     store: &mut S,
     out: &mut O,
     err: &mut E,
@@ -254,11 +196,7 @@ pub fn run_generate<R, S: Store, O: Outlet, E: Outlet, G: Gate + Sync>(
     key: &Name,
     number: u32,
     count: u32,
-    workers: u32,
-    gate: &G,
 ) -> Status
-where
-    R: Threads + Wait + Sync,
     requires dataset { length dataset.now ≤ 200 }
     requires key { length key.now ≤ 200 }
     requires number { number < 2 ^ 31 }
@@ -278,18 +216,17 @@ where
     ensures causes { IsCaused result (S.faults store.old) (S.faults store.new) (O.faults out.old)
         (O.faults out.new) (E.faults err.old) (E.faults err.new) }
 {
-    let summary = match generate_objects(
-        rt, alloc, store, dataset, key, number, count, workers, gate,
-    ) {
+    let summary = match generate_objects(crew, store, dataset, key, number, count) {
         Ok(summary) => summary,
-        Err(refusal) => return report(alloc, err, dataset, &refusal),
+        Err(refusal) => return report(crew.alloc, err, dataset, &refusal),
     };
     let written = &summary.written;
-    match write_generated_line(alloc, count, written.objects, written.bytes, summary.sum) {
-        Ok(line) => finish(out, err, line.as_str()),
-        Err(_) => {
-            tell(err, Status::NoMemory);
-            Status::NoMemory
-        }
-    }
+    let line = write_generated_line(
+        crew.alloc,
+        count,
+        written.objects,
+        written.bytes,
+        summary.sum,
+    );
+    finish(out, err, line)
 }

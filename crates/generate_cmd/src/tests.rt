@@ -3,7 +3,7 @@
 ghost use Rattle.std.specs.Prelude.{◌<◌, ◌≤◌, ◌^◌};
 
 use crate::run_generate;
-use command_base::Status;
+use command_base::{Crew, Status};
 use memory_rows::{has_all, has_none, name_of, outlet_of, put, raw_info};
 use std::alloc::Global;
 use std::process::Abort;
@@ -51,10 +51,8 @@ fn call<R: Threads + Wait + Sync>(
     let key = name_of("s")?;
     let number = u32::from(number);
     let count = u32::from(count);
-    let status = run_generate(
-        rt, alloc, store, out, err, &dataset, &key, number, count, workers, &FreeGate,
-    );
-    Ok(status)
+    let crew = Crew::of(rt, alloc, workers, &FreeGate);
+    Ok(run_generate(&crew, store, out, err, &dataset, &key, number, count))
 }
 
 // A list that a number makes: its status, and what it prints or tells.

@@ -14,7 +14,7 @@ ghost use Rattle.reshard_cmd.specs.Refusals.{reshard_status};
 use crate::ReshardFault;
 use crate::copying::reshard;
 use crate::refusal::ReshardRefusal;
-use command_base::{ScaleRefusal, Status, finish, read_scale, report, tell, write_written_line};
+use command_base::{Crew, ScaleRefusal, Status, finish, read_scale, report, write_written_line};
 use shard_writer::Written;
 use std::alloc::Global;
 use std::sync::Wait;
@@ -80,19 +80,14 @@ fn read_target<S: Source>(
 }
 
 // Copies a scale into another one.
-fn copy_scale<R, S: Store, G: Gate + Sync>(
-    rt: &R,
-    alloc: Global,
+fn copy_scale<R: Threads + Wait + Sync, S: Store, G: Gate + Sync>(
+    crew: &Crew<R, G>,
     store: &mut S,
     from_dataset: &Name,
     from: &Scale,
     to_dataset: &Name,
     to: &Scale,
-    workers: u32,
-    gate: &G,
 ) -> Result<Written, ReshardRefusal>
-where
-    R: Threads + Wait + Sync,
     requires from_dataset { length from_dataset.now ≤ 200 }
     requires to_dataset { length to_dataset.now ≤ 200 }
     requires writable { IsWritable to.now }
@@ -104,36 +99,21 @@ where
     ensures unsharded { to.now.sharding ≡ None → Drops (S.draft store.old) (S.draft store.new) }
     ensures cause { HasCauseOf ReshardRefusal.StoreFault (S.faults store.old) (S.faults store.new) result }
 {
-    match reshard(
-        rt,
-        alloc,
-        store,
-        from_dataset,
-        from,
-        to_dataset,
-        to,
-        workers,
-        gate,
-    ) {
+    match reshard(crew, store, from_dataset, from, to_dataset, to) {
         Ok(written) => Ok(written),
         Err(fault) => Err(refuse(fault)),
     }
 }
 
 // Copies a scale into that of a key of a data set.
-fn copy_into<R, S: Store, G: Gate + Sync>(
-    rt: &R,
-    alloc: Global,
+fn copy_into<R: Threads + Wait + Sync, S: Store, G: Gate + Sync>(
+    crew: &Crew<R, G>,
     store: &mut S,
     from_dataset: &Name,
     from: &Scale,
     to_dataset: &Name,
     to_key: &Name,
-    workers: u32,
-    gate: &G,
 ) -> Result<Written, ReshardRefusal>
-where
-    R: Threads + Wait + Sync,
     requires from_dataset { length from_dataset.now ≤ 200 }
     requires to_dataset { length to_dataset.now ≤ 200 }
     requires to_key { length to_key.now ≤ 200 }
@@ -147,34 +127,19 @@ where
         DropsUnsharded (stored_scale m to_dataset.now to_key.now) (S.draft store.old) (S.draft store.new)) }
     ensures cause { HasCauseOf ReshardRefusal.StoreFault (S.faults store.old) (S.faults store.new) result }
 {
-    let to = read_target(alloc, store, to_dataset, to_key)?;
-    copy_scale(
-        rt,
-        alloc,
-        store,
-        from_dataset,
-        from,
-        to_dataset,
-        &to,
-        workers,
-        gate,
-    )
+    let to = read_target(crew.alloc, store, to_dataset, to_key)?;
+    copy_scale(crew, store, from_dataset, from, to_dataset, &to)
 }
 
 // Copies the scale of a key of a data set into that of another key, or data set, which is empty.
-fn copy_stored<R, S: Store, G: Gate + Sync>(
-    rt: &R,
-    alloc: Global,
+fn copy_stored<R: Threads + Wait + Sync, S: Store, G: Gate + Sync>(
+    crew: &Crew<R, G>,
     store: &mut S,
     from_dataset: &Name,
     from_key: &Name,
     to_dataset: &Name,
     to_key: &Name,
-    workers: u32,
-    gate: &G,
 ) -> Result<Written, ReshardRefusal>
-where
-    R: Threads + Wait + Sync,
     requires from_dataset { length from_dataset.now ≤ 200 }
     requires from_key { length from_key.now ≤ 200 }
     requires to_dataset { length to_dataset.now ≤ 200 }
@@ -189,26 +154,15 @@ where
         DropsUnsharded (stored_scale m to_dataset.now to_key.now) (S.draft store.old) (S.draft store.new)) }
     ensures cause { HasCauseOf ReshardRefusal.StoreFault (S.faults store.old) (S.faults store.new) result }
 {
-    let from = read_scale(alloc, store, from_dataset, from_key)?;
-    copy_into(
-        rt,
-        alloc,
-        store,
-        from_dataset,
-        &from,
-        to_dataset,
-        to_key,
-        workers,
-        gate,
-    )
+    let from = read_scale(crew.alloc, store, from_dataset, from_key)?;
+    copy_into(crew, store, from_dataset, &from, to_dataset, to_key)
 }
 
 /// The command `reshard`: copies the scale of a key of a data set into that of another key, or data set, whose folder is
 /// empty, with other chunks, in another encoding or otherwise sharded; and prints how many objects were put, and how
 /// many cells they hold. A refusal is told.
-pub fn run_reshard<R, S: Store, O: Outlet, E: Outlet, G: Gate + Sync>(
-    rt: &R,
-    alloc: Global,
+pub fn run_reshard<R: Threads + Wait + Sync, S: Store, O: Outlet, E: Outlet, G: Gate + Sync>(
+    crew: &Crew<R, G>,
     store: &mut S,
     out: &mut O,
     err: &mut E,
@@ -216,11 +170,7 @@ pub fn run_reshard<R, S: Store, O: Outlet, E: Outlet, G: Gate + Sync>(
     key: &Name,
     to_dataset: &Name,
     to_key: &Name,
-    workers: u32,
-    gate: &G,
 ) -> Status
-where
-    R: Threads + Wait + Sync,
     requires dataset { length dataset.now ≤ 200 }
     requires key { length key.now ≤ 200 }
     requires to_dataset { length to_dataset.now ≤ 200 }
@@ -243,20 +193,13 @@ where
     ensures causes { IsCaused result (S.faults store.old) (S.faults store.new) (O.faults out.old)
         (O.faults out.new) (E.faults err.old) (E.faults err.new) }
 {
-    let written = match copy_stored(
-        rt, alloc, store, dataset, key, to_dataset, to_key, workers, gate,
-    ) {
+    let written = match copy_stored(crew, store, dataset, key, to_dataset, to_key) {
         Ok(written) => written,
         Err(refusal) => {
             let named = find_named(&refusal, dataset, to_dataset);
-            return report(alloc, err, named, &refusal);
+            return report(crew.alloc, err, named, &refusal);
         }
     };
-    match write_written_line(alloc, written.objects, written.cells) {
-        Ok(line) => finish(out, err, line.as_str()),
-        Err(_) => {
-            tell(err, Status::NoMemory);
-            Status::NoMemory
-        }
-    }
+    let line = write_written_line(crew.alloc, written.objects, written.cells);
+    finish(out, err, line)
 }

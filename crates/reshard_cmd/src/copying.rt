@@ -13,27 +13,22 @@ ghost use Rattle.copier.specs.Held.{cells_of};
 
 use crate::ReshardFault;
 use crate::judge::{judge_folder, judge_scales};
+use command_base::Crew;
 use copier::Copier;
 use shard_writer::{WriteFault, Written, write_scale};
-use std::alloc::Global;
 use std::sync::Wait;
 use std::thread::Threads;
 use vol_base::{Gate, Name, Store, StoreRefusal};
 use vol_spec::Scale;
 
 // Puts the objects of a copy, whose chunks a copier makes.
-fn put_copy<R, S: Store, G: Gate + Sync>(
-    rt: &R,
-    alloc: Global,
+fn put_copy<R: Threads + Wait + Sync, S: Store, G: Gate + Sync>(
+    crew: &Crew<R, G>,
     store: &mut S,
     dataset: &Name,
     scale: &Scale,
     copier: &mut Copier,
-    workers: u32,
-    gate: &G,
 ) -> Result<Written, ReshardFault>
-where
-    R: Threads + Wait + Sync,
     requires dataset { length dataset.now ≤ 200 }
     requires writable { IsWritable scale.now }
     requires few { cell_count scale.now ≤ 2 ^ 22 }
@@ -51,7 +46,16 @@ where
     ensures unsharded { scale.now.sharding ≡ None → Drops (S.draft store.old) (S.draft store.new) }
     ensures cause { HasCauseOf ReshardFault.StoreFault (S.faults store.old) (S.faults store.new) result }
 {
-    match write_scale(rt, alloc, store, dataset, scale, copier, workers, gate) {
+    match write_scale(
+        crew.rt,
+        crew.alloc,
+        store,
+        dataset,
+        scale,
+        copier,
+        crew.workers,
+        crew.gate,
+    ) {
         Ok(written) => Ok(written),
         Err(WriteFault::StoreFault) => Err(ReshardFault::StoreFault),
         Err(WriteFault::Damaged { cell, fault }) => Err(ReshardFault::Damaged { cell, fault }),
@@ -60,19 +64,14 @@ where
 }
 
 // Copies a scale into an empty folder, where both scales are of one volume and have few cells.
-fn write_copy<R, S: Store, G: Gate + Sync>(
-    rt: &R,
-    alloc: Global,
+fn write_copy<R: Threads + Wait + Sync, S: Store, G: Gate + Sync>(
+    crew: &Crew<R, G>,
     store: &mut S,
     from_dataset: &Name,
     from: &Scale,
     to_dataset: &Name,
     to: &Scale,
-    workers: u32,
-    gate: &G,
 ) -> Result<Written, ReshardFault>
-where
-    R: Threads + Wait + Sync,
     requires from_dataset { length from_dataset.now ≤ 200 }
     requires to_dataset { length to_dataset.now ≤ 200 }
     requires writable { IsWritable to.now }
@@ -88,8 +87,8 @@ where
     ensures unsharded { to.now.sharding ≡ None → Drops (S.draft store.old) (S.draft store.new) }
     ensures cause { HasCauseOf ReshardFault.StoreFault (S.faults store.old) (S.faults store.new) result }
 {
-    match Copier::of(alloc, store, from_dataset, from, to) {
-        Ok(mut copier) => put_copy(rt, alloc, store, to_dataset, to, &mut copier, workers, gate),
+    match Copier::of(crew.alloc, store, from_dataset, from, to) {
+        Ok(mut copier) => put_copy(crew, store, to_dataset, to, &mut copier),
         Err(StoreRefusal::Failed) => Err(ReshardFault::StoreFault),
         Err(StoreRefusal::OutOfMemory) => Err(ReshardFault::OutOfMemory),
     }
@@ -107,19 +106,14 @@ where
 /// the source has a fault, with the first one as the target's cells are made. After one of these a front of
 /// the copy's objects was put, and every other object is as before. A shard that was being written is then not
 /// among the objects, and the store drops it at its next `begin`.
-pub fn reshard<R, S: Store, G: Gate + Sync>(
-    rt: &R,
-    alloc: Global,
+pub fn reshard<R: Threads + Wait + Sync, S: Store, G: Gate + Sync>(
+    crew: &Crew<R, G>,
     store: &mut S,
     from_dataset: &Name,
     from: &Scale,
     to_dataset: &Name,
     to: &Scale,
-    workers: u32,
-    gate: &G,
 ) -> Result<Written, ReshardFault>
-where
-    R: Threads + Wait + Sync,
     requires from_dataset { length from_dataset.now ≤ 200 }
     requires to_dataset { length to_dataset.now ≤ 200 }
     requires writable { IsWritable to.now }
@@ -140,15 +134,5 @@ where
         Ok(()) => {}
         Err(refusal) => return Err(refusal),
     }
-    write_copy(
-        rt,
-        alloc,
-        store,
-        from_dataset,
-        from,
-        to_dataset,
-        to,
-        workers,
-        gate,
-    )
+    write_copy(crew, store, from_dataset, from, to_dataset, to)
 }

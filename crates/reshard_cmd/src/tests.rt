@@ -4,6 +4,7 @@ ghost use Rattle.std.specs.Prelude.{◌≤◌, length};
 mod commands;
 
 use crate::{ReshardFault, reshard};
+use command_base::Crew;
 use shard_writer::Written;
 use small_scales::{raw_scale, short_name};
 use std::alloc::Global;
@@ -92,7 +93,8 @@ fn check<R: Threads + Wait + Abort + Sync>(
     let source = short_name(b"d").expect(rt, "a data set");
     let target = short_name(dataset).expect(rt, "a data set");
     assert!(rt; to.can_encode());
-    let answer = reshard(rt, alloc, store, &source, from, &target, to, 2, &FreeGate);
+    let crew = Crew::of(rt, alloc, 2, &FreeGate);
+    let answer = reshard(&crew, store, &source, from, &target, to);
     assert_eq!(rt; answer, wanted);
     let name = short_name(b"e/s/0.shard").expect(rt, "a name");
     assert_eq!(rt; store.get(&name), shard);

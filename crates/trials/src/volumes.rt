@@ -1,6 +1,7 @@
 //! Small volumes, and what is written into them.
 
 use chunk_grid::byte_len;
+use command_base::Crew;
 use info_doc::{Scale, scale_of};
 use memory_rows::{name_of, outlet_of, put};
 use std::alloc::{AllocError, Global};
@@ -167,8 +168,9 @@ pub(crate) fn written<R: Threads + Wait + Abort + Sync>(
     let mut err = outlet_of(alloc, 7, &[])?;
     let dataset = name_of("d")?;
     let key = name_of("s")?;
+    let crew = Crew::of(rt, alloc, 2, &FreeGate);
     let status = run_write(
-        rt, alloc, &mut store, &mut feed, &mut out, &mut err, &dataset, &key, 2, &FreeGate,
+        &crew, &mut store, &mut feed, &mut out, &mut err, &dataset, &key,
     );
     assert_eq!(rt; status.number(), 0, "at {}", volume.written);
     assert!(rt;

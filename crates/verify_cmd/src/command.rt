@@ -12,7 +12,7 @@ use crate::lines::write_verified_line;
 use crate::refusal::VerifyRefusal;
 use crate::{Report, VerifyFault, verify};
 use chunk_grid::whole;
-use command_base::{Status, finish, read_scale, report, tell};
+use command_base::{Status, finish, read_scale, report};
 use std::alloc::Global;
 use vol_base::{Box3, Name, Outlet, Source};
 use vol_spec::Scale;
@@ -126,11 +126,6 @@ pub fn run_verify<S: Source, O: Outlet, E: Outlet>(
         Ok(found) => found,
         Err(refusal) => return report(alloc, err, dataset, &refusal),
     };
-    match write_verified_line(alloc, found.cells, found.stored, found.absent) {
-        Ok(line) => finish(out, err, line.as_str()),
-        Err(_) => {
-            tell(err, Status::NoMemory);
-            Status::NoMemory
-        }
-    }
+    let line = write_verified_line(alloc, found.cells, found.stored, found.absent);
+    finish(out, err, line)
 }

@@ -1,7 +1,7 @@
 -- Where there is no memory for the words themselves, each command says what it says at that status.
 use Rattle.std.proofs.Common.{◌≡◌, ◌∙◌, ◌≤◌, ◌+◌, ◌^◌, ℕ, [], Option, Some, None, Err, ap, refl, subst, sym, inl, inr, arith}
 use Rattle.command_line.specs.declared.commands.Command.{Command}
-use Rattle.command_line.specs.declared.commands.Command.TheVariants.{Cutout, Generate, Reshard, Serve, Verify, Write}
+use Rattle.command_line.specs.declared.commands.Command.TheVariants.{Cutout, Generate, Reshard, Serve, Update, Verify, Write}
 use Rattle.vol_shell.specs.Lines.{memory_line}
 use Rattle.vol_spec.proofs.Told.{in_told}
 use Rattle.vol_spec.specs.Types.{Bytes}
@@ -17,6 +17,8 @@ use Rattle.generate_cmd.specs.declared.refusal.GenerateRefusal.TheVariants as ge
 use Rattle.reshard_cmd.proofs.ReshardSteps.{draft_kept, memory_right as memory_copies}
 use Rattle.reshard_cmd.specs.declared.refusal.ReshardRefusal.TheVariants as reshard
 use Rattle.serve_cmd.specs.Servings.{IsBoundTo}
+use Rattle.update_cmd.proofs.AnswerSteps.{drops_unread, memory_right as memory_updates}
+use Rattle.update_cmd.specs.declared.refusal.UpdateRefusal.TheVariants as update
 use Rattle.verify_cmd.proofs.VerifySteps.{memory_right as memory_verifies}
 use Rattle.verify_cmd.specs.declared.refusal.VerifyRefusal.TheVariants as verify
 use Rattle.write_cmd.proofs.WriteSteps.{memory_right as memory_writes}
@@ -32,6 +34,7 @@ pub memory_answers : (command : Option Command) (before : Seen) (err : Option By
 memory_answers None before err count unbound said = (refl, said)
 memory_answers (Some (Cutout dataset key part)) before err count unbound said = memory_ends before.objects dataset key part (outlets before (said_only before err count)) refl said
 memory_answers (Some (Write dataset key workers)) before err count unbound said = (Err write.NoMemory, memory_writes before.objects before.left dataset key, (refl, inl (refl, said)))
+memory_answers (Some (Update dataset key workers)) before err count unbound said = (Err update.NoMemory, memory_updates before.objects before.draft before.left dataset key, (refl, inl (refl, said)))
 memory_answers (Some (Generate dataset key number writes workers)) before err count unbound said =
     (Err (generate.Write write.NoMemory), memory_generates before.objects number writes dataset key, (refl, inl (refl, said)))
 memory_answers (Some (Verify dataset key part)) before err count unbound said = (Err verify.NoMemory, memory_verifies before.objects dataset key part, (refl, inl (refl, said)))
@@ -47,6 +50,7 @@ pub memory_succeeds : (command : Option Command) (before : Seen) (err : Option B
 memory_succeeds None before err count = tt
 memory_succeeds (Some (Cutout dataset key part)) before err count = in_told before.objects _ (λ m told can store out. inr refl)
 memory_succeeds (Some (Write dataset key workers)) before err count = in_told before.objects _ (λ m told. in_told before.left _ (λ bytes fed can store feed out. inr refl))
+memory_succeeds (Some (Update dataset key workers)) before err count = in_told before.objects _ (λ m told. in_told before.left _ (λ bytes fed can store feed out. inr refl))
 memory_succeeds (Some (Generate dataset key number writes workers)) before err count = in_told before.objects _ (λ m told can store out. inr refl)
 memory_succeeds (Some (Verify dataset key part)) before err count = in_told before.objects _ (λ m told can store out. inr refl)
 memory_succeeds (Some (Reshard dataset key to_dataset to_key workers)) before err count = in_told before.objects _ (λ m told can store out. inr refl)
@@ -56,6 +60,7 @@ pub memory_headline : (command : Option Command) (before : Seen) (err : Option B
 memory_headline None before err count = tt
 memory_headline (Some (Cutout dataset key part)) before err count = tt
 memory_headline (Some (Write dataset key workers)) before err count = λ done. absurd (cc done)
+memory_headline (Some (Update dataset key workers)) before err count = λ done. absurd (cc done)
 memory_headline (Some (Generate dataset key number writes workers)) before err count = λ done. absurd (cc done)
 memory_headline (Some (Verify dataset key part)) before err count = tt
 memory_headline (Some (Reshard dataset key to_dataset to_key workers)) before err count = λ done. absurd (cc done)
@@ -69,6 +74,8 @@ memory_keeps None before err count = (reads before err count, refl, refl)
 memory_keeps (Some (Cutout dataset key part)) before err count =
     (reads before err count, refl, refl, asks_none before.objects (λ m. 2 ^ 20 + 1 + cells_cost (stored_scale m dataset key) m dataset part) before.asked)
 memory_keeps (Some (Write dataset key workers)) before err count = (inr refl, λ no. reads before err count, λ done. absurd (cc done), λ refused. refl, refl)
+memory_keeps (Some (Update dataset key workers)) before err count =
+    (λ done. absurd (cc done), λ out. absurd (cc out), drops_unread before.objects dataset key before.draft before.draft refl, λ no. reads before err count, λ done. absurd (cc done), λ refused. refl, refl)
 memory_keeps (Some (Generate dataset key number writes workers)) before err count = (inr refl, λ no. reads before err count, refl, refl)
 memory_keeps (Some (Verify dataset key part)) before err count = (reads before err count, refl, refl)
 memory_keeps (Some (Reshard dataset key to_dataset to_key workers)) before err count =
@@ -92,6 +99,7 @@ pub memory_causes : (command : Option Command) (before : Faults) (count : ℕ) �
 memory_causes None before count later = (caused before count later, refl, refl, refl, refl)
 memory_causes (Some (Cutout dataset key part)) before count later = (caused before count later, λ e. absurd (cc e), refl, refl)
 memory_causes (Some (Write dataset key workers)) before count later = (caused before count later, λ e. absurd (cc e), refl)
+memory_causes (Some (Update dataset key workers)) before count later = (caused before count later, λ e. absurd (cc e), refl)
 memory_causes (Some (Generate dataset key number writes workers)) before count later = (caused before count later, λ e. absurd (cc e), refl, refl)
 memory_causes (Some (Verify dataset key part)) before count later = (caused before count later, λ e. absurd (cc e), refl, refl)
 memory_causes (Some (Reshard dataset key to_dataset to_key workers)) before count later = (caused before count later, λ e. absurd (cc e), refl, refl)

@@ -3,7 +3,7 @@ use Rattle.std.specs.Prelude.{◌≡◌, false, [], Option, None, Some, IfSome}
 use Rattle.std.specs.Option.{option_map}
 use Rattle.vol_base.specs.Causes.{Rose}
 use Rattle.command_line.specs.declared.commands.Command.{Command}
-use Rattle.command_line.specs.declared.commands.Command.TheVariants.{Cutout, Generate, Reshard, Serve, Verify, Write}
+use Rattle.command_line.specs.declared.commands.Command.TheVariants.{Cutout, Generate, Reshard, Serve, Update, Verify, Write}
 use Rattle.shard_writer.specs.Writing.{Drops}
 use Rattle.write_plan.specs.Stream.{writes_of}
 use Rattle.vol_shell.specs.Lines.{memory_line, usage_line}
@@ -15,6 +15,8 @@ use Rattle.command_base.specs.declared.status.Status.{Status}
 use Rattle.command_base.specs.declared.status.Status.TheVariants.{Ok, Usage, InfoRefused, StoreFault, FeedFault, OutFault, NoMemory, DoorFault}
 use Rattle.cutout_cmd.specs.Cutouts.{AsksFor, CanCut, CutsOut}
 use Rattle.write_cmd.specs.Storing.{CanWrite, WrittenBack, Wrote}
+use Rattle.update_cmd.specs.Answering.{CanBeUpdated, Updated, UpdatedBack}
+use Rattle.update_cmd.specs.Answering as update
 use Rattle.generate_cmd.specs.Generating.{CanGenerate, drawn, Generated}
 use Rattle.verify_cmd.specs.Verified.{CanVerify, Verified}
 use Rattle.reshard_cmd.specs.Copying.{CanReshard, CopiedBack, DropsUnsharded, Resharded}
@@ -34,6 +36,9 @@ Answers (Some (Cutout dataset key part)) status before after =
     CutsOut status before.objects dataset key part (outlets before after)
 Answers (Some (Write dataset key workers)) status before after =
     Wrote status before.objects after.objects before.left after.left dataset key (outlets before after)
+Answers (Some (Update dataset key workers)) status before after =
+    Updated status before.objects after.objects before.draft after.draft before.left after.left dataset key
+    (outlets before after)
 Answers (Some (Generate dataset key number count workers)) status before after =
     Generated status before.objects after.objects number count dataset key (outlets before after)
 Answers (Some (Verify dataset key part)) status before after =
@@ -56,6 +61,10 @@ Succeeds (Some (Write dataset key workers)) status before after =
     IfSome before.objects (λ m. IfSome before.left (λ bytes. CanWrite m (writes_of bytes) dataset key
     → ¬ Rose before.faults.store after.faults.store → ¬ Rose before.faults.feed after.faults.feed
     → ¬ Rose before.faults.out after.faults.out → EndsWell status))
+Succeeds (Some (Update dataset key workers)) status before after =
+    IfSome before.objects (λ m. IfSome before.left (λ bytes. CanBeUpdated m (writes_of bytes) dataset key
+    → ¬ Rose before.faults.store after.faults.store → ¬ Rose before.faults.feed after.faults.feed
+    → ¬ Rose before.faults.out after.faults.out → EndsWell status))
 Succeeds (Some (Generate dataset key number count workers)) status before after =
     IfSome before.objects (λ m. CanGenerate m number count dataset key
     → ¬ Rose before.faults.store after.faults.store → ¬ Rose before.faults.out after.faults.out →
@@ -73,7 +82,8 @@ Succeeds (Some (Serve dataset port connections)) status before after =
 
 -- After a `write` or a `generate` that succeeds, each box inside the scale reads back: no cell of it has a fault,
 -- and its cutout is exactly the bytes of the last write at each voxel and channel, none missing: one value for each,
--- side by side. After a `reshard` that succeeds, each box inside the target reads as the source: no cell of it has a
+-- side by side. After an `update` that succeeds, each box inside the scale that had no fault has none, and its cutout is
+-- exactly the bytes of the last write at each voxel and channel, else of what was there. After a `reshard` that succeeds, each box inside the target reads as the source: no cell of it has a
 -- fault, and its cutout is exactly the source's, before the copy and after it.
 abbrev pub Headline : Option Command → Status → Seen → Seen → Type 0
 Headline None status before after = Unit {0}
@@ -81,6 +91,9 @@ Headline (Some (Cutout dataset key part)) status before after = Unit {0}
 Headline (Some (Write dataset key workers)) status before after =
     status ≡ Ok → IfSome before.objects (λ m. IfSome before.left (λ bytes.
     WrittenBack m after.objects (writes_of bytes) dataset key))
+Headline (Some (Update dataset key workers)) status before after =
+    status ≡ Ok → IfSome before.objects (λ m. IfSome before.left (λ bytes.
+    UpdatedBack m after.objects (writes_of bytes) dataset key))
 Headline (Some (Generate dataset key number count workers)) status before after =
     status ≡ Ok → IfSome before.objects (λ m. WrittenBack m after.objects (drawn number count) dataset key)
 Headline (Some (Verify dataset key part)) status before after = Unit {0}
@@ -100,6 +113,15 @@ Keeps (Some (Cutout dataset key part)) status before after =
 -- it as before
 Keeps (Some (Write dataset key workers)) status before after =
     Drops before.draft after.draft × (puts status ≡ false → LeavesStore before after)
+    × (status ≡ Ok → after.left ≡ option_map (λ _. []) before.left) ×
+    (status ≡ InfoRefused → after.left ≡ before.left)
+    × (after.door ≡ before.door)
+-- no object stays half written that was begun in the call, where all of an update was put, or where the scale isn't sharded; what is left of the
+-- feed as for a write
+Keeps (Some (Update dataset key workers)) status before after =
+    (status ≡ Ok → Drops before.draft after.draft) × (status ≡ OutFault → Drops before.draft after.draft)
+    × IfSome before.objects (λ m. update.DropsUnsharded (stored_scale m dataset key) before.draft after.draft)
+    × (puts status ≡ false → LeavesStore before after)
     × (status ≡ Ok → after.left ≡ option_map (λ _. []) before.left) ×
     (status ≡ InfoRefused → after.left ≡ before.left)
     × (after.door ≡ before.door)
@@ -146,6 +168,8 @@ Causes None status before after =
     (after.out ≡ before.out)
     × (after.door ≡ before.door)
 Causes (Some (Write dataset key workers)) status before after = AreCaused status before after ×
+    StoreStands status before after × (after.door ≡ before.door)
+Causes (Some (Update dataset key workers)) status before after = AreCaused status before after ×
     StoreStands status before after × (after.door ≡ before.door)
 Causes (Some (Serve dataset port connections)) status before after = AreCaused status before after ×
     (after.feed ≡ before.feed)

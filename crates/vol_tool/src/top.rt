@@ -4,7 +4,7 @@ ghost use Rattle.command_line.specs.Words.{line};
 ghost use Rattle.vol_tool.specs.Runs.{Answers, Causes, Headline, Keeps, Succeeds};
 ghost use Rattle.vol_tool.specs.Seen.{Seen, view};
 
-use command_base::{Status, tell};
+use command_base::{Crew, Status, tell};
 use command_line::{Command, read_words};
 use cutout_cmd::run_cutout;
 use generate_cmd::run_generate;
@@ -13,6 +13,7 @@ use serve_cmd::run_serve;
 use std::alloc::Global;
 use std::sync::Wait;
 use std::thread::Threads;
+use update_cmd::run_update;
 use verify_cmd::run_verify;
 use vol_base::{Door, Feed, Gate, Outlet, Store};
 use write_cmd::run_write;
@@ -57,6 +58,7 @@ where
         (at store.old feed.old out.old err.old door.old)
         (at store.new feed.new out.new err.new door.new) }
     // After a write each box inside the scale reads back: the last write at each voxel and channel.
+    // After an update it does so where it had no fault: the last write, else what was there.
     // After a copy each box inside the target reads as the source did.
     ensures headline { let at = ⟦<Outside as Viewed<S, F, O, E, D>>⟧.at in
         Headline (line (map string_bytes words.now)) result
@@ -94,9 +96,20 @@ where
                 },
             ),
         ) => {
-            run_write(
-                rt, alloc, store, feed, out, err, &dataset, &key, workers, gate,
-            )
+            let crew = Crew::of(rt, alloc, workers, gate);
+            run_write(&crew, store, feed, out, err, &dataset, &key)
+        }
+        Ok(
+            Some(
+                Command::Update {
+                    dataset,
+                    key,
+                    workers,
+                },
+            ),
+        ) => {
+            let crew = Crew::of(rt, alloc, workers, gate);
+            run_update(&crew, store, feed, out, err, &dataset, &key)
         }
         Ok(
             Some(
@@ -109,9 +122,8 @@ where
                 },
             ),
         ) => {
-            run_generate(
-                rt, alloc, store, out, err, &dataset, &key, number, writes, workers, gate,
-            )
+            let crew = Crew::of(rt, alloc, workers, gate);
+            run_generate(&crew, store, out, err, &dataset, &key, number, writes)
         }
         Ok(
             Some(
@@ -123,19 +135,10 @@ where
                     workers,
                 },
             ),
-        ) => run_reshard(
-            rt,
-            alloc,
-            store,
-            out,
-            err,
-            &dataset,
-            &key,
-            &to_dataset,
-            &to_key,
-            workers,
-            gate,
-        ),
+        ) => {
+            let crew = Crew::of(rt, alloc, workers, gate);
+            run_reshard(&crew, store, out, err, &dataset, &key, &to_dataset, &to_key)
+        }
         Ok(Some(Command::Verify { dataset, key, part })) => {
             run_verify(alloc, store, out, err, &dataset, &key, &part)
         }

@@ -42,7 +42,7 @@ and_false : (a b : Bool) → b ≡ false → (a && b) ≡ false
 and_false true b e = e
 and_false false b e = refl
 
-info_apart : (dataset : Name) (s : Scale) → is_under (folder_of dataset s) (info_name dataset) ≡ false
+pub info_apart : (dataset : Name) (s : Scale) → is_under (folder_of dataset s) (info_name dataset) ≡ false
 info_apart dataset s = and_false _ _ (ap (λ c. c == 47) (behind dataset (codes "info") s.key) ∙ no_slash (length s.key))
 
 scale_kept : (m : Objects) (dataset key : Name) (s : Scale) (chunks : Chunks) → LeavesOutside m dataset s chunks → stored_scale (put_in m (stored_list dataset s chunks)) dataset key ≡ stored_scale m dataset key

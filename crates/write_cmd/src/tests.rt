@@ -1,8 +1,8 @@
 //! Writes over stand-ins in memory. What each stores and answers was worked out by hand, what is in shards by the plain
-//! reader in `tests/shards.py`.
+//! reader in `tests/model/shards.py`.
 
 use crate::run_write;
-use command_base::Status;
+use command_base::{Crew, Status};
 use memory_rows::{has_all, has_none, name_of, outlet_of, put, raw_info};
 use std::alloc::{AllocError, Global};
 use std::process::Abort;
@@ -78,10 +78,8 @@ fn call<R: Threads + Wait + Sync>(
 ) -> Result<Status, Fail> {
     let dataset = name_of("d")?;
     let key = name_of("s")?;
-    let status = run_write(
-        rt, alloc, store, feed, out, err, &dataset, &key, workers, &FreeGate,
-    );
-    Ok(status)
+    let crew = Crew::of(rt, alloc, workers, &FreeGate);
+    Ok(run_write(&crew, store, feed, out, err, &dataset, &key))
 }
 
 // A write of a stream: its status, and what it prints or tells.

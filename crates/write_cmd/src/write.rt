@@ -18,10 +18,9 @@ ghost use Rattle.write_cmd.specs.Storing.{CanWrite, Judges, JudgesLimit, KeepsFe
 use crate::refusal::WriteRefusal;
 use chunk_grid::find_folder;
 use chunk_laws::tell_chunks;
-use command_base::{Status, finish, read_scale, report, tell, write_written_line};
+use command_base::{Crew, Status, finish, read_scale, report, write_written_line};
 use info_doc::Scale;
 use shard_writer::{WriteFault, Written, write_scale};
-use std::alloc::Global;
 use std::sync::Wait;
 use std::thread::Threads;
 use vol_base::{Feed, Gate, Name, Outlet, Store};
@@ -39,18 +38,13 @@ pub fn judge_limit(scale: &Scale) -> Result<(), WriteRefusal>
 }
 
 // Puts the objects of a plan.
-fn put_plan<R, S: Store, G: Gate + Sync>(
-    rt: &R,
-    alloc: Global,
+fn put_plan<R: Threads + Wait + Sync, S: Store, G: Gate + Sync>(
+    crew: &Crew<R, G>,
     store: &mut S,
     dataset: &Name,
     scale: &Scale,
     plan: &mut Plan,
-    workers: u32,
-    gate: &G,
 ) -> Result<Written, WriteRefusal>
-where
-    R: Threads + Wait + Sync,
     requires dataset { length dataset.now ≤ 200 }
     requires writable { IsWritable scale.now }
     requires scale { plan.old.scale ≡ scale.now }
@@ -62,7 +56,16 @@ where
         (S.draft store.old) (S.draft store.new)) }
     ensures cause { HasCauseOf WriteRefusal.StoreFault (S.faults store.old) (S.faults store.new) result }
 {
-    match write_scale(rt, alloc, store, dataset, scale, plan, workers, gate) {
+    match write_scale(
+        crew.rt,
+        crew.alloc,
+        store,
+        dataset,
+        scale,
+        plan,
+        crew.workers,
+        crew.gate,
+    ) {
         Ok(written) => Ok(written),
         Err(WriteFault::StoreFault) => Err(WriteRefusal::StoreFault),
         Err(WriteFault::Damaged { .. }) => unreachable!(),
@@ -71,18 +74,13 @@ where
 }
 
 // Writes the objects of writes.
-fn write_planned<R, S: Store, G: Gate + Sync>(
-    rt: &R,
-    alloc: Global,
+fn write_planned<R: Threads + Wait + Sync, S: Store, G: Gate + Sync>(
+    crew: &Crew<R, G>,
     store: &mut S,
     dataset: &Name,
     scale: &Scale,
     writes: Writes,
-    workers: u32,
-    gate: &G,
 ) -> Result<Written, WriteRefusal>
-where
-    R: Threads + Wait + Sync,
     requires dataset { length dataset.now ≤ 200 }
     requires writable { IsWritable scale.now }
     requires fits { All (IsWriteOf scale.now) writes }
@@ -93,23 +91,18 @@ where
         (S.draft store.old) (S.draft store.new)) }
     ensures cause { HasCauseOf WriteRefusal.StoreFault (S.faults store.old) (S.faults store.new) result }
 {
-    let mut plan = Plan::of(alloc, scale, writes)?;
-    put_plan(rt, alloc, store, dataset, scale, &mut plan, workers, gate)
+    let mut plan = Plan::of(crew.alloc, scale, writes)?;
+    put_plan(crew, store, dataset, scale, &mut plan)
 }
 
 /// Writes the list that a stream has into a scale that is ready: it keeps the writing limit, and its folder is empty.
-pub fn write_list<R, S: Store, F: Feed, G: Gate + Sync>(
-    rt: &R,
-    alloc: Global,
+pub fn write_list<R: Threads + Wait + Sync, S: Store, F: Feed, G: Gate + Sync>(
+    crew: &Crew<R, G>,
     store: &mut S,
     feed: &mut F,
     dataset: &Name,
     scale: &Scale,
-    workers: u32,
-    gate: &G,
 ) -> Result<Written, WriteRefusal>
-where
-    R: Threads + Wait + Sync,
     requires dataset { length dataset.now ≤ 200 }
     requires writable { IsWritable scale.now }
     requires empty { IfSome (S.objects store.old) (λ m.
@@ -125,58 +118,19 @@ where
     ensures cause { HasCauseOf WriteRefusal.StoreFault (S.faults store.old) (S.faults store.new) result }
     ensures feed_cause { HasCauseOf WriteRefusal.FeedFault (F.faults feed.old) (F.faults feed.new) result }
 {
-    let writes = read_writes(alloc, feed, scale)?;
+    let writes = read_writes(crew.alloc, feed, scale)?;
     tell_chunks(dataset, scale);
-    write_planned(rt, alloc, store, dataset, scale, writes, workers, gate)
-}
-
-// Writes a stream into a scale that keeps the writing limit and whose folder is empty.
-fn write_stream<R, S: Store, F: Feed, G: Gate + Sync>(
-    rt: &R,
-    alloc: Global,
-    store: &mut S,
-    feed: &mut F,
-    dataset: &Name,
-    scale: &Scale,
-    workers: u32,
-    gate: &G,
-) -> Result<Written, WriteRefusal>
-where
-    R: Threads + Wait + Sync,
-    requires dataset { length dataset.now ≤ 200 }
-    requires writable { IsWritable scale.now }
-    ensures judges { IfSome (S.objects store.old) (λ m. Judges result (Ok scale.now) m dataset.now) }
-    ensures writes { (key : List ℕ) → IfSome (S.objects store.old) (λ m.
-        IfSome (F.left feed.old) (λ bytes. WritesScale result m (S.objects store.new)
-        (writes_of bytes scale.now) dataset.now key scale.now)) }
-    ensures feed { KeepsFeed result (F.left feed.old) (F.left feed.new) }
-    ensures draft { Drops (S.draft store.old) (S.draft store.new) }
-    ensures kept { IfErr result (λ refusal. KeepsStore refusal (S.objects store.old) (S.objects store.new)
-        (S.draft store.old) (S.draft store.new)) }
-    ensures cause { HasCauseOf WriteRefusal.StoreFault (S.faults store.old) (S.faults store.new) result }
-    ensures feed_cause { HasCauseOf WriteRefusal.FeedFault (F.faults feed.old) (F.faults feed.new) result }
-{
-    match store.any_under(&find_folder(dataset, scale)) {
-        Ok(false) => {}
-        Ok(true) => return Err(WriteRefusal::NotEmpty),
-        Err(_) => return Err(WriteRefusal::StoreFault),
-    }
-    write_list(rt, alloc, store, feed, dataset, scale, workers, gate)
+    write_planned(crew, store, dataset, scale, writes)
 }
 
 // Writes a stream into the scale of a key, which keeps the writing limit and whose folder is empty.
-fn write_objects<R, S: Store, F: Feed, G: Gate + Sync>(
-    rt: &R,
-    alloc: Global,
+fn write_objects<R: Threads + Wait + Sync, S: Store, F: Feed, G: Gate + Sync>(
+    crew: &Crew<R, G>,
     store: &mut S,
     feed: &mut F,
     dataset: &Name,
     key: &Name,
-    workers: u32,
-    gate: &G,
 ) -> Result<Written, WriteRefusal>
-where
-    R: Threads + Wait + Sync,
     requires dataset { length dataset.now ≤ 200 }
     requires key { length key.now ≤ 200 }
     ensures judges { IfSome (S.objects store.old) (λ m.
@@ -191,27 +145,27 @@ where
     ensures cause { HasCauseOf WriteRefusal.StoreFault (S.faults store.old) (S.faults store.new) result }
     ensures feed_cause { HasCauseOf WriteRefusal.FeedFault (F.faults feed.old) (F.faults feed.new) result }
 {
-    let scale = read_scale(alloc, store, dataset, key)?;
+    let scale = read_scale(crew.alloc, store, dataset, key)?;
     judge_limit(&scale)?;
-    write_stream(rt, alloc, store, feed, dataset, &scale, workers, gate)
+    match store.any_under(&find_folder(dataset, &scale)) {
+        Ok(false) => {}
+        Ok(true) => return Err(WriteRefusal::NotEmpty),
+        Err(_) => return Err(WriteRefusal::StoreFault),
+    }
+    write_list(crew, store, feed, dataset, &scale)
 }
 
 /// The command `write`: puts the list of writes that a stream has into the scale of a key, and prints how many objects
-/// were put and how many cells they hold. Workers call `gate`.
-pub fn run_write<R, S: Store, F: Feed, O: Outlet, E: Outlet, G: Gate + Sync>(
-    rt: &R,
-    alloc: Global,
+/// were put and how many cells they hold. The crew encodes.
+pub fn run_write<R: Threads + Wait + Sync, S: Store, F: Feed, O: Outlet, E: Outlet, G: Gate + Sync>(
+    crew: &Crew<R, G>,
     store: &mut S,
     feed: &mut F,
     out: &mut O,
     err: &mut E,
     dataset: &Name,
     key: &Name,
-    workers: u32,
-    gate: &G,
 ) -> Status
-where
-    R: Threads + Wait + Sync,
     requires dataset { length dataset.now ≤ 200 }
     requires key { length key.now ≤ 200 }
     ensures wrote { Wrote result (S.objects store.old) (S.objects store.new) (F.left feed.old)
@@ -236,15 +190,10 @@ where
     ensures feed_fault { result ≡ Status.FeedFault → Rose (F.faults feed.old) (F.faults feed.new) }
     ensures feed_stands { result ≡ Status.Ok → F.faults feed.new ≡ F.faults feed.old }
 {
-    let written = match write_objects(rt, alloc, store, feed, dataset, key, workers, gate) {
+    let written = match write_objects(crew, store, feed, dataset, key) {
         Ok(written) => written,
-        Err(refusal) => return report(alloc, err, dataset, &refusal),
+        Err(refusal) => return report(crew.alloc, err, dataset, &refusal),
     };
-    match write_written_line(alloc, written.objects, written.cells) {
-        Ok(line) => finish(out, err, line.as_str()),
-        Err(_) => {
-            tell(err, Status::NoMemory);
-            Status::NoMemory
-        }
-    }
+    let line = write_written_line(crew.alloc, written.objects, written.cells);
+    finish(out, err, line)
 }

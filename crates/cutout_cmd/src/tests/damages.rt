@@ -1,5 +1,5 @@
 //! Cutouts of damaged shards and segmentations. What each answers of a shard was worked out by the plain reader in
-//! `tests/shards.py`; the words of the segmentations were worked out by hand from docs/format.md.
+//! `tests/model/shards.py`; the words of the segmentations were worked out by hand from docs/format.md.
 
 use super::{Cut, NO_FAULTS, WHOLE, check_cut};
 use command_base::Status;

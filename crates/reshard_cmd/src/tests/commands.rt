@@ -2,7 +2,7 @@
 
 use super::SHARD;
 use crate::run_reshard;
-use command_base::Status;
+use command_base::{Crew, Status};
 use memory_rows::{has_all, has_none, name_of, outlet_of, store_of};
 use std::alloc::Global;
 use std::process::Abort;
@@ -169,9 +169,9 @@ fn copy<R: Threads + Wait + Sync>(
     let to_key = name_of(row.to.1)?;
     let mut out = outlet_of(alloc, 7, row.out)?;
     let mut err = outlet_of(alloc, 7, &[])?;
+    let crew = Crew::of(rt, alloc, 2, &FreeGate);
     let status = run_reshard(
-        rt,
-        alloc,
+        &crew,
         store,
         &mut out,
         &mut err,
@@ -179,8 +179,6 @@ fn copy<R: Threads + Wait + Sync>(
         &key,
         &to_dataset,
         &to_key,
-        2,
-        &FreeGate,
     );
     Ok((status, out, err))
 }

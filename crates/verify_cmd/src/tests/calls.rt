@@ -1,5 +1,5 @@
 //! Calls of the command `verify` over stand-ins in memory. What each answers was worked out by hand, of damaged shards also
-//! by the plain reader in `tests/shards.py`.
+//! by the plain reader in `tests/model/shards.py`.
 
 use crate::run_verify;
 use memory_rows::{name_of, outlet_of, store_of};

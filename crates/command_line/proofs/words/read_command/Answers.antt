@@ -18,3 +18,6 @@ read_serve-requires c = ap (list_all is_plain) (ap (map (λ word. word.now)) c.d
 
 pub read_reshard-requires : goal.read_reshard-requires
 read_reshard-requires c = ap (list_all is_plain) (ap (map (λ word. word.now)) c.deref-in-reshard.ensures.value ∙ c.in_ok-sorted.ensures.plain) ∙ filter_all is_plain (map (string_bytes {Z = Global}) c.args.words.now)
+
+pub read_update-requires : goal.read_update-requires
+read_update-requires c = ap (list_all is_plain) (ap (map (λ word. word.now)) c.deref-in-update.ensures.value ∙ c.in_ok-sorted.ensures.plain) ∙ filter_all is_plain (map (string_bytes {Z = Global}) c.args.words.now)

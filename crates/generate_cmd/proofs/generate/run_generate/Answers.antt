@@ -1,4 +1,4 @@
-use Rattle.std.proofs.Common.{Err, Ok, refl}
+use Rattle.std.proofs.Common.{Err, refl}
 use Rattle.generate_cmd.proofs.generate.run_generate.Goals as goal
 
 pub returns-in-Err-clause-generated : goal.returns-in-Err-clause-generated
@@ -6,11 +6,4 @@ returns-in-Err-clause-generated g c = (
   Err c.in-Err.refusal,
   record { generates = c.in-Err.ensures.generates; comes = c.in-Err.ensures.refused; same = λ none. (c.in-Err.ensures.kept none).same_objects },
   (refl, c.report.ensures.told),
-)
-
-pub returns-in-Err-write_generated_line-clause-generated : goal.returns-in-Err-write_generated_line-clause-generated
-returns-in-Err-write_generated_line-clause-generated g c = (
-  Ok c.in-Ok.summary,
-  record { generates = c.in-Ok.ensures.generates; comes = tt; same = tt },
-  (c.tell.ensures.told, refl),
 )

@@ -21,6 +21,6 @@ returns-in-Err-clause-complete g c = λ m told can kept written.
     (outlets_of g.O.Outlet.written g.O.Outlet.faults g.E.Outlet.written g.E.Outlet.faults c.args.out.now c.args.out.now c.args.err.now c.report.new.err)
     (from_told _ _ m told c.in-Err.ensures.copies) can (λ is. kept (c.copy_stored.ensures.cause.failed (c.in-Err.is ∙ ap Err is))) c.report.ensures.told
 
-pub returns-in-Ok-write_written_line-clause-back : goal.returns-in-Ok-write_written_line-clause-back
-returns-in-Ok-write_written_line-clause-back g c done =
+pub returns-clause-back : goal.returns-clause-back
+returns-clause-back g c done =
     copied_back c.in-Ok.written (g.S.Source.objects c.args.store.now) (g.S.Source.objects c.copy_stored.new.store) c.args.dataset.now c.args.key.now c.args.to_dataset.now c.args.to_key.now c.in-Ok.ensures.copies

@@ -1,7 +1,9 @@
-use Rattle.std.proofs.Common.{◌≡◌, ◌∙◌, Some, map, string_bytes, subst, sym}
+use Rattle.std.proofs.Common.{◌≡◌, ◌∙◌, ℕ, List, Some, map, string_bytes, subst, sym}
 use Rattle.command_line.specs.Words.{line}
-use Rattle.command_line.specs.declared.commands.Command.TheVariants.{Reshard}
+use Rattle.command_line.specs.declared.commands.Command.TheVariants.{Reshard, Update}
 use Rattle.reshard_cmd.specs.Copying.{CanReshard}
+use Rattle.update_cmd.specs.Answering.{CanBeUpdated}
+use Rattle.write_plan.specs.Stream.{writes_of}
 use Rattle.vol_tool.specs.Runs.{Succeeds}
 use Rattle.vol_tool.specs.Seen.{view}
 use Rattle.vol_base.specs.Causes.{Rose}
@@ -47,3 +49,17 @@ returns-in-Ok-Some-Reshard-clause-succeeds g c =
     → (Rose (g.S.Source.faults c.args.store.now) (g.S.Source.faults c.run_reshard.new.store) → ⊥) → (Rose (g.O.Outlet.faults c.args.out.now) (g.O.Outlet.faults c.run_reshard.new.out) → ⊥) → EndsWell c.run_reshard.result = c.run_reshard.ensures.complete in
     in_told (g.S.Source.objects c.args.store.now) (λ m. CanReshard m c.in-Ok-Some-Reshard.dataset c.in-Ok-Some-Reshard.key c.in-Ok-Some-Reshard.to_dataset c.in-Ok-Some-Reshard.to_key
     → (Rose (g.S.Source.faults c.args.store.now) (g.S.Source.faults c.run_reshard.new.store) → ⊥) → (Rose (g.O.Outlet.faults c.args.out.now) (g.O.Outlet.faults c.run_reshard.new.out) → ⊥) → EndsWell c.run_reshard.result) done)
+
+pub returns-in-Ok-Some-Update-clause-succeeds : goal.returns-in-Ok-Some-Update-clause-succeeds
+returns-in-Ok-Some-Update-clause-succeeds g c =
+    let spelled : c.in-Ok-Some-Update.field-0 ≡ Some (Update c.in-Ok-Some-Update.dataset c.in-Ok-Some-Update.key c.in-Ok-Some-Update.workers) = cc (c.in-Ok-Some-Update.field-0-is, c.in-Ok-Some-Update.field-0-0-is) in
+    subst (λ command. Succeeds command c.run_update.result
+    (view g.S.Source.objects g.S.Source.draft g.S.Source.asked g.S.Source.faults g.F.Feed.left g.F.Feed.faults g.O.Outlet.written g.O.Outlet.faults g.E.Outlet.written g.E.Outlet.faults
+    g.D.Door.bound g.D.Door.accepted g.D.Door.served g.D.Door.faults c.args.store.now c.args.feed.now c.args.out.now c.args.err.now c.args.door.now)
+    (view g.S.Source.objects g.S.Source.draft g.S.Source.asked g.S.Source.faults g.F.Feed.left g.F.Feed.faults g.O.Outlet.written g.O.Outlet.faults g.E.Outlet.written g.E.Outlet.faults
+    g.D.Door.bound g.D.Door.accepted g.D.Door.served g.D.Door.faults c.run_update.new.store c.run_update.new.feed c.run_update.new.out c.run_update.new.err c.args.door.now))
+    (sym spelled ∙ c.in-Ok-Some-Update.ensures.line)
+    (let done : (m : Objects) (bytes : List ℕ) → g.S.Source.objects c.args.store.now ≡ Some m → g.F.Feed.left c.args.feed.now ≡ Some bytes
+    → CanBeUpdated m (writes_of bytes) c.in-Ok-Some-Update.dataset c.in-Ok-Some-Update.key → (Rose (g.S.Source.faults c.args.store.now) (g.S.Source.faults c.run_update.new.store) → ⊥)
+    → (Rose (g.F.Feed.faults c.args.feed.now) (g.F.Feed.faults c.run_update.new.feed) → ⊥) → (Rose (g.O.Outlet.faults c.args.out.now) (g.O.Outlet.faults c.run_update.new.out) → ⊥) → EndsWell c.run_update.result = c.run_update.ensures.complete in
+    in_told (g.S.Source.objects c.args.store.now) _ (λ m told. in_told (g.F.Feed.left c.args.feed.now) _ (λ bytes fed. done m bytes told fed)))

@@ -1,7 +1,15 @@
-use Rattle.write_cmd.proofs.StreamSteps.{key_told}
+use Rattle.std.proofs.Common.{◌≡◌, ◌∙◌, IfSome, false, subst, sym}
+use Rattle.vol_base.specs.Outside.{any_under}
+use Rattle.vol_spec.specs.CellNames.{folder_of}
+use Rattle.write_cmd.proofs.StreamSteps.{folder_found, key_told}
 use Rattle.write_cmd.proofs.write.write_objects.Goals as goal
+
+pub write_list-requires-clause-empty : goal.write_list-requires-clause-empty
+write_list-requires-clause-empty g c κs within =
+    subst (λ o. IfSome o (λ m. any_under m (folder_of c.args.dataset.now c.in_ok-scale.scale) ≡ false)) (sym c.any_under.ensures.kept.same_objects)
+    (folder_found (g.S.Source.objects c.read_scale.new.store) c.find_folder.result c.args.dataset.now c.in_ok-scale.scale c.in-Ok-false.field-0 false c.find_folder.ensures c.in-Ok-false.field-0-test c.in-Ok-false.ensures.found)
 
 pub returns-clause-writes : goal.returns-clause-writes
 returns-clause-writes g c =
-    key_told c.write_stream.result (g.S.Source.objects c.args.store.now) (g.S.Source.objects c.read_scale.new.store) (g.S.Source.objects c.write_stream.new.store) (g.F.Feed.left c.args.feed.now)
-    c.args.dataset.now c.args.key.now c.in_ok-scale.scale c.read_scale.ensures.kept.same_objects c.in_ok-scale.ensures.read (c.write_stream.ensures.writes c.args.key.now)
+    key_told c.write_list.result (g.S.Source.objects c.args.store.now) (g.S.Source.objects c.any_under.new.self) (g.S.Source.objects c.write_list.new.store) (g.F.Feed.left c.args.feed.now)
+    c.args.dataset.now c.args.key.now c.in_ok-scale.scale (c.any_under.ensures.kept.same_objects ∙ c.read_scale.ensures.kept.same_objects) c.in_ok-scale.ensures.read (c.write_list.ensures.writes c.args.key.now)

@@ -1,0 +1,17 @@
+use Rattle.std.proofs.Common.{◌≡◌, ◌^◌, ◌≤◌, take}
+use Rattle.vol_base.specs.Outside.{OnlyReads}
+use Rattle.vol_spec.specs.StoredCells.{met}
+use Rattle.update_laws.specs.Judged.{touched_shards}
+use Rattle.cell_lists.specs.Counted.{CountsBut}
+use Rattle.kept_cells.proofs.OwnSteps.{is_of}
+use Rattle.kept_cells.proofs.TouchedSteps.{WithTold}
+use Rattle.kept_cells.proofs.touched.keep_touched.Given as goal
+
+abbrev pub invariant-loop-shard : goal.invariant-loop-shard
+invariant-loop-shard g l = record {
+  few : l.found.count ≤ 2 ^ 22;
+  past : WithTold l.scale l.sharding l.plan.writes (g.S.Source.objects l.fn.store) l.dataset l.shard-index l.found;
+  own : CountsBut l.scale (met l.scale l.plan.writes) (is_of l.scale l.sharding (take l.shard-index (touched_shards l.scale l.sharding l.plan.writes))) l.found;
+  kept : OnlyReads (g.S.Source.objects l.fn.store) (g.S.Source.objects l.store) (g.S.Source.draft l.fn.store) (g.S.Source.draft l.store);
+  later : g.S.Source.faults l.store ≡ g.S.Source.faults l.fn.store;
+}

@@ -1,0 +1,171 @@
+//! All cells that an update stores.
+ghost use Rattle.std.specs.Prelude.{◌≡◌, ◌≤◌, ◌^◌, length, Err, IfOk, IfSome, OnOk, Some};
+ghost use Rattle.vol_base.specs.Causes.{HasCauseOf};
+ghost use Rattle.vol_base.specs.Outside.{OnlyReads};
+ghost use Rattle.vol_spec.specs.StoredCells.{met, met_cells};
+ghost use Rattle.cell_lists.specs.Counted.{Counts, IsWhole};
+ghost use Rattle.cell_lists.specs.Lists.{AreDistinct, Lists};
+ghost use Rattle.update_laws.specs.Judged.{touched_shards};
+ghost use Rattle.update_laws.specs.Overlaid.{is_after};
+ghost use Rattle.kept_cells.specs.Gathered.{Gathers};
+ghost use Rattle.kept_cells.specs.Touched.{Judges};
+
+use crate::KeepRefusal;
+use crate::met::list_met;
+use crate::touched::keep_touched;
+use cell_lists::FoundCells;
+use index_judge::COLUMN_LEN;
+use std::alloc::{AllocError, Global};
+use touched_shards::find_shards;
+use vol_base::{Name, Source};
+use vol_spec::{Scale, Sharding};
+use write_plan::Plan;
+
+// Room for 1,024 numbers.
+fn make_column(alloc: Global) -> Result<Vec<u8>, AllocError>
+    ensures { IfOk result (λ bytes. length bytes.items ≡ 8192) }
+{
+    vec![in alloc; 0; COLUMN_LEN as usize]
+}
+
+// Judges the shards that are written anew, and counts the cells that are kept of them.
+fn judge_shards<S: Source>(
+    alloc: Global,
+    store: &mut S,
+    dataset: &Name,
+    scale: &Scale,
+    sharding: &Sharding,
+    plan: &Plan,
+    shards: &[u64],
+    found: &mut FoundCells,
+) -> Result<(), KeepRefusal>
+    requires dataset { length dataset.now ≤ 200 }
+    requires sharding { scale.now.sharding ≡ Some sharding.now }
+    requires shards { shards.now ≡ touched_shards scale.now sharding.now plan.now.writes }
+    requires plan { plan.now.scale ≡ scale.now }
+    requires few { found.old.count ≤ 2 ^ 22 }
+    requires counted { Counts scale.now (met scale.now plan.now.writes) found.old }
+    ensures judged { IfSome (S.objects store.old) (λ m. Judges m dataset.now scale.now sharding.now
+        plan.now.writes result found.new) }
+    ensures whole { OnOk result (IsWhole scale.now found.new) }
+    ensures few { OnOk result (found.new.count ≤ 2 ^ 22) }
+    ensures kept { OnlyReads (S.objects store.old) (S.objects store.new) (S.draft store.old)
+        (S.draft store.new) }
+    ensures cause { HasCauseOf KeepRefusal.NotRead (S.faults store.old) (S.faults store.new) result }
+{
+    let Ok(mut ids) = make_column(alloc) else {
+        return Err(KeepRefusal::OutOfMemory);
+    };
+    let Ok(mut starts) = make_column(alloc) else {
+        return Err(KeepRefusal::OutOfMemory);
+    };
+    let Ok(mut sizes) = make_column(alloc) else {
+        return Err(KeepRefusal::OutOfMemory);
+    };
+    let mut kept = Vec::new(alloc);
+    keep_touched(
+        store,
+        dataset,
+        scale,
+        sharding,
+        plan,
+        shards,
+        &mut ids,
+        &mut starts,
+        &mut sizes,
+        &mut kept,
+        found,
+    )
+}
+
+// Counts the cells that are kept of the shards that are written anew.
+fn keep_sharded<S: Source>(
+    alloc: Global,
+    store: &mut S,
+    dataset: &Name,
+    scale: &Scale,
+    sharding: &Sharding,
+    plan: &Plan,
+    found: &mut FoundCells,
+) -> Result<(), KeepRefusal>
+    requires dataset { length dataset.now ≤ 200 }
+    requires sharding { scale.now.sharding ≡ Some sharding.now }
+    requires plan { plan.now.scale ≡ scale.now }
+    requires few { found.old.count ≤ 2 ^ 22 }
+    requires counted { Counts scale.now (met scale.now plan.now.writes) found.old }
+    ensures judged { IfSome (S.objects store.old) (λ m. Judges m dataset.now scale.now sharding.now
+        plan.now.writes result found.new) }
+    ensures whole { OnOk result (IsWhole scale.now found.new) }
+    ensures few { OnOk result (found.new.count ≤ 2 ^ 22) }
+    ensures kept { OnlyReads (S.objects store.old) (S.objects store.new) (S.draft store.old)
+        (S.draft store.new) }
+    ensures cause { HasCauseOf KeepRefusal.NotRead (S.faults store.old) (S.faults store.new) result }
+{
+    match find_shards(alloc, scale, sharding, plan) {
+        Ok(shards) => judge_shards(alloc, store, dataset, scale, sharding, plan, &shards, found),
+        Err(_) => Err(KeepRefusal::OutOfMemory),
+    }
+}
+
+// Counts the cells that are kept beside those that some write meets, which are counted already. In an unsharded
+// scale there are none.
+fn keep_stored<S: Source>(
+    alloc: Global,
+    store: &mut S,
+    dataset: &Name,
+    scale: &Scale,
+    plan: &Plan,
+    found: &mut FoundCells,
+) -> Result<(), KeepRefusal>
+    requires dataset { length dataset.now ≤ 200 }
+    requires plan { plan.now.scale ≡ scale.now }
+    requires few { found.old.count ≤ 2 ^ 22 }
+    requires counted { Counts scale.now (met scale.now plan.now.writes) found.old }
+    ensures gathers { IfSome (S.objects store.old) (λ m. Gathers result
+        (λ _. Counts scale.now (is_after m dataset.now scale.now plan.now.writes) found.new)
+        m dataset.now scale.now plan.now.writes) }
+    ensures whole { OnOk result (IsWhole scale.now found.new) }
+    ensures few { OnOk result (found.new.count ≤ 2 ^ 22) }
+    ensures kept { OnlyReads (S.objects store.old) (S.objects store.new) (S.draft store.old)
+        (S.draft store.new) }
+    ensures cause { HasCauseOf KeepRefusal.NotRead (S.faults store.old) (S.faults store.new) result }
+{
+    match &scale.sharding {
+        Some(sharding) => keep_sharded(alloc, store, dataset, scale, sharding, plan, found),
+        None => Ok(()),
+    }
+}
+
+/// The cells that an update stores, each once: those that some write of its plan meets, and, in a sharded scale, those
+/// that are kept of the shards that are written anew. These shards are judged in the order of their numbers.
+///
+/// # Errors
+/// `BadShard` with the first fault of a shard, and `TooManyCells` where more than 2^22 cells are met or kept, once a
+/// shard is judged: whichever comes first.
+pub fn gather_cells<S: Source>(
+    alloc: Global,
+    store: &mut S,
+    dataset: &Name,
+    scale: &Scale,
+    plan: &Plan,
+) -> Result<Vec<[u64; 3]>, KeepRefusal>
+    requires dataset { length dataset.now ≤ 200 }
+    requires plan { plan.now.scale ≡ scale.now }
+    requires few { length (met_cells scale.now plan.now.writes) ≤ 2 ^ 22 }
+    ensures gathers { IfSome (S.objects store.old) (λ m. Gathers result
+        (λ cells. Lists scale.now (is_after m dataset.now scale.now plan.now.writes) cells.items)
+        m dataset.now scale.now plan.now.writes) }
+    ensures distinct { IfOk result (λ cells. AreDistinct scale.now cells.items) }
+    ensures few { IfOk result (λ cells. length cells.items ≤ 2 ^ 22) }
+    ensures kept { OnlyReads (S.objects store.old) (S.objects store.new) (S.draft store.old)
+        (S.draft store.new) }
+    ensures cause { HasCauseOf KeepRefusal.NotRead (S.faults store.old) (S.faults store.new) result }
+{
+    let Ok(mut found) = list_met(alloc, plan) else {
+        return Err(KeepRefusal::OutOfMemory);
+    };
+    match keep_stored(alloc, store, dataset, scale, plan, &mut found) {
+        Ok(()) => Ok(found.cells),
+        Err(refusal) => Err(refusal),
+    }
+}

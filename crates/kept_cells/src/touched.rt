@@ -1,0 +1,124 @@
+//! The cells of all shards that are written anew.
+ghost use Rattle.std.specs.Prelude.{◌≡◌, ◌<◌, ◌≤◌, ◌^◌, length, IfSome, OnOk, Err, Some};
+ghost use Rattle.vol_base.specs.Causes.{HasCauseOf};
+ghost use Rattle.vol_base.specs.Outside.{OnlyReads};
+ghost use Rattle.vol_spec.specs.StoredCells.{met};
+ghost use Rattle.update_laws.specs.Judged.{touched_shards};
+ghost use Rattle.cell_lists.specs.Counted.{Counts, IsWhole};
+ghost use Rattle.kept_cells.specs.KeptCells.{CountsOfShard};
+ghost use Rattle.kept_cells.specs.Touched.{Judges, JudgesShard, refused_at};
+
+use crate::shard::keep_shard;
+use crate::{KeepRefusal, ShardRefusal};
+use cell_lists::FoundCells;
+use vol_base::{Name, Source};
+use vol_spec::{Scale, Sharding};
+use write_plan::Plan;
+
+// The most cells that are stored.
+const MOST_CELLS: u64 = 1 << 22;
+
+// A refusal of a shard.
+fn refused_shard(shard: u64, refusal: ShardRefusal) -> KeepRefusal
+    ensures { result ≡ refused_at shard refusal }
+{
+    match refusal {
+        ShardRefusal::NotRead => KeepRefusal::NotRead,
+        ShardRefusal::OutOfMemory => KeepRefusal::OutOfMemory,
+        ShardRefusal::Damaged { minishard, fault } => KeepRefusal::BadShard {
+            shard,
+            minishard,
+            fault,
+        },
+    }
+}
+
+// Judges a shard, and then how many cells are met or kept.
+fn judge_shard<S: Source>(
+    store: &mut S,
+    dataset: &Name,
+    scale: &Scale,
+    sharding: &Sharding,
+    plan: &Plan,
+    shard: u64,
+    ids: &mut [u8],
+    starts: &mut [u8],
+    sizes: &mut [u8],
+    kept: &mut Vec<u64>,
+    found: &mut FoundCells,
+) -> Result<(), KeepRefusal>
+    requires dataset { length dataset.now ≤ 200 }
+    requires sharding { scale.now.sharding ≡ Some sharding.now }
+    requires shard { shard < 2 ^ sharding.now.shard_bits }
+    requires ids { length ids.old ≡ 8192 }
+    requires starts { length starts.old ≡ 8192 }
+    requires sizes { length sizes.old ≡ 8192 }
+    requires plan { plan.now.scale ≡ scale.now }
+    requires few { found.old.count ≤ 2 ^ 22 }
+    ensures judged { IfSome (S.objects store.old) (λ m. JudgesShard m dataset.now scale.now sharding.now
+        plan.now.writes shard result found.old found.new) }
+    ensures own { OnOk result (CountsOfShard scale.now sharding.now plan.now.writes shard found.old found.new) }
+    ensures few { OnOk result (found.new.count ≤ 2 ^ 22) }
+    ensures kept { OnlyReads (S.objects store.old) (S.objects store.new) (S.draft store.old)
+        (S.draft store.new) }
+    ensures cause { HasCauseOf KeepRefusal.NotRead (S.faults store.old) (S.faults store.new) result }
+{
+    match keep_shard(
+        store, dataset, scale, sharding, plan, shard, ids, starts, sizes, kept, found,
+    ) {
+        Err(refusal) => Err(refused_shard(shard, refusal)),
+        Ok(()) => {
+            if found.count > MOST_CELLS {
+                return Err(KeepRefusal::TooManyCells { cells: found.count });
+            }
+            Ok(())
+        }
+    }
+}
+
+/// Judges the shards that are written anew, in the order of their numbers, and counts the cells of them that are
+/// kept beside those that some write meets, which are counted already.
+///
+/// # Errors
+/// `BadShard` with the first fault of a shard, and `TooManyCells` where more than 2^22 cells are met or kept, once
+/// a shard is judged: whichever comes first.
+pub fn keep_touched<S: Source>(
+    store: &mut S,
+    dataset: &Name,
+    scale: &Scale,
+    sharding: &Sharding,
+    plan: &Plan,
+    shards: &[u64],
+    ids: &mut [u8],
+    starts: &mut [u8],
+    sizes: &mut [u8],
+    kept: &mut Vec<u64>,
+    found: &mut FoundCells,
+) -> Result<(), KeepRefusal>
+    requires dataset { length dataset.now ≤ 200 }
+    requires sharding { scale.now.sharding ≡ Some sharding.now }
+    requires shards { shards.now ≡ touched_shards scale.now sharding.now plan.now.writes }
+    requires ids { length ids.old ≡ 8192 }
+    requires starts { length starts.old ≡ 8192 }
+    requires sizes { length sizes.old ≡ 8192 }
+    requires plan { plan.now.scale ≡ scale.now }
+    requires few { found.old.count ≤ 2 ^ 22 }
+    requires counted { Counts scale.now (met scale.now plan.now.writes) found.old }
+    ensures judged { IfSome (S.objects store.old) (λ m. Judges m dataset.now scale.now sharding.now
+        plan.now.writes result found.new) }
+    ensures whole { OnOk result (IsWhole scale.now found.new) }
+    ensures few { OnOk result (found.new.count ≤ 2 ^ 22) }
+    ensures kept { OnlyReads (S.objects store.old) (S.objects store.new) (S.draft store.old)
+        (S.draft store.new) }
+    ensures cause { HasCauseOf KeepRefusal.NotRead (S.faults store.old) (S.faults store.new) result }
+{
+    for shard in shards {
+        match judge_shard(
+            store, dataset, scale, sharding, plan, *shard, ids, starts, sizes, kept, found,
+        ) {
+            Ok(()) => {}
+            Err(refusal) => return Err(refusal),
+        }
+    }
+    Ok(())
+}

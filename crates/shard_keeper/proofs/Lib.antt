@@ -1,0 +1,3 @@
+mod AddSteps
+pub mod IndexSteps
+pub mod KeepSteps

@@ -1,0 +1,19 @@
+use Rattle.std.proofs.Common.{◌≡◌, ◌-◌, ◌+◌, ◌≤◌, length}
+use Rattle.vol_base.specs.Outside.{OnlyReads}
+use Rattle.vol_spec.specs.Rows.{columns_of}
+use Rattle.shard_reader.specs.Reading.{OnIndex}
+use Rattle.shard_keeper.specs.Keeping.{HasAdded, HasKept}
+use Rattle.shard_keeper.proofs.rows.keep_rows.Given as goal
+
+abbrev pub invariant-loop-walk : goal.invariant-loop-walk
+invariant-loop-walk g l = record {
+  within : l.walk.rows ≤ l.span.rows;
+  few : length l.kept.items ≤ length l.fn.kept.items + l.walk.rows;
+  past : OnIndex (g.S.Source.objects l.fn.store) l.name l.span.at l.span.rows (λ bytes. HasKept (columns_of bytes) l.sharding l.home.shard l.home.minishard l.fn.kept.items l.walk l.kept.items);
+  added : HasAdded l.sharding l.home.shard l.home.minishard l.fn.kept.items l.walk l.kept.items;
+  kept : OnlyReads (g.S.Source.objects l.fn.store) (g.S.Source.objects l.store) (g.S.Source.draft l.fn.store) (g.S.Source.draft l.store);
+  later : g.S.Source.faults l.store ≡ g.S.Source.faults l.fn.store;
+}
+
+abbrev pub decreases-loop-walk : goal.decreases-loop-walk
+decreases-loop-walk g l = l.span.rows - l.walk.rows

@@ -1,0 +1,3 @@
+pub mod AnswerSteps
+mod UpdateSteps
+pub mod UpdatingSteps

@@ -1,0 +1,33 @@
+use Rattle.command_base.proofs.Choices.{err_is}
+use Rattle.update_cmd.specs.Refusals.{unstreamed}
+use Rattle.update_cmd.proofs.AnswerSteps.{made_told, refused_feed, refused_judges, refused_leaves, refused_told, unstreamed_judges, unstreamed_told}
+use Rattle.update_cmd.proofs.command.update_scale.Goals as goal
+
+pub returns-in-Ok-clause-answers : goal.returns-in-Ok-clause-answers
+returns-in-Ok-clause-answers g c key =
+    made_told c.in-Ok.written (g.S.Source.objects c.args.store.now) (g.S.Source.objects c.update.new.store) (g.F.Feed.left c.args.feed.now) c.args.dataset.now key c.args.scale.now c.in_ok-writes.writes
+    c.in_ok-writes.ensures.exact c.requires.writable c.in_ok-writes.ensures.bytes c.requires.bytes c.in-Ok.ensures.updates
+
+pub returns-in-Err-clause-answers : goal.returns-in-Err-clause-answers
+returns-in-Err-clause-answers g c key =
+    refused_told c.in-Err.fault c.refuse.result (g.S.Source.objects c.args.store.now) (g.S.Source.objects c.update.new.store) (g.F.Feed.left c.args.feed.now) c.args.dataset.now key c.args.scale.now c.in_ok-writes.writes c.refuse.ensures
+    c.in_ok-writes.ensures.exact c.requires.writable c.in-Err.ensures.updates
+
+pub returns-in-Err-clause-judges : goal.returns-in-Err-clause-judges
+returns-in-Err-clause-judges g c = refused_judges c.in-Err.fault c.refuse.result c.args.scale.now c.refuse.ensures c.requires.writable
+
+pub returns-in-Err-clause-feed : goal.returns-in-Err-clause-feed
+returns-in-Err-clause-feed g c = refused_feed c.in-Err.fault c.refuse.result (g.F.Feed.left c.args.feed.now) _ c.refuse.ensures
+
+pub returns-in-Err-clause-store : goal.returns-in-Err-clause-store
+returns-in-Err-clause-store g c =
+    refused_leaves c.in-Err.fault c.refuse.result (g.S.Source.objects c.args.store.now) (g.S.Source.objects c.update.new.store) (g.S.Source.draft c.args.store.now) (g.S.Source.draft c.update.new.store) c.refuse.ensures c.in-Err.ensures.kept
+
+pub returns-in_err-writes-clause-answers : goal.returns-in_err-writes-clause-answers
+returns-in_err-writes-clause-answers g c key =
+    unstreamed_told c.from_residual.result c.in_err-writes.field-0.0 (g.S.Source.objects c.args.store.now) (g.F.Feed.left c.args.feed.now) c.args.dataset.now key c.args.scale.now
+    (err_is c.from_residual.result (unstreamed c.in_err-writes.field-0.0) c.from_residual.ensures.1) c.in_err-writes.ensures.exact
+
+pub returns-in_err-writes-clause-judges : goal.returns-in_err-writes-clause-judges
+returns-in_err-writes-clause-judges g c =
+    unstreamed_judges c.from_residual.result c.in_err-writes.field-0.0 c.args.scale.now (err_is c.from_residual.result (unstreamed c.in_err-writes.field-0.0) c.from_residual.ensures.1) c.requires.writable

@@ -1,0 +1,26 @@
+use Rattle.std.proofs.Common.{◌≤◌, ◌^◌, ap, subst, sym}
+use Rattle.std.specs.Prelude.{All}
+use Rattle.vol_base.specs.Bytes.{AreBytes}
+use Rattle.write_cmd.proofs.PlanSteps.{few_pairs}
+use Rattle.write_plan.specs.Plans.{Planned, pairs}
+use Rattle.update_cmd.proofs.UpdateSteps.{scale_told, unplanned_kept, unplanned_told}
+use Rattle.update_cmd.proofs.updating.update.Goals as goal
+
+pub update_planned-requires-clause-few : goal.update_planned-requires-clause-few
+update_planned-requires-clause-few g c κs within =
+    subst (λ ws. pairs c.args.scale.now ws ≤ 2 ^ 22) (ap (λ (p : Planned). p.writes) (sym c.in-Ok.ensures.plan)) (few_pairs c.in-Ok.plan (pairs c.args.scale.now c.args.writes) (2 ^ 22) c.in-Ok.ensures.too_many)
+
+pub update_planned-requires-clause-written : goal.update_planned-requires-clause-written
+update_planned-requires-clause-written g c κs within =
+    subst (λ ws. All (λ write. AreBytes write.1) ws) (ap (λ (p : Planned). p.writes) (sym c.in-Ok.ensures.plan)) c.requires.written
+
+pub returns-in-Ok-clause-updates : goal.returns-in-Ok-clause-updates
+returns-in-Ok-clause-updates g c =
+    scale_told c.args.dataset.now c.args.scale.now c.args.writes c.update_planned.result (g.S.Source.objects c.args.store.now) (g.S.Source.objects c.update_planned.new.store) c.in-Ok.plan.writes (ap (λ (p : Planned). p.writes) c.in-Ok.ensures.plan)
+    (few_pairs c.in-Ok.plan (pairs c.args.scale.now c.args.writes) (2 ^ 22) c.in-Ok.ensures.too_many) c.update_planned.ensures.updates
+
+pub returns-in-Err-clause-updates : goal.returns-in-Err-clause-updates
+returns-in-Err-clause-updates g c = unplanned_told c.args.dataset.now c.args.scale.now c.args.writes c.in-Err.refusal c.refuse_plan.result (g.S.Source.objects c.args.store.now) c.refuse_plan.ensures c.in-Err.ensures.too_many
+
+pub returns-in-Err-clause-kept : goal.returns-in-Err-clause-kept
+returns-in-Err-clause-kept g c = unplanned_kept c.in-Err.refusal c.refuse_plan.result (g.S.Source.objects c.args.store.now) (g.S.Source.draft c.args.store.now) c.refuse_plan.ensures
