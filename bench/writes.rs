@@ -60,6 +60,17 @@ pub fn fill_chunk(
     chunk: &mut [u8],
 ) {
     chunk.fill(0);
+    fill_over(layout, writes, numbers, cell, chunk);
+}
+
+/// Puts the writes of these numbers over the values of a cell's chunk.
+pub fn fill_over(
+    layout: &Layout,
+    writes: &[BoxWrite],
+    numbers: &[usize],
+    cell: [usize; 3],
+    chunk: &mut [u8],
+) {
     for (part, values) in numbers.iter().map(|number| &writes[*number]) {
         layout.copy_rows(part, values, &layout.cell_box(cell), chunk);
     }

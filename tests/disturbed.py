@@ -24,6 +24,12 @@ def shards_of(*chunks, dataset="d"):
 
 SHARDS = shards_of(b"\1", b"\2", b"\3")
 
+# What an update of the row, or of its first voxel, has over: other values, of which one is missing.
+OLD_OBJECTS = {"d/s/0-1_0-1_0-1": b"\7", "d/s/2-3_0-1_0-1": b"\x08"}
+OLD_SHARDS = shards_of(b"\7", b"\2", b"\3")
+FIRST_SHARD = dict(list(SHARDS.items())[:1])
+BAD_SHARDS = {**OLD_SHARDS, "d/s/1.shard": b"short"}
+
 # Copies of the row into pairs; and of the row with labels of four bytes into blocks.
 PAIRS = info_of([3, 1, 1], [2, 1, 1])
 COPIED_PAIRS = {"e/s/0-2_0-1_0-1": b"\1\2", "e/s/2-3_0-1_0-1": b"\3"}
@@ -33,6 +39,13 @@ LABELLED = {name: 2 * (content + b"\0") for name, content in ROW_OBJECTS.items()
 BLOCKS = info_of([3, 1, 1], [2, 1, 1], WIDE, **SEGMENTED)
 BLOCK_VOLUME = Volume([3, 1, 1], [2, 1, 1], width=4, block=(8, 8, 8), dataset="e")
 COPIED_BLOCKS = BLOCK_VOLUME.files(BLOCK_VOLUME.chunks_after([(along(0, 3), b"".join(LABELLED.values()))]))
+
+# Labels over blocks that are stored: one of three voxels changes.
+OVER_VOLUME = dataclasses.replace(BLOCK_VOLUME, dataset="d")
+OLD_LABELS, NEW_LABELS = (along(0, 3), bytes(range(12))), (along(1, 3), bytes(8))
+OLD_BLOCKS = OVER_VOLUME.files(OVER_VOLUME.chunks_after([OLD_LABELS]))
+BLOCKS_OVER = OVER_VOLUME.files(OVER_VOLUME.chunks_after([OLD_LABELS, NEW_LABELS]))
+LABELS_OVER = stream_of([NEW_LABELS])
 
 # Two layers of two channels each, a chunk a voxel.
 LAYERS = info_of([1, 1, 2], [1, 1, 1], {"num_channels": 2})
@@ -49,7 +62,9 @@ LIST_SHARDS = shards_of(*LIST_CHUNKS.values())
 THREE = stream_of([(along(0, 3), b"\1\2\3")])
 TWICE = stream_of([(along(0, 3), b"\1\2\3"), (along(1, 2), b"\2")])
 OUTSIDE = stream_of([(along(0, 4), b"\1\2\3\4")])
+FIRST = stream_of([(along(0, 1), b"\1")])
 WRITE, GENERATE, VERIFY, COPY, CUT = "write d s", "generate d s 7 3", "verify d s", "reshard d s e s", "cutout d s [0:3,0:1,0:1]"
+UPDATE = "update d s"
 CUT_LAYERS = "cutout d s [0:1,0:1,0:2]"
 WORKERS = " --workers=3"
 FULL = refused("folder not empty")
@@ -97,6 +112,17 @@ RUNS = [
     Run("a write beside unfinished files", ROW, {"d/s/a/b.part": b"", "d/s/c/d/e.part": b""}, WRITE, THREE, stored(3, 3), ROW_OBJECTS),
     Run("a write of nothing", ROW, {}, WRITE, stream_of([]), stored(0, 0)),
     Run("a write into shards", IN_SHARDS, {}, WRITE, TWICE, stored(2, 3), SHARDS),
+    Run("an update", ROW, OLD_OBJECTS, UPDATE, TWICE, stored(3, 3), ROW_OBJECTS),
+    Run("an update with workers", ROW, OLD_OBJECTS, UPDATE + WORKERS, TWICE, stored(3, 3), ROW_OBJECTS),
+    Run("an update of nothing", ROW, OLD_OBJECTS, UPDATE, stream_of([]), stored(0, 0)),
+    Run("an update of an empty scale", IN_SHARDS, {}, UPDATE, THREE, stored(2, 3), SHARDS, 1),
+    Run("an update of a shard", IN_SHARDS, OLD_SHARDS, UPDATE, FIRST, stored(1, 2), FIRST_SHARD, 1),
+    Run("an update of shards", IN_SHARDS, OLD_SHARDS, UPDATE + WORKERS, THREE, stored(2, 3), SHARDS, 1),
+    Run("an update of blocks", BLOCKS, OLD_BLOCKS, UPDATE, LABELS_OVER, stored(2, 2), BLOCKS_OVER),
+    Run("an update of blocks with workers", BLOCKS, OLD_BLOCKS, UPDATE + WORKERS, LABELS_OVER, stored(2, 2), BLOCKS_OVER),
+    Run("an update of a damaged object", ROW, TORN, UPDATE, TWICE, refused(TORN_LINE), {"d/s/0-1_0-1_0-1": b"\1"}),
+    Run("an update of a damaged shard", IN_SHARDS, BAD_SHARDS, UPDATE, THREE, refused("shard 1 0: shard short index")),
+    Run("an update outside", ROW, OLD_OBJECTS, UPDATE, OUTSIDE, refused("write 0: outside scale")),
     Run("a list", ROW, {}, GENERATE, b"", answer(3, LIST_OBJECTS, sum_of(ROW_VOLUME, LIST)), LIST_OBJECTS),
     Run("a list with workers", ROW, {}, GENERATE + WORKERS, b"", answer(3, LIST_OBJECTS, sum_of(ROW_VOLUME, LIST)), LIST_OBJECTS),
     Run("a list into shards", IN_SHARDS, {}, GENERATE, b"", answer(3, LIST_SHARDS, sum_of(ROW_VOLUME, LIST)), LIST_SHARDS),

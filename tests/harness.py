@@ -8,6 +8,7 @@ A script gives `main` its rows: each a title, a function and what it is called w
 import argparse
 import contextlib
 import dataclasses
+import itertools
 import multiprocessing
 import os
 import pathlib
@@ -74,10 +75,10 @@ def want_files(found, wanted, what="file"):
 
 def want_front(files, before, due, parts_allowed=0):
     """
-    Files are those before and a front of those that are put, in their order, and at most so many whose names end in .part. Gives how
-    many stand of those that are put.
+    Files are those before, with a front of those that are put in their place or beside them, in their order, and at most so many whose
+    names end in .part. Gives how long that front is.
     """
-    count = sum(path in files for path in due)
+    count = sum(1 for _ in itertools.takewhile(lambda path: files.get(path) == due[path], due))
     wanted = {**before, **dict(list(due.items())[:count])}
     parts = [path for path in files if path not in wanted and path.endswith(".part")]
     want_files({path: content for path, content in files.items() if path not in parts}, wanted)
@@ -128,6 +129,15 @@ def snapshot(folder):
         content = os.readlink(path) if path.is_symlink() else path.read_bytes() if path.is_file() else None
         found[str(path.relative_to(folder))] = (path.lstat().st_mode, path.lstat().st_mtime_ns, content)
     return found
+
+
+def standing(folder):
+    """Each file of a folder with its mode, its time and its bytes."""
+    return {path: entry for path, entry in snapshot(folder).items() if entry[2] is not None}
+
+
+def contents(files):
+    return {path: entry[2] for path, entry in files.items()}
 
 
 def open_full():

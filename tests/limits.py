@@ -9,7 +9,7 @@ import subprocess
 import tempfile
 
 from harness import main
-from model import SEGMENTED, SHARDING, box_in, bytes_of, head_of, info_of, printed, refused, stored, stream_of
+from model import SEGMENTED, SHARDING, along, box_in, bytes_of, head_of, info_of, printed, refused, stored, stream_of
 from model.small import shards
 
 # The most cells that a box or a grid of a copy may have, the most pairs of a write and a cell, and the most bytes of a cutout or of
@@ -39,6 +39,7 @@ def pairs(first, others):
 
 VERIFY = "verify d s"
 WRITE = "write d s"
+UPDATE = "update d s"
 COPY = "reshard d s e s"
 TOO_MANY = refused(f"too many cells {CELLS + 1}")
 TWO_SHARDS = line_of(CELLS, **shards(shard_bits=1))
@@ -57,6 +58,8 @@ RUNS = [
     ("a copy into a cell more", [MORE_IN_FOURS, line_of(CELLS + 1)], COPY, TOO_MANY, b""),
     ("2^22 pairs", [LINE], WRITE, stored(64, 64), pairs(64, 64)),
     ("a pair more", [LINE], WRITE, refused(f"too many cells {PAIRS + 1}"), pairs(65, 64)),
+    ("2^22 pairs of an update", [LINE], UPDATE, stored(64, 64), pairs(64, 64)),
+    ("a pair more of an update", [LINE], UPDATE, refused(f"too many cells {PAIRS + 1}"), pairs(65, 64)),
     # 1,321 x 793 x 1,025 is one more
     ("a cutout of a byte more", [info_of([1321, 793, 1025], [64, 64, 64])], "cutout d s [0:1321,0:793,0:1025]",
      refused(f"box too large {BYTES + 1}"), b""),
@@ -86,6 +89,14 @@ def takes_stream(trial, behind, wanted):
         trial.want(WRITE, wanted, feed)
 
 
+def keeps_cells(trial, cell, wanted):
+    """An update of a cell of a line of 2^22 + 1, of which all but the last stand in one shard with chunks of no bytes."""
+    one = (1).to_bytes(8, "little")
+    shard = {0: bytes(8) + (24 * CELLS).to_bytes(8, "little") + bytes(8) + (CELLS - 1) * one, 15 + 24 * CELLS: b"\0"}
+    trial.lay_out({"d/info": line_of(CELLS + 1), "d/s/0.shard": shard})
+    trial.want(UPDATE, wanted, stream_of([(along(cell, cell + 1), b"\1")]))
+
+
 def cuts_all(trial):
     trial.lay_out({"d/info": CUBE})
     trial.want("cutout d s [0:1024,0:1024,0:1024]", printed(b""), output=subprocess.DEVNULL)
@@ -105,6 +116,8 @@ def rows():
     one_more = bytes_of([0, 0, 0], [1, 1, 1]) + b"\1"
     yield "a byte more", takes_stream, one_more, refused("write 1: too large")
     yield "a cutout of 2^30 bytes", cuts_all
+    yield "an update that keeps 2^22 cells", keeps_cells, 0, refused("damaged 0,0,0: chunk length 0 wanted 1")
+    yield "an update of a cell beside 2^22 that are kept", keeps_cells, CELLS, TOO_MANY
     yield "a folder beside whose name goes on", tells_folders_apart
 
 

@@ -7,7 +7,7 @@ It wants `strace`, which makes the calls fail, and is passed over with a word wh
 by hand and isn't a part of the gate. Of each call to files, folders and streams that a plain run makes, the first, the second and so
 on fails: with an error of the device, with a full disk, and with a signal, which is tried again or is a fault; and the call fails from
 then on, as on a device that is lost. Each run has a folder of its own; afterwards whole objects stand there, the first ones that are
-due, and no half of one, but that a device that is lost, and a copy into shards, may leave one file whose name ends in .part. A cutout
+due, and no half of one, but that a device that is lost, a copy into shards and an update of some may leave one file whose name ends in .part. A cutout
 may have printed a front of its values. Of a served run the calls to peers fail too: each peer gets a front of the replies that are
 due, or that the store failed in place of one.
 """
@@ -38,11 +38,11 @@ TO_PEERS = set(
     "socket bind listen getsockname getpeername accept accept4 getsockopt setsockopt recvfrom recvmsg sendto sendmsg shutdown".split()
 )
 
-# The calls that have to do with memory, time and the process alone.
+# The calls that have to do with memory, time, threads and the process alone.
 TO_OTHERS = set(
     """
     execve exit exit_group arch_prctl prlimit64 getrandom set_tid_address set_robust_list rseq brk mmap munmap mprotect mremap madvise
-    futex sigaltstack rt_sigaction rt_sigprocmask sched_getaffinity clock_gettime gettid getpid
+    clone3 futex sigaltstack rt_sigaction rt_sigprocmask sched_getaffinity clock_gettime gettid getpid
     """.split()
 )
 
@@ -56,8 +56,9 @@ LOADER_LINE = b"error while loading shared libraries"
 # The runs that are traced.
 TRACED = [
     "a write", "a write beside unfinished files", "a write of nothing", "a write into shards", "a folder that isn't empty", "a list",
-    "a cutout", "a cutout of shards", "a cutout of nothing", "a cutout of layers", "a cutout of a damaged layer", "a copy",
-    "a copy into shards", "a copy out of shards", "a judgement", "a judgement of shards",
+    "an update", "an update of nothing", "an update of a shard", "an update of shards", "an update of a damaged shard", "a cutout",
+    "a cutout of shards", "a cutout of nothing", "a cutout of layers", "a cutout of a damaged layer", "a copy", "a copy into shards",
+    "a copy out of shards", "a judgement", "a judgement of shards",
 ]
 
 FAULTS = {STORE: b"store fault\n", FEED: b"feed fault\n", OUTPUT: b"output fault\n"}

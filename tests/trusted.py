@@ -56,7 +56,7 @@ def undefined(crate, names, says):
 
 
 # commands, the program's call, a port and a member of a field
-NOT_DEFINED = {"cutout", "write", "generate", "serve", "verify", "run", "serde_json", "close"}
+NOT_DEFINED = {"cutout", "write", "update", "generate", "serve", "verify", "run", "serde_json", "close"}
 
 
 def judge_all():

@@ -5,6 +5,7 @@
 
 The arrays are files as numpy.save writes them, of every type, in both orders of axes, rows and bytes.
 """
+import array
 import dataclasses
 import itertools
 import json
@@ -16,6 +17,7 @@ from harness import ROOT, call, main, want, want_true
 from model import REQUEST, spell
 
 SCRIPT = ROOT / "examples" / "volume.py"
+CODES = {1: "B", 2: "H", 4: "I"}
 
 
 @dataclasses.dataclass(frozen=True)
@@ -34,6 +36,16 @@ class Folder:
         """What a call ends with. One of `put` that names no lengths of a voxel gets some."""
         lengths = ["--resolution", "1,1,1"] if words[0] == "put" and "--resolution" not in words else []
         return self.call_as_it_is(*words, *lengths, program=program)
+
+    def call_in_slabs(self, *words, program=None):
+        """What `put` ends with where a stream has at most so few bytes that it takes several slabs."""
+        code = "import sys, volume; volume.MOST_BYTES = 900; volume.MOST_SLAB = 400; sys.exit(volume.main())"
+        tool = str(program or self.trial.program)
+        return call([sys.executable, "-c", code, *words], self.trial.folder, VOL_TOOL=tool, PYTHONPATH=str(SCRIPT.parent))
+
+    def objects(self, key):
+        """The files of a scale, by their names."""
+        return {path.name: path.read_bytes() for path in self.path(f"d/{key}").iterdir()}
 
     def does(self, *words):
         """A call that ends well, and tells nothing but what is stored."""
@@ -120,10 +132,8 @@ def refuses_types(folder):
 
 
 def refuses_sizes(folder):
-    save(folder.path("in.npy"), "|u1", [1025, 1024, 1024], b"")
-    with folder.path("in.npy").open("r+b") as file:
-        file.truncate(1025 * 1024 * 1024 + 128)
-    folder.refuses("bytes", "put", "in.npy", "d", "s")
+    save(folder.path("in.npy"), "|u1", [1, 1, 1, 1025], bytes(1025))
+    folder.refuses("channels", "put", "in.npy", "d", "s", "--axes", "zyxc")
     folder.cube(descr="<u2", width=2)
     folder.refuses("uint16", "put", "in.npy", "d", "s", "--encoding", "compressed_segmentation")
 
@@ -235,6 +245,100 @@ def adds_layouts(folder):
         want(folder.info(), before, "the info")
 
 
+def save_cube(folder, name, side, width, seed, descr=None):
+    """An array of a cube. Gives its bytes."""
+    content = random.Random(seed).randbytes(side**3 * width)
+    save(folder.path(name), descr or f"{'|' if width == 1 else '<'}u{width}", [side] * 3, content)
+    return content
+
+
+SLABS = [
+    (1, ["--chunk", "4,4,4"], 6),
+    (2, ["--chunk", "7,2,3", "--offset=-3,0,7"], 9),
+    (4, ["--chunk", "3,3,3", "--encoding", "compressed_segmentation", "--block", "2,2,2"], 27),
+    (1, ["--chunk", "4,4,4", "--sharding", "1,murmur,1,1"], 3),
+    (4, ["--chunk", "4,4,4", "--encoding", "compressed_segmentation", "--block", "4,4,4", "--sharding", "0,identity,1,1"], 9),
+]
+
+
+def takes_slabs(folder, width, options, least):
+    """An array that is put slab by slab has the files of one that is put at once, in whichever orders it is."""
+    content = save_cube(folder, "in.npy", 12, width, 1)
+    folder.does("put", "in.npy", "d", "at_once", *options)
+    turned = array.array(CODES[width], content)
+    turned.byteswap()
+    save(folder.path("turned.npy"), f">u{width}", [12] * 3, turned.tobytes())
+    for key, name in (("s", "in.npy"), ("t", "turned.npy")):
+        status, out, errors = folder.call_in_slabs("put", name, "d", key, "--resolution", "1,1,1", *options)
+        want((status, errors), (0, ""), f"{name}: status, standard error")
+        want_true(len(out.splitlines()) >= least, f"{name}: {out!r}")
+        want(folder.objects(key), folder.objects("at_once"), f"{name}: files")
+
+
+def fails_at(folder, call_number, status):
+    """A stand-in for the program, of which one call ends with a status once it has read its stream."""
+    count = folder.path("count")
+    folder.path("fails").write_text(
+        f'#!/bin/sh\nn=$(cat {count} 2>/dev/null || echo 0)\necho $((n + 1)) >{count}\n'
+        f'[ $n -eq {call_number} ] && cat >/dev/null && exit {status}\nexec {folder.trial.program} "$@"\n'
+    )
+    folder.path("fails").chmod(0o755)
+    return folder.path("fails")
+
+
+def goes_on(folder, call_number):
+    """A put that is broken off at one of its slabs goes on, and nothing else does there meanwhile."""
+    words = "in.npy", "d", "s", "--chunk", "4,4,4", "--resolution", "1,1,1"
+    save_cube(folder, "in.npy", 12, 1, 1)
+    save_cube(folder, "other.npy", 12, 2, 1)
+    folder.does("put", "in.npy", "d", "at_once", "--chunk", "4,4,4")
+    status, out, _ = folder.call_in_slabs("put", *words, program=fails_at(folder, call_number, 5))
+    want((status, len(out.splitlines())), (5, call_number), "a put that is broken off")
+    status, out, errors = folder.call_in_slabs("put", *words)
+    want((status, out, "--resume" in errors), (1, "", True), "another put")
+    want(folder.call_in_slabs("put", "other.npy", *words[1:], "--resume")[:2], (1, ""), "another array")
+    status, out, errors = folder.call_in_slabs("put", *words, "--resume")
+    want((status, errors, len(out.splitlines())), (0, "", 6 - call_number), "a put that goes on")
+    want(folder.objects("s"), folder.objects("at_once"), "files")
+    want(folder.call_in_slabs("put", *words), (REQUEST, "", "folder not empty\n"), "a put after it")
+    want(folder.call_in_slabs("put", *words, "--resume"), (REQUEST, "", "folder not empty\n"), "another one to go on")
+
+
+def goes_on_at_once(folder):
+    """A put of one stream that is broken off goes on too; one that is refused leaves nothing, and one that is to go on may begin."""
+    save_cube(folder, "in.npy", 4, 1, 1)
+    words = "put", "in.npy", "d", "s"
+    want(folder.call(*words, program=fails_at(folder, 0, 3))[0], REQUEST, "a refused put")
+    want((folder.path("d/s").exists(), folder.path("d/info").exists()), (False, False), "what a refused put leaves")
+    folder.path("count").unlink()
+    want(folder.call(*words, program=fails_at(folder, 0, 5))[0], 5, "a put that is broken off")
+    folder.does(*words, "--resume")
+    folder.does("put", "in.npy", "d", "at_once", "--resume")
+    want(folder.objects("s"), folder.objects("at_once"), "files")
+
+
+def corrects(folder):
+    """Boxes over what a scale holds, of an offset below 0, in one stream and in slabs."""
+    content = bytearray(save_cube(folder, "in.npy", 12, 1, 1))
+    folder.does("put", "in.npy", "d", "s", "--chunk", "4,4,4", "--offset=-3,0,7", "--sharding", "0,murmur,1,1")
+    for call_put, side, (x, y, z) in ((folder.call, 5, (2, 0, 3)), (folder.call_in_slabs, 11, (1, 1, 0))):
+        part = save_cube(folder, "part.npy", side, 1, side)
+        status, _, errors = call_put("put", "part.npy", "d", "s", f"--at={x - 3},{y},{z + 7}")
+        want((status, errors), (0, ""), f"a box of {side}")
+        for row, (k, j) in enumerate(itertools.product(range(side), range(side))):
+            begin = x + 12 * (y + j + 12 * (z + k))
+            content[begin : begin + side] = part[row * side : (row + 1) * side]
+        folder.does("get", "d", "s", "all", "out.npy")
+        want(load(folder.path("out.npy"))[3], bytes(content), f"the values after a box of {side}")
+    for told, words in [
+        ("doesn't lie", ("d", "s", "--at", "0,0,7")), ("doesn't lie", ("d", "s", "--at=-4,0,7")), ("no scale", ("d", "t", "--at", "0,0,7")),
+    ]:
+        before = folder.objects("s"), folder.info()
+        folder.refuses(told, "put", "part.npy", *words)
+        want((folder.objects("s"), folder.info()), before, "what stands")
+    want(folder.call("put", "part.npy", "d", "s", "--at", "0,0,7", "--resume")[0], 2, "to go on with a correction")
+
+
 # title, case
 CASES = [
     ("channels behind x", asks_for_axes),
@@ -249,6 +353,8 @@ CASES = [
     ("no lengths of a voxel", asks_for_lengths),
     ("infos that others made", takes_infos),
     ("scales in other layouts", adds_layouts),
+    ("a put of one stream that goes on", goes_on_at_once),
+    ("corrections", corrects),
 ]
 
 
@@ -261,6 +367,10 @@ def rows():
         yield f"an array {form}", in_folder, comes_back, *form
     for title, case in CASES:
         yield title, in_folder, case
+    for width, options, least in SLABS:
+        yield f"slabs of {width} bytes a value, {options}", in_folder, takes_slabs, width, options, least
+    for number in (0, 1, 4):
+        yield f"a put that is broken off in slab {number}", in_folder, goes_on, number
 
 
 if __name__ == "__main__":

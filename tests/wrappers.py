@@ -145,7 +145,7 @@ def tells_the_commands(trial):
     for words in ([], ["--help"], ["-h"], ["help"]):
         status, text, count = tree.call(*words)
         want((status, count), (0, 0), f"{words}")
-        for command in ("write", "cutout", "verify", "reshard", "generate", "serve"):
+        for command in ("write", "update", "cutout", "verify", "reshard", "generate", "serve"):
             want_true(f"vol_tool {command} " in text, f"{words}: no {command} in {text!r}")
         want_true(pathlib.Path(text.splitlines()[-1].split(": ")[1]).is_file(), f"{words}: there is no such guide")
 

@@ -8,4 +8,5 @@ from .copies import copy_of
 from .faults import DAMAGED, DOOR, FEED, INFO, MEMORY, OK, OUTPUT, REQUEST, STORE, USAGE, damaged, printed, refused, stored
 from .lists import answer, draw_boxes, generated, sum_of
 from .shards import Sharding, files_of, rows_of, shard_of
+from .updates import update_of
 from .volumes import SEGMENTED, SHARDING, Values, Volume, info_of, infos_of

@@ -1,0 +1,497 @@
+#!/usr/bin/env python3
+"""Writes boxes over what scales hold with the command update of the built vol_tool.
+
+    tests/updates.py [PROGRAM [COUNT]]
+
+What is due is stated here, and worked out by a plain model (model/updates.py). COUNT is the number of random scales of each of four
+forms: raw chunks or segmentations, in files or in shards. Each is written, and updated three times by random boxes; after each all
+values are those of a plain array, and all files are the model's, byte by byte, those that no box meets with the time that they had.
+"""
+import dataclasses
+import itertools
+import os
+import pathlib
+import random
+import shutil
+import subprocess
+import tempfile
+import time
+
+from harness import (
+    DEVICE, FOLDER, LOOP, PIPE, Wrong, answers, contents, main, open_closed_pipe, open_full, standing, want, want_ending, want_files,
+    want_front, want_true,
+)
+from model import (
+    OK, SEGMENTED, Sharding, Values, Volume, along, box_in, bytes_of, damaged, head_of, infos_of, refused, stored, stream_of, update_of,
+    verdict, voxels_in,
+)
+from model.chance import damage_some, pick_chunks, pick_volume, pick_writes, with_numbers
+from model.segments import bytes_of as chunk_of
+from model.segments import spell_loosely
+from model.shards import shard_of
+from model.small import FIRST, INFO_PATH, NO_FOLDER, changed, padded, shards, with_info
+
+WORKERS = [1, 2, 16]
+
+
+def want_replaced(before, after, update):
+    """
+    The model's files stand in the place of those before or beside them, or a front of them where the update broke off, and perhaps what
+    there is of the next one; all others are as they were.
+    """
+    found = contents(after)
+    put = dict(itertools.takewhile(lambda item: found.get(item[0]) == item[1], update.files.items()))
+    if update.answer[0] == OK:
+        want_files({path: found.get(path) for path in update.files}, update.files)
+    begun = [path for path in after if path not in before and path in {f"{path}.part" for path in update.paths}]
+    want_true(len(begun) <= (update.answer[0] != OK), f"not finished: {begun}")
+    want_files({path: entry for path, entry in after.items() if path not in (*put, *begun)},
+               {path: entry for path, entry in before.items() if path not in put})
+
+
+def want_update(trial, volume, writes, *options):
+    """An update ends as the model's, and leaves its files. Gives the model's."""
+    before = standing(trial.folder)
+    update = update_of(volume, contents(before), writes)
+    found = trial.run(volume.words("update", *options), stream_of(writes))
+    want_ending(found, update.answer)
+    want_replaced(before, standing(trial.folder), update)
+    return update
+
+
+# Scales at random.
+
+FORMS = {
+    "raw chunks in files": (True, False),
+    "raw chunks in shards": (True, True),
+    "segmentations in files": (False, False),
+    "segmentations in shards": (False, True),
+}
+
+
+def with_strays(chance, volume, files):
+    """Shards with rows of other shards' or minishards' ids, or of no cell's; some of them empty."""
+    found = {}
+    for shard in range(2**volume.sharding.shard_bits):
+        path = volume.path(volume.sharding.file(shard))
+        rows = [
+            (volume.place(cell)[1], volume.number(cell), volume.stored(files, cell))
+            for cell in volume.cells if volume.path_of(cell) == path and volume.stored(files, cell) is not None
+        ]
+        taken = {row[:2] for row in rows}
+        for _ in range(chance.randint(0, 3)):
+            stray = chance.randrange(2**volume.sharding.minishard_bits), chance.choice([chance.randrange(600), chance.getrandbits(64)])
+            if stray not in taken and (shard, stray[0]) != volume.sharding.place(stray[1]):
+                taken.add(stray)
+                rows.append((*stray, chance.randbytes(chance.choice([0, 1, 20]))))
+        if path in files or rows:
+            found[path] = shard_of(volume.sharding.minishard_bits, rows)
+    return found
+
+
+def lay_foreign(trial, chance, volume):
+    """Chunks as another program may have stored them, and perhaps rows that no cell reads. Gives the values."""
+
+    def spell_otherwise(cell, raw):
+        loose = raw if volume.block is None else spell_loosely(chance, volume.shape(cell), raw)
+        return loose if len(loose) <= volume.limit(cell) else volume.spell(cell, raw)
+
+    chunks = pick_chunks(chance, volume, spell_otherwise)
+    files = trial.store(volume, chunks)
+    if volume.sharding is not None and volume.sharding.shard_bits < 5 and chance.random() < 0.5:
+        trial.lay_out(with_strays(chance, volume, files))
+    return Values(volume, [(volume.box_of(cell), volume.decode(cell, chunk)) for cell, chunk in chunks.items()])
+
+
+def lay_written(trial, chance, volume):
+    writes = pick_writes(chance, volume, chance.choice([0, 1, 1, 2]))
+    trial.write(volume, writes)
+    return Values(volume, writes)
+
+
+def updates_random(trial, seed, form):
+    """A scale that was written, or one in six of another program, is updated three times."""
+    chance = random.Random(f"{seed} {form}")
+    volume = pick_volume(chance, *FORMS[form])
+    values = (lay_foreign if chance.random() < 1 / 6 else lay_written)(trial, chance, volume)
+    for workers in chance.sample(WORKERS, 3):
+        writes = pick_writes(chance, volume, chance.choice([0, 1, 1, 2, 3]))
+        want_update(trial, volume, writes, f"--workers={workers}")
+        for box, raw in writes:
+            values.put(box, raw)
+        trial.want_values(volume, values, [volume.whole])
+    trial.want(volume.words("verify"), verdict(volume, trial.files()))
+
+
+def updates_damaged(trial, seed, form):
+    """Some files are others: the first fault is told, and what stands is what came before it, or there is none on the way."""
+    chance = random.Random(f"damaged {seed} {form}")
+    volume = pick_volume(chance, *FORMS[form])
+    files = trial.write(volume, pick_writes(chance, volume, chance.choice([1, 2, 3])))
+    trial.lay_out(damage_some(chance, volume, files))
+    writes = pick_writes(chance, volume, chance.choice([1, 1, 2]))
+    want_update(trial, volume, writes, f"--workers={chance.choice(WORKERS)}")
+
+
+# Updates that are stated here.
+
+
+def line(length, chunk=1, **fields):
+    return Volume([length, 1, 1], [chunk, 1, 1], **fields)
+
+
+def at(place, *values):
+    """A write of bytes into a line."""
+    return along(place, place + len(values)), bytes(values)
+
+
+SMALL = Volume([2, 2, 1], [2, 2, 1])
+SHIFTED = line(4, 4, offset=(-3, 0, 0))
+ROW = line(3)
+WIDE = line(2, 2, channels=2, width=2)
+EDGE = line(5, 4)
+
+# Two voxels, each a cell: in two minishards, and in one.
+PAIR = line(2, sharding=Sharding(minishard_bits=1))
+JOINED = line(2, sharding=Sharding())
+TEN_ELEVEN = {(0, 0, 0): b"\n", (1, 0, 0): b"\v"}
+PAIR_SHARD = shard_of(1, [(0, 0, b"\n"), (1, 1, b"\v")])
+JOINED_SHARD = shard_of(0, [(0, 0, b"\n"), (0, 1, b"\v")])
+
+# Eight voxels, each a cell, in two shards of two minishards: 0 and 4, 1 and 5; 2 and 6, 3 and 7. The values count up from 1.
+EIGHT = line(8, sharding=Sharding(0, False, 1, 1))
+COUNTED = {(number, 0, 0): bytes([number + 1]) for number in range(8)}
+
+# title, scale, the files before, the writes, the files that are put, and how many cells they have
+STORED = [
+    ("a voxel of a chunk", SMALL, {"0-2_0-2_0-1": "01020304"}, [(box_in("1:2,1:2,0:1"), b"\t")], {"0-2_0-2_0-1": "01020309"}, 1),
+    ("a voxel of a chunk that is absent", SMALL, {}, [(box_in("1:2,1:2,0:1"), b"\t")], {"0-2_0-2_0-1": "00000009"}, 1),
+    ("a whole chunk into an empty folder", SMALL, {}, [(SMALL.whole, b"\1\2\3\4")], {"0-2_0-2_0-1": "01020304"}, 1),
+    ("zeros over a chunk", SMALL, {"0-2_0-2_0-1": "01020304"}, [(SMALL.whole, bytes(4))], {"0-2_0-2_0-1": "00000000"}, 1),
+    ("the last of two boxes", SMALL, {"0-2_0-2_0-1": "01020304"}, [(SMALL.whole, b"\5\6\7\x08"), (box_in("0:1,0:1,0:1"), b"\t")],
+     {"0-2_0-2_0-1": "09060708"}, 1),
+    ("no boxes", SMALL, {"0-2_0-2_0-1": "01020304"}, [], {}, 0),
+    ("no boxes over a damaged chunk", SMALL, {"0-2_0-2_0-1": "01"}, [], {}, 0),
+    ("an offset below 0", SHIFTED, {"-3-1_0-1_0-1": "01020304"}, [at(-1, 9)], {"-3-1_0-1_0-1": "01020904"}, 1),
+    ("two channels", WIDE, {"0-2_0-1_0-1": "0100020003000400"}, [(along(1, 2), b"\t\0\b\0")],
+     {"0-2_0-1_0-1": "0100090003000800"}, 1),
+    ("an edge chunk", EDGE, {"0-4_0-1_0-1": "01020304", "4-5_0-1_0-1": "05"}, [at(4, 9)], {"4-5_0-1_0-1": "09"}, 1),
+    ("a box across two chunks", EDGE, {"0-4_0-1_0-1": "01020304"}, [at(3, 8, 9)], {"0-4_0-1_0-1": "01020308", "4-5_0-1_0-1": "09"}, 2),
+    ("a damaged chunk that no box meets", ROW, {"0-1_0-1_0-1": "", "1-2_0-1_0-1": "02"}, [at(1, 9)], {"1-2_0-1_0-1": "09"}, 1),
+    ("the second of two minishards", PAIR, {"0.shard": PAIR_SHARD.hex()}, [at(1, 12)],
+     {"0.shard": shard_of(1, [(0, 0, b"\n"), (1, 1, b"\f")]).hex()}, 2),
+    ("a row of another minishard", PAIR, {"0.shard": with_numbers(PAIR_SHARD, {33: 1}).hex()}, [at(0, 13)],
+     {"0.shard": shard_of(1, [(0, 0, b"\r"), (1, 1, b"\v")]).hex()}, 2),
+    ("a row of a minishard's absent neighbour", PAIR, {"0.shard": shard_of(1, [(0, 0, b"\n"), (0, 1, b"\v")]).hex()}, [at(0, 13)],
+     {"0.shard": shard_of(1, [(0, 0, b"\r")]).hex()}, 1),
+    ("a row of no cell", JOINED, {"0.shard": shard_of(0, [(0, 0, b"\n"), (0, 2, b"\v")]).hex()}, [at(0, 13)],
+     {"0.shard": shard_of(0, [(0, 0, b"\r")]).hex()}, 1),
+    ("a gap in a shard", JOINED, {"0.shard": with_numbers(shard_of(0, [(0, 0, b"\nxx")]), {32 + 3: 1}).hex()}, [at(1, 13)],
+     {"0.shard": shard_of(0, [(0, 0, b"\n"), (0, 1, b"\r")]).hex()}, 2),
+    ("a shard that is absent", PAIR, {}, [at(1, 12)], {"0.shard": shard_of(1, [(1, 1, b"\f")]).hex()}, 1),
+    ("one of two shards", EIGHT, {"0.shard": shard_of(1, [(0, 0, b"\1"), (1, 5, b"\6")]).hex(), "1.shard": b"damaged".hex()},
+     [at(4, 9)], {"0.shard": shard_of(1, [(0, 0, b"\1"), (0, 4, b"\t"), (1, 5, b"\6")]).hex()}, 3),
+]
+
+
+def leaves_objects(trial, volume, before, writes, due, cells, *options):
+    """An update over files leaves these, and the others as they were."""
+    due = {volume.path(name): bytes.fromhex(content) for name, content in due.items()}
+    trial.lay_out({**infos_of(volume), **{volume.path(name): bytes.fromhex(content) for name, content in before.items()}})
+    update = want_update(trial, volume, writes, *options)
+    want_files(update.files, due, "the model's file")
+    want(update.answer, stored(len(due), cells), "the model's answer")
+
+
+def takes_other_spellings(trial):
+    """A kept chunk that is spelled otherwise gets this program's spelling, and one in a file that no box meets stays."""
+    for sharding in (None, Sharding()):
+        volume = line(4, 2, width=4, block=(2, 1, 1), sharding=sharding, key="t" if sharding else "s")
+        loose = chunk_of([1, 2, 0, 7, 99])
+        trial.store(volume, {(0, 0, 0): loose, (1, 0, 0): loose})
+        update = want_update(trial, volume, [(along(3, 4), b"\7\0\0\0")])
+        due = {cell: chunk_of([1, 2, 2, 7]) for cell in ([(1, 0, 0)] if sharding is None else [(0, 0, 0), (1, 0, 0)])}
+        want_files(update.files, volume.files(due), "the model's file")
+
+
+def keeps_many_rows(trial):
+    """A minishard of more rows than a window of an index, some of which are missing; boxes at its ends and in the middle."""
+    volume = line(2500, sharding=Sharding(preshift=64))
+    trial.store(volume, {(number, 0, 0): bytes([number % 251]) for number in range(2500) if number % 7 != 3})
+    update = want_update(trial, volume, [at(0, 9), at(1020, 9, 9, 9, 9, 9, 9, 9), at(2495, 9)], "--workers=2")
+    held = {number for number in range(2500) if number % 7 != 3}
+    want(update.answer, stored(1, len(held | {0, 2495} | set(range(1020, 1027)))), "the model's answer")
+
+
+# Damaged stores. Of a shard a few numbers of eight bytes are others, by their places, or its end is missing.
+#
+# The shard of two minishards: entries from 0 on, a chunk at 32, its row from 33 on, a chunk at 57, its row from 58 on. Of one minishard:
+# an entry, chunks from 16 on, ids from 18 on, starts from 34 on, sizes from 50 on. Of four chunks: entries, chunks at 32, ids from 34 on,
+# starts from 50 on, sizes from 66 on, chunks at 82, ids from 84 on, starts from 100 on, sizes from 116 on.
+
+TOO_MANY_ROWS = 24 * (2**22 + 1)
+LAST = 2**64 - 1
+
+# title, scale, changes by the file's name: numbers by their places, and how many bytes are left; the cell that is written, the line, and
+# the files that stand anew
+DAMAGED_SHARDS = [
+    ("an index of 23 bytes", PAIR, {"0": ({0: 2}, None)}, 1, "shard 0 0: shard bad length 23", []),
+    ("an index of 25 bytes", PAIR, {"0": ({0: 0}, None)}, 0, "shard 0 0: shard bad length 25", []),
+    ("an index that ends before it begins", PAIR, {"0": ({8: 0}, None)}, 0, "shard 0 0: shard bad range", []),
+    ("an index of the other minishard", PAIR, {"0": ({16: 27}, None)}, 0, "shard 0 1: shard bad length 23", []),
+    ("both indexes", PAIR, {"0": ({0: 2, 16: 27}, None)}, 1, "shard 0 0: shard bad length 23", []),
+    ("an empty file", PAIR, {"0": ({}, 0)}, 1, "shard 0 0: shard short index", []),
+    ("15 bytes", PAIR, {"0": ({}, 15)}, 1, "shard 0 0: shard short index", []),
+    ("31 bytes, of which 16 are an empty minishard's", PAIR, {"0": ({0: 0, 8: 0}, 31)}, 0, "shard 0 1: shard short index", []),
+    ("31 bytes", PAIR, {"0": ({}, 31)}, 0, "shard 0 0: shard short minishard", []),
+    ("33 bytes", PAIR, {"0": ({}, 33)}, 0, "shard 0 0: shard short minishard", []),
+    ("a byte less", PAIR, {"0": ({}, 81)}, 0, "shard 0 1: shard short minishard", []),
+    ("an index far behind the end", PAIR, {"0": ({0: 2**63, 8: 2**63 + 24}, None)}, 0, "shard 0 0: shard short minishard", []),
+    ("an index at the end of all numbers", PAIR, {"0": ({0: LAST - 24, 8: LAST}, None)}, 0, "shard 0 0: shard short minishard", []),
+    ("2^22 + 1 rows", PAIR, {"0": ({16: 0, 24: TOO_MANY_ROWS}, None)}, 0, "shard 0 1: shard too many rows 4194305", []),
+    ("an id twice", JOINED, {"0": ({26: 0}, None)}, 0, "shard 0 0: index id 1", []),
+    ("an id past 64 bits", JOINED, {"0": ({18: 1, 26: LAST}, None)}, 0, "shard 0 0: index id 1", []),
+    ("a start past 64 bits", JOINED, {"0": ({34: LAST}, None)}, 1, "shard 0 0: index start 0", []),
+    ("a second start past 64 bits", JOINED, {"0": ({42: LAST}, None)}, 0, "shard 0 0: index start 1", []),
+    ("an id and a start", JOINED, {"0": ({26: 0, 42: LAST}, None)}, 0, "shard 0 0: index id 1", []),
+    ("a row behind that of the written cell", EIGHT, {"0": ({42: 0}, None)}, 0, "shard 0 0: index id 1", []),
+    ("a row of a minishard that no box meets", EIGHT, {"0": ({108: LAST}, None)}, 0, "shard 0 1: index start 1", []),
+    ("a row of the second shard", EIGHT, {"1": ({42: 0}, None)}, 2, "shard 1 0: index id 1", []),
+    ("rows of both shards", EIGHT, {"0": ({92: 0}, None), "1": ({42: 0}, None)}, None, "shard 0 1: index id 1", []),
+    ("the second shard", EIGHT, {"1": ({92: 0}, None)}, None, "shard 1 1: index id 1", []),
+    ("the second shard, and a chunk of the first", EIGHT, {"0": ({66: 2}, None), "1": ({92: 0}, None)}, None, "shard 1 1: index id 1", []),
+    ("a chunk behind the end", PAIR, {"0": ({41: 1000}, None)}, 0, "damaged 0,0,0: shard short chunk", []),
+    ("a kept chunk behind the end", PAIR, {"0": ({41: 1000}, None)}, 1, "damaged 0,0,0: shard short chunk", []),
+    ("a chunk that is too long", JOINED, {"0": ({50: 2}, None)}, 1, "damaged 0,0,0: chunk too long 2 limit 1", []),
+    ("a kept chunk of no bytes", EIGHT, {"0": ({74: 0}, None)}, 0, "damaged 4,0,0: chunk length 0 wanted 1", []),
+    ("a kept chunk of the second shard", EIGHT, {"1": ({124: 0}, None)}, None, "damaged 7,0,0: chunk length 0 wanted 1", ["0.shard"]),
+    ("the first by minishards", EIGHT, {"0": ({74: 0, 116: 0}, None)}, 0, "damaged 4,0,0: chunk length 0 wanted 1", []),
+]
+
+
+def tells_damaged_shard(trial, volume, changes, cell, told, may_stand, workers):
+    files = trial.store(volume, TEN_ELEVEN if volume.size[0] == 2 else COUNTED)
+    for name, (numbers, length) in changes.items():
+        path = volume.path(f"{name}.shard")
+        trial.lay_out({path: with_numbers(files[path], numbers)[:length]})
+    write = at(0, *range(21, 29)) if cell is None else at(cell, 99)
+    update = want_update(trial, volume, [write], f"--workers={workers}")
+    want_ending(update.answer, refused(told), "the model")
+    want(list(update.files), list(map(volume.path, may_stand)), "the model's files")
+
+
+LONG = line(600)
+LONG_LABELS = line(600, width=4, block=(1, 1, 1))
+LONG_SHARD = line(600, width=4, block=(1, 1, 1), sharding=Sharding(shard_bits=1))
+SEVEN = line(7, 3)
+
+# title, scale, the cells whose chunks are of no bytes, the box that is written, the cell that is told, and how many files may stand
+DAMAGED_CHUNKS = [
+    ("a chunk that a box covers", SEVEN, [(0, 0, 0)], (0, 7), (0, 0, 0), 0),
+    ("a chunk that a box meets", SEVEN, [(0, 0, 0)], (2, 4), (0, 0, 0), 0),
+    ("the second of three", SEVEN, [(1, 0, 0)], (0, 7), (1, 0, 0), 1),
+    ("the first of two damaged ones", SEVEN, [(2, 0, 0), (1, 0, 0)], (0, 7), (1, 0, 0), 1),
+    ("behind one that no box meets", SEVEN, [(0, 0, 0), (2, 0, 0)], (3, 7), (2, 0, 0), 1),
+    ("a chunk deep in a long line", LONG, [(598, 0, 0)], (0, 600), (598, 0, 0), 598),
+    ("a segmentation in a third window", LONG_LABELS, [(598, 0, 0)], (0, 600), (598, 0, 0), 598),
+    ("a kept segmentation deep in the second shard", LONG_SHARD, [(599, 0, 0)], (0, 2), (599, 0, 0), 1),
+    ("a kept segmentation of the first shard", LONG_SHARD, [(599, 0, 0), (4, 0, 0)], (0, 2), (4, 0, 0), 0),
+]
+
+
+def tells_damaged_chunk(trial, volume, empty, box, told, may_stand, workers):
+    values = bytes(number % 251 + 1 for number in range(volume.width * voxels_in(volume.whole)))
+    chunks = volume.chunks_after([(volume.whole, values)])
+    trial.store(volume, {**chunks, **{cell: b"" for cell in empty}})
+    write = along(*box), bytes(volume.width * (box[1] - box[0]))
+    update = want_update(trial, volume, [write], f"--workers={workers}")
+    fault = f"chunk length 0 wanted {volume.limit(told)}" if volume.block is None else "seg length 0"
+    want_ending(update.answer, refused(damaged(told, fault)), "the model")
+    want(len(update.files), may_stand, "the model's files")
+
+
+# Updates that stop.
+
+THREE = {"d/s/0-1_0-1_0-1": b"\4", "d/s/1-2_0-1_0-1": b"\5", "d/s/2-3_0-1_0-1": b"\6"}
+NEW_THREE = {path: bytes([value[0] - 3]) for path, value in THREE.items()}
+ALL_THREE = at(0, 1, 2, 3)
+
+# title, what stands instead of some files, what the output is, the line, and how many files are put
+STOPPED = [
+    ("a folder in the first file's place", {"d/s/0-1_0-1_0-1": FOLDER}, subprocess.PIPE, "store fault", 0),
+    ("a folder in the third file's place", {"d/s/2-3_0-1_0-1": FOLDER}, subprocess.PIPE, "store fault", 2),
+    ("a pipe in the second file's place", {"d/s/1-2_0-1_0-1": PIPE}, subprocess.PIPE, "store fault", 1),
+    ("a device in the first file's place", {"d/s/0-1_0-1_0-1": DEVICE}, subprocess.PIPE, "store fault", 0),
+    ("the line to a full device", {}, open_full, "output fault", 3),
+    ("the line into a closed pipe", {}, open_closed_pipe, "output fault", 3),
+]
+
+
+def is_stopped(trial, instead, output, fault, count):
+    trial.lay_out({**infos_of(ROW), **{path: content for path, content in THREE.items() if path not in instead}, **instead})
+    trial.want("update d s", refused(fault), stream_of([ALL_THREE]), output=output)
+    found = {path: content for path, content in trial.files().items() if instead.get(path) != DEVICE}
+    wanted = {**THREE, **dict(list(NEW_THREE.items())[:count])}
+    want_files(found, {path: content for path, content in wanted.items() if path not in instead})
+
+
+def passes_over_others(trial):
+    """Files that are no objects stay, but what an earlier run left of an object that is put; a pipe beside them isn't noticed."""
+    trial.lay_out({**infos_of(ROW), **THREE, "d/s/0-1_0-1_0-1.part": bytes(9), "d/s/other.part": b"left", "d/s/other": b"x"})
+    trial.lay_out({"d/s/pipe": PIPE, "d/s/0.shard": b"x", "d/s/a/b": FOLDER})
+    trial.want("update d s", stored(3, 3), stream_of([ALL_THREE]))
+    want_files(trial.files(), {**NEW_THREE, "d/s/other.part": b"left", "d/s/other": b"x", "d/s/0.shard": b"x"})
+
+
+# Updates of the small data set that are refused; nothing is changed.
+
+UPDATE = ["update", "d", "s"]
+NO_COMMANDS = [
+    ["update"], ["update", "d"], [*UPDATE, "x"], ["UPDATE", "d", "s"], ["--workers=1", *UPDATE], [*UPDATE, "[0:4,0:2,0:1]"],
+    *(["update", dataset, "s"] for dataset in ("", "../d", "/d", "d/", "-d", "d" * 201, b"\xff")),
+    *(["update", "d", key] for key in ("", "..", "s s", "s" * 201, "é")),
+    *([*UPDATE, *options.split()] for options in ("--workers=0", "--workers=17", "--workers=01", "--workers", "--port=1", "--help")),
+    [*UPDATE, "--workers=1", "--workers=1"],
+]
+
+GOOD = stream_of([(box_in("1:2,1:2,0:1"), b"\t")])
+PADDED = "padded voxels 4194305 over 4194304"
+IN_SHARDS = {**with_info(**shards()), "d/s/0.shard": b"short"}
+
+# title, what is changed, the stream, the line
+REFUSED = [
+    ("no info, and no stream", {INFO_PATH: None}, b"", "info of d: absent"),
+    ("a broken info", {INFO_PATH: b"{"}, GOOD, "info of d: not json"),
+    ("two chunk sizes", with_info(chunk_sizes=[[2, 2, 1], [4, 2, 1]]), GOOD, "info of d: unsupported chunk_sizes"),
+    ("an info that is a pipe", {INFO_PATH: PIPE}, GOOD, "store fault"),
+    ("2^22 + 1 padded voxels, and no stream", padded(2**22 + 1), b"", PADDED),
+    ("no stream", {}, b"", "stream: bad magic"),
+    ("a stream of another format", {}, b"PVW2" + bytes(4), "stream: bad magic"),
+    ("too many writes", {}, head_of(65537), "stream: too many writes 65537"),
+    ("a stream that ends in a box", {}, GOOD[:40], "write 0: truncated"),
+    ("a stream that ends before the last value", {}, GOOD[:-1], "write 0: truncated"),
+    ("a byte behind the stream", {}, GOOD + b"\0", "stream: trailing bytes"),
+    ("a box of no voxels", {}, head_of(1) + bytes_of([0, 0, 0], [0, 1, 1]), "write 0: empty box"),
+    ("a box outside", {}, stream_of([(box_in("3:5,0:1,0:1"), b"\1\2")]), "write 0: outside scale"),
+    ("a second box outside", {}, stream_of([(box_in("0:1,0:1,0:1"), b"\1"), (box_in("-1:1,0:1,0:1"), b"\1\2")]), "write 1: outside scale"),
+    ("a box outside over a damaged chunk", {FIRST: b""}, stream_of([(box_in("0:5,0:1,0:1"), bytes(5))]), "write 0: outside scale"),
+    ("a box outside over a damaged shard", IN_SHARDS, stream_of([(box_in("0:5,0:1,0:1"), bytes(5))]), "write 0: outside scale"),
+    ("a damaged shard", IN_SHARDS, GOOD, "shard 0 0: shard short index"),
+    ("a shard that is a pipe", {**IN_SHARDS, "d/s/0.shard": PIPE}, GOOD, "store fault"),
+    ("a damaged chunk", {FIRST: b"123"}, GOOD, "damaged 0,0,0: chunk length 3 wanted 4"),
+    ("a chunk of a byte more", {FIRST: b"12345"}, GOOD, "damaged 0,0,0: chunk length 5 wanted 4"),
+    ("a chunk that is a device", {FIRST: DEVICE}, GOOD, "store fault"),
+    ("a chunk that is a link to itself", {FIRST: LOOP}, GOOD, "store fault"),
+    ("a chunks' folder that is a file", NO_FOLDER, GOOD, "store fault"),
+    ("a raw chunk as a segmentation's", with_info({"data_type": "uint64"}, **SEGMENTED),
+     stream_of([(box_in("1:2,1:2,0:1"), bytes(8))]), "damaged 0,0,0: seg channel 0"),
+]
+
+
+def refuses_folder_as_stream(trial):
+    feed = os.open("/", os.O_RDONLY)
+    try:
+        answers(trial, changed({FIRST: b""}), UPDATE, refused("feed fault"), feed)
+    finally:
+        os.close(feed)
+
+
+def leaves_scales_apart(trial):
+    """Another scale of the data set, whose folder is in this one's, stays."""
+    other = dataclasses.replace(SMALL, key="s/t")
+    trial.lay_out({**infos_of(SMALL, other), SMALL.path_of((0, 0, 0)): b"\1\2\3\4", other.path_of((0, 0, 0)): b"\1\2\3\4"})
+    want_update(trial, SMALL, [(box_in("0:1,0:1,0:1"), b"\t")])
+    want_update(trial, other, [(box_in("1:2,0:1,0:1"), b"\t")])
+
+
+# Updates that are killed.
+
+KILLS = 8
+CUBES = {
+    "in files": Volume([64] * 3, [8, 8, 4]),
+    "in shards": Volume([64] * 3, [8] * 3, sharding=Sharding(3, False, 2, 4)),
+    "a segmentation in shards": Volume([64] * 3, [8] * 3, width=4, block=(8, 8, 8), sharding=Sharding(3, False, 2, 4)),
+}
+
+
+def pick_stream(chance, volume):
+    """A box over most of a cube, and smaller ones of one value each over it."""
+    inner = b"\1\2\3\4" * 62**3 if volume.block else chance.randbytes(62**3)
+    begins = [[chance.randrange(44) for _ in range(3)] for _ in range(20)]
+    cubes = [([(begin, begin + 20) for begin in place], chance.randbytes(1) * (20**3 * volume.width)) for place in begins]
+    return [([(1, 63)] * 3, inner), *cubes]
+
+
+def await_change(process, path):
+    """Waits until a file is replaced, or the process has ended."""
+    number = path.stat().st_ino
+    while process.poll() is None and path.stat().st_ino == number:
+        pass
+
+
+def is_killed(trial, before, update, stream, path, delay):
+    """An update that is killed some time after a file was replaced, and then run to its end. Gives how many files were put before."""
+    with tempfile.TemporaryDirectory(dir=trial.folder) as name:
+        own = dataclasses.replace(trial, folder=pathlib.Path(name))
+        shutil.copytree(before, own.folder / "d")
+        (own.folder / "stream").write_bytes(stream)
+        files = own.files()
+        with (own.folder / "stream").open("rb") as feed:
+            process = own.start("update d s", stdin=feed)
+            await_change(process, own.folder / path)
+            time.sleep(delay)
+            process.kill()
+            process.wait()
+        count = want_front(own.files(), files, update.files, parts_allowed=1)
+        own.want("update d s", update.answer, stream)
+        want_files(own.files(), {**files, **update.files}, "after a second run, file")
+    return count
+
+
+def is_killed_often(trial, volume):
+    """Each kill's title, and what is wrong or None; and whether some came in the middle of an update."""
+    chance = random.Random(4)
+    base = dataclasses.replace(trial, folder=trial.folder / "base")
+    base.write(volume, pick_stream(chance, volume))
+    writes, before = pick_stream(chance, volume), base.folder / "before"
+    shutil.copytree(base.folder / "d", before)
+    update, stream, counts = want_update(base, volume, writes), stream_of(writes), []
+    for number in range(KILLS):
+        path = update.paths[number * len(update.paths) // KILLS]
+        try:
+            counts.append(is_killed(trial, before, update, stream, path, chance.uniform(0, 0.003)))
+            yield f"kill {number}", None
+        except Wrong as wrong:
+            yield f"kill {number}", str(wrong)
+    between = any(0 < count < len(update.files) for count in counts)
+    yield "a kill between the first file and the last", None if between else f"there was none: {counts}"
+
+
+def rows(count):
+    for title, volume in CUBES.items():
+        yield f"kills, {title}", is_killed_often, volume
+    for command in NO_COMMANDS:
+        yield f"no command: {command!r:.120}", answers, changed(), command, refused("usage"), GOOD
+    for title, change, feed, told in REFUSED:
+        yield title, answers, changed(change), UPDATE, refused(told), feed
+    yield "a folder as the stream", refuses_folder_as_stream
+    for (title, *case), workers in itertools.product(STORED, WORKERS):
+        yield f"{title}, {workers} workers", leaves_objects, *case, f"--workers={workers}"
+    yield "other spellings", takes_other_spellings
+    yield "a minishard of many rows", keeps_many_rows
+    yield "two scales", leaves_scales_apart
+    yield "files beside objects", passes_over_others
+    for title, *case in STOPPED:
+        yield title, is_stopped, *case
+    for (title, *case), workers in itertools.product(DAMAGED_SHARDS, (1, 16)):
+        yield f"damaged, {title}, {workers} workers", tells_damaged_shard, *case, workers
+    for (title, *case), workers in itertools.product(DAMAGED_CHUNKS, WORKERS):
+        yield f"damaged, {title}, {workers} workers", tells_damaged_chunk, *case, workers
+    for form, seed in itertools.product(FORMS, range(count)):
+        yield f"{form}, seed {seed}", updates_random, seed, form
+    for form, seed in itertools.product(FORMS, range(count // 3)):
+        yield f"{form}, damaged, seed {seed}", updates_damaged, seed, form
+
+
+if __name__ == "__main__":
+    main(rows, count=75)
