@@ -6,8 +6,8 @@
 It wants a C compiler, `cc`, for the library that refuses (refuse_memory.c), so it is run by hand and isn't a part of the gate. Where
 the store is asked, an allocation for a path, for a folder's entries or of the system's own library may end as a store fault instead.
 Each refused run has a folder of its own; afterwards whole objects stand there, the first ones that are due, and no half of one, but
-that a copy into shards, or an update of some, may leave one file whose name ends in .part. A cutout may have printed the layers before. Peers of a served run
-get whole replies, the first ones that are due, and behind them nothing, or that the store failed.
+that a copy into shards, or an update of some, may leave one file whose name ends in .part. A cutout may have printed the layers
+before. Peers of a served run get whole replies, the first ones that are due, and behind them nothing, or that the store failed.
 """
 import collections
 import dataclasses

@@ -37,7 +37,8 @@ OPTIONS = [
 # Command lines that are none.
 NO_COMMANDS = [
     [], ["cutout"], CUT, [*CUT, WHOLE, WHOLE], [*CUT, WHOLE, ""], [*CUT, WHOLE, b"\xff"], ["cut", "d", "s", WHOLE],
-    ["CUTOUT", "d", "s", WHOLE], ["update", "d"], ["update", "d", "s", "x"], ["--help"], [*CUT, WHOLE, "--workers=1"], ["--workers=1", *CUT, WHOLE],
+    ["CUTOUT", "d", "s", WHOLE], ["update", "d"], ["update", "d", "s", "x"], ["--help"], [*CUT, WHOLE, "--workers=1"],
+    ["--workers=1", *CUT, WHOLE],
     *(["cutout", dataset, "s", WHOLE] for dataset in DATASETS),
     *(["cutout", "d", key, WHOLE] for key in KEYS),
     *([*CUT, box] for box in BOXES),

@@ -7,9 +7,9 @@ It wants `strace`, which makes the calls fail, and is passed over with a word wh
 by hand and isn't a part of the gate. Of each call to files, folders and streams that a plain run makes, the first, the second and so
 on fails: with an error of the device, with a full disk, and with a signal, which is tried again or is a fault; and the call fails from
 then on, as on a device that is lost. Each run has a folder of its own; afterwards whole objects stand there, the first ones that are
-due, and no half of one, but that a device that is lost, a copy into shards and an update of some may leave one file whose name ends in .part. A cutout
-may have printed a front of its values. Of a served run the calls to peers fail too: each peer gets a front of the replies that are
-due, or that the store failed in place of one.
+due, and no half of one, but that a device that is lost, a copy into shards and an update of some may leave one file whose name ends in
+.part. A cutout may have printed a front of its values. Of a served run the calls to peers fail too: each peer gets a front of the
+replies that are due, or that the store failed in place of one.
 """
 import collections
 import functools
