@@ -95,16 +95,23 @@ pub found_copied : (o : Option Objects) (dataset : List ℕ) (from to : Scale) (
 found_copied None dataset from to marks list e h = tt
 found_copied (Some m) dataset from to marks list e h = e ∙ listed_are m dataset from to marks h
 
--- a cell of the source that it has nothing of marks nothing; another one marks those that its box meets
-pub source_skipped : (o : Option Objects) (dataset : List ℕ) (s from to : Scale) (cell : List ℕ) (marks : List Bool) (stored : Bool) → stored ≡ false → s ≡ from
-    → IfSome o (λ m. stored ≡ is_there (chunk_in m dataset s cell)) → IfSome o (λ m. AddsMarks to (λ c. is_there (chunk_in m dataset from cell) && meets to (cell_box from cell) c) marks marks)
-source_skipped o dataset s from to cell marks stored is same h =
-    unstored_in o (λ m. is_there (chunk_in m dataset from cell)) to (meets to (cell_box from cell)) marks
-    (subst (λ b. IfSome o (λ m. b ≡ is_there (chunk_in m dataset from cell))) is (subst (λ x. IfSome o (λ m. stored ≡ is_there (chunk_in m dataset x cell))) same h))
+-- a cell of the source that it has nothing of marks nothing; another one marks those that a box meets
+pub source_skipped : (o : Option Objects) (dataset : List ℕ) (s to : Scale) (cell : List ℕ) (part : Box3) (marks : List Bool) (stored : Bool) → stored ≡ false
+    → IfSome o (λ m. stored ≡ is_there (chunk_in m dataset s cell)) → IfSome o (λ m. AddsMarks to (λ c. is_there (chunk_in m dataset s cell) && meets to part c) marks marks)
+source_skipped o dataset s to cell part marks stored is h =
+    unstored_in o (λ m. is_there (chunk_in m dataset s cell)) to (meets to part) marks
+    (subst (λ b. IfSome o (λ m. b ≡ is_there (chunk_in m dataset s cell))) is h)
 
-pub source_marked : (o : Option Objects) (dataset : List ℕ) (s from to : Scale) (cell : List ℕ) (b : Box3) (old new : List Bool) (stored : Bool) → stored ≡ true → s ≡ from → b ≡ cell_box from cell
-    → IfSome o (λ m. stored ≡ is_there (chunk_in m dataset s cell)) → AddsMarks to (meets to b) old new → IfSome o (λ m. AddsMarks to (λ c. is_there (chunk_in m dataset from cell) && meets to (cell_box from cell) c) old new)
-source_marked o dataset s from to cell b old new stored is same here h marks =
-    stored_in o (λ m. is_there (chunk_in m dataset from cell)) to (meets to (cell_box from cell)) old new
-    (subst (λ q. IfSome o (λ m. q ≡ is_there (chunk_in m dataset from cell))) is (subst (λ x. IfSome o (λ m. stored ≡ is_there (chunk_in m dataset x cell))) same h))
-    (subst (λ x. AddsMarks to (meets to x) old new) here marks)
+pub source_marked : (o : Option Objects) (dataset : List ℕ) (s to : Scale) (cell : List ℕ) (part : Box3) (old new : List Bool) (stored : Bool) → stored ≡ true
+    → IfSome o (λ m. stored ≡ is_there (chunk_in m dataset s cell)) → AddsMarks to (meets to part) old new → IfSome o (λ m. AddsMarks to (λ c. is_there (chunk_in m dataset s cell) && meets to part c) old new)
+source_marked o dataset s to cell part old new stored is h marks =
+    stored_in o (λ m. is_there (chunk_in m dataset s cell)) to (meets to part) old new
+    (subst (λ q. IfSome o (λ m. q ≡ is_there (chunk_in m dataset s cell))) is h) marks
+
+-- where a box is that of a source's cell, and the reader's scale is the source
+pub source_added : (m : Objects) (dataset name : List ℕ) (s from to : Scale) (cell : List ℕ) (part box : Box3) (old new : List Bool) → name ≡ dataset → s ≡ from → part ≡ box
+    → AddsMarks to (λ c. is_there (chunk_in m name s cell) && meets to part c) old new → AddsMarks to (λ c. is_there (chunk_in m dataset from cell) && meets to box c) old new
+source_added m dataset name s from to cell part box old new names same here h =
+    subst (λ b. AddsMarks to (λ c. is_there (chunk_in m dataset from cell) && meets to b c) old new) here
+    (subst (λ x. AddsMarks to (λ c. is_there (chunk_in m dataset x cell) && meets to part c) old new) same
+    (subst (λ d. AddsMarks to (λ c. is_there (chunk_in m d s cell) && meets to part c) old new) names h))

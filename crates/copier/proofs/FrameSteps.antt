@@ -7,16 +7,13 @@ use Rattle.std.proofs.Common.{⊎_elim}
 use Rattle.std.proofs.lemmas.List.{length-map, map-set, get_or-set_same, get_or-set_other}
 use Rattle.std.proofs.lemmas.List.Elements.{All-set}
 use Rattle.std.proofs.lemmas.List.FromFn.{map-range_with_len_more}
-use Rattle.vol_base.specs.Outside.{Objects}
+use Rattle.vol_base.specs.declared.faults.Fault.{Fault}
 use Rattle.vol_spec.specs.BoxValues.{first_some}
-use Rattle.vol_spec.specs.Cut.{first_fault}
 use Rattle.vol_spec.specs.Encodings.{raw_size}
-use Rattle.vol_spec.specs.Grid.{cell_box}
 use Rattle.vol_spec.specs.StoredCells.{cell_of}
 use Rattle.vol_spec.specs.declared.scale.Scale.{Scale}
 use Rattle.vol_spec.proofs.Firsts.{first_some-append}
-use Rattle.vol_spec.specs.Copies.{copied_raw}
-use Rattle.copier.specs.Held.{AreFilled, AreRead, Holds, IsFilled, ReadsJob, ReadsJobs}
+use Rattle.copier.specs.Held.{AreFilled, AreRead, Holds, IsFilled, Readings, Reads, ReadsAll}
 use Rattle.write_plan.specs.declared.chunks.PrepareFault.{PrepareFault}
 use Rattle.write_plan.specs.declared.chunks.PrepareFault.TheVariants.{StoreFault, Damaged}
 
@@ -42,28 +39,28 @@ filled_more to frames k v inside old new j l =
     ∙ old j (omega (arith, n, l)))
     (cases_eq j k)
 
-module _ (m : Objects) (dataset : List ℕ) (from to : Scale) (jobs : List (List ℕ)) (first : ℕ) where
-  abbrev fault : ℕ → Option (List ℕ × Rattle.vol_base.specs.declared.faults.Fault.Fault)
-  fault job = first_fault m dataset from (cell_box to (cell_of jobs job))
+module _ (readings : Readings) (to : Scale) (jobs : List (List ℕ)) (first : ℕ) where
+  abbrev fault : ℕ → Option (List ℕ × Fault)
+  fault job = readings.fault (cell_of jobs job)
 
-  pub read_none : (frames : List (List ℕ)) → AreRead m dataset from to jobs first 0 frames
+  pub read_none : (frames : List (List ℕ)) → AreRead readings to jobs first 0 frames
   read_none frames = record { sound = refl; bytes = λ k h. absurd (omega arith) }
 
-  pub read_more : (k : ℕ) (frames : Frames) (v : Vec ℕ Global) (cell : List ℕ) → cell ≡ cell_of jobs (first + k) → k < length frames → AreRead m dataset from to jobs first k (map (λ f. f.items) frames)
-      → ReadsJob (Ok tt) m dataset from to cell (take (raw_size to cell) v.items) → AreRead m dataset from to jobs first (k + 1) (map (λ f. f.items) (slice_set frames k v))
+  pub read_more : (k : ℕ) (frames : Frames) (v : Vec ℕ Global) (cell : List ℕ) → cell ≡ cell_of jobs (first + k) → k < length frames → AreRead readings to jobs first k (map (λ f. f.items) frames)
+      → Reads (Ok tt) readings cell (take (raw_size to cell) v.items) → AreRead readings to jobs first (k + 1) (map (λ f. f.items) (slice_set frames k v))
   read_more k frames v cell here h old new = record {
     sound =
         ap first_some (map-range_with_len_more fault first k (first + k) refl)
         ∙ first_some-append (map fault (range_with_len first k)) (fault (first + k) ∷ []) old.sound
-        ∙ ap (λ o. first_some (o ∷ [])) (ap (λ c. first_fault m dataset from (cell_box to c)) (sym here) ∙ new.0);
+        ∙ ap (λ o. first_some (o ∷ [])) (ap readings.fault (sym here) ∙ new.0);
     bytes = λ j l.
         ap (λ fs. take (raw_size to (cell_of jobs (first + j))) (slice_index_or fs j [])) (map-set (λ (f : Vec ℕ Global). f.items) frames k v)
         ∙ ⊎_elim
         (λ (e : j ≡ k).
         ap (λ i. take (raw_size to (cell_of jobs (first + i))) (slice_index_or (slice_set (map (λ (f : Vec ℕ Global). f.items) frames) k v.items) i [])) e
         ∙ ap (take (raw_size to (cell_of jobs (first + k)))) (get_or-set_same (map (λ (f : Vec ℕ Global). f.items) frames) k v.items [] (omega (arith, length-map frames (λ (f : Vec ℕ Global). f.items))))
-        ∙ subst (λ c. take (raw_size to c) v.items ≡ copied_raw m dataset from to c) here new.1
-        ∙ ap (λ i. copied_raw m dataset from to (cell_of jobs (first + i))) (sym e))
+        ∙ subst (λ c. take (raw_size to c) v.items ≡ readings.raw c) here new.1
+        ∙ ap (λ i. readings.raw (cell_of jobs (first + i))) (sym e))
         (λ (n : j ≢ k).
         ap (take (raw_size to (cell_of jobs (first + j)))) (get_or-set_other (map (λ (f : Vec ℕ Global). f.items) frames) k j v.items [] n)
         ∙ old.bytes j (omega (arith, n)))
@@ -84,8 +81,8 @@ module _ (m : Objects) (dataset : List ℕ) (from to : Scale) (jobs : List (List
       let z : a + 1 + k ≡ a + suc k = omega arith in
       ap (λ o. first_some (o ∷ map f (range_with_len (a + 1) n))) parts.0 ∙ first_at f (a + 1) k n y (omega arith) parts.1 (ap f z ∙ some)
 
-  pub read_failed : (k count : ℕ) (frames other : List (List ℕ)) (cell out : List ℕ) (e : PrepareFault) → cell ≡ cell_of jobs (first + k) → k < count → AreRead m dataset from to jobs first k frames
-      → ReadsJob (Err e) m dataset from to cell out → ReadsJobs (Err e) m dataset from to jobs first count other
+  pub read_failed : (k count : ℕ) (frames other : List (List ℕ)) (cell out : List ℕ) (e : PrepareFault) → cell ≡ cell_of jobs (first + k) → k < count → AreRead readings to jobs first k frames
+      → Reads (Err e) readings cell out → ReadsAll (Err e) readings to jobs first count other
   read_failed k count frames other cell out StoreFault here h old new = tt
   read_failed k count frames other cell out (Damaged at found) here h old new =
-      first_at fault first k count (at, found) h old.sound (ap (λ c. first_fault m dataset from (cell_box to c)) (sym here) ∙ new)
+      first_at fault first k count (at, found) h old.sound (ap readings.fault (sym here) ∙ new)

@@ -6,7 +6,6 @@ use Rattle.std.proofs.lemmas.Bool.Decides.{nat_tests}
 use Rattle.std.proofs.lemmas.List.{length-map, take-append-le, take_at}
 use Rattle.std.proofs.lemmas.List.Elements.{All-contains, filter_passes}
 use Rattle.vol_base.specs.Outside.{Objects}
-use Rattle.vol_spec.specs.Copies.{AreOfOneVolume, copied_cells, copied_raw}
 use Rattle.vol_spec.specs.Encodings.{raw_size}
 use Rattle.vol_spec.specs.Grid.{IsCell, cells_on, numbers_on}
 use Rattle.vol_spec.specs.StoredCells.{AreInOrder, cell_of}
@@ -17,11 +16,11 @@ use Rattle.chunk_grid.proofs.ListingSteps.{Contains-filter, Contains-numbers_on}
 use Rattle.chunk_grid.proofs.OrderSteps.{AreInOrder-filter, AreInOrder-numbers_on}
 use Rattle.chunk_laws.specs.Told.{is_listed}
 use Rattle.write_plan.proofs.KeySteps.{cells_back, distinct_cells, from_key_order, in_order-alike, key_known, length-in_key_order, to_key_order}
-use Rattle.write_plan.specs.Jobs.{Prepares, cells_in, job_of, jobs_fault, jobs_of, window_of}
+use Rattle.write_plan.specs.Jobs.{Prepares, cells_in, job_of, jobs_of, window_of}
 use Rattle.write_plan.specs.declared.jobs.Job.{Job}
 use Rattle.write_plan.specs.declared.chunks.PrepareFault.{PrepareFault}
 use Rattle.write_plan.specs.declared.chunks.PrepareFault.TheVariants.{StoreFault, Damaged}
-use Rattle.copier.specs.Held.{AreFilled, AreRead, Held, Holds, IsHeld, ReadsJobs, cells_of, front, holding, raw_of, ready_of, work_of}
+use Rattle.copier.specs.Held.{AreFilled, AreRead, HasFrames, Held, Holds, Readings, ReadsAll, cells_of, first_of, front, holding, ready_of}
 use Rattle.copier.specs.HeldLaws.{held_jobs, length-front}
 use Rattle.copier.proofs.MarkSteps.{listed_at, listed_from}
 
@@ -55,16 +54,15 @@ pub all_cells : (h : Held) (jobs : List Job) → jobs ≡ jobs_of h.to (cells_of
 all_cells h jobs is = subst (All (IsCell h.to)) (sym (held_of h jobs is)) (held_jobs h).each
 
 -- a copier that is new: of the jobs of these cells, none of which is prepared
-pub held_new : (dataset : List ℕ) (from to : Scale) (cells : List (List ℕ)) (jobs : List Job) (frames : List (Vec ℕ Global)) → AreOfOneVolume from to → All (IsCell to) cells → jobs ≡ jobs_of to (in_key_order to cells)
+pub held_new : (dataset : List ℕ) (from to : Scale) (cells : List (List ℕ)) (jobs : List Job) (frames : List (Vec ℕ Global)) → All (IsCell to) cells → jobs ≡ jobs_of to (in_key_order to cells)
     → length frames ≡ min (window_of to) (length jobs) → All (Holds to) frames
-    → IsHeld (holding dataset from to jobs 0 0 frames) jobs frames
-held_new dataset from to cells jobs frames volume inside is count each =
+    → HasFrames (holding dataset from to jobs 0 0 frames) jobs frames
+held_new dataset from to cells jobs frames inside is count each =
     let same = held_cells to cells jobs inside is in
     let len : length jobs ≡ length (in_key_order to cells) = ap length is ∙ length-map (in_key_order to cells) (job_of to) in
     let all : length (map (λ (f : Vec ℕ Global). f.items) frames) ≡ length frames = length-map frames (λ (f : Vec ℕ Global). f.items) in
     let held : length (in_key_order to (filter (is_listed (cells_in jobs)) (numbers_on (cells_on to)))) ≡ length (in_key_order to cells) = ap length same in
     record {
-      volume = volume;
       jobs_are = is ∙ ap (jobs_of to) (sym same);
       room = omega (arith, count, len, all, held);
       within = omega arith;
@@ -79,38 +77,36 @@ held_few to cells jobs order is few =
     let len = length-in_key_order to cells order.each (distinct_cells to cells order) in
     omega (arith, same, len, few)
 
-pub held_told : (o : Option Objects) (dataset : List ℕ) (from to : Scale) (cells : List (List ℕ)) (jobs : List Job) → AreInOrder to cells → jobs ≡ jobs_of to (in_key_order to cells)
-    → IfSome o (λ m. cells ≡ copied_cells m dataset from to) → IfSome o (λ m. in_key_order to (filter (is_listed (cells_in jobs)) (numbers_on (cells_on to))) ≡ in_key_order to (copied_cells m dataset from to))
-held_told None dataset from to cells jobs order is h = tt
-held_told (Some m) dataset from to cells jobs order is h = held_cells to cells jobs order.each is ∙ ap (in_key_order to) h
+pub held_told : (o : Option Objects) (wanted : Objects → List (List ℕ)) (to : Scale) (cells : List (List ℕ)) (jobs : List Job) → AreInOrder to cells → jobs ≡ jobs_of to (in_key_order to cells)
+    → IfSome o (λ m. cells ≡ wanted m) → IfSome o (λ m. in_key_order to (filter (is_listed (cells_in jobs)) (numbers_on (cells_on to))) ≡ in_key_order to (wanted m))
+held_told None wanted to cells jobs order is h = tt
+held_told (Some m) wanted to cells jobs order is h = held_cells to cells jobs order.each is ∙ ap (in_key_order to) h
 
 -- what reading jobs answers is what preparing them answers
-by_cells : (r : Result ⊤ PrepareFault) (m : Objects) (h : Held) (first count : ℕ) (frames : List (List ℕ)) → ReadsJobs r m h.dataset h.from h.to (cells_of h) first count frames
-    → Prepares r (jobs_fault (work_of h) m first count)
-by_cells (Ok done) m h first count frames e = e.sound
-by_cells (Err StoreFault) m h first count frames e = tt
-by_cells (Err (Damaged at fault)) m h first count frames e = e
+by_cells : (r : Result ⊤ PrepareFault) (readings : Readings) (to : Scale) (cells : List (List ℕ)) (first count : ℕ) (frames : List (List ℕ)) → ReadsAll r readings to cells first count frames
+    → Prepares r (first_of readings cells first count)
+by_cells (Ok done) readings to cells first count frames e = e.sound
+by_cells (Err StoreFault) readings to cells first count frames e = tt
+by_cells (Err (Damaged at fault)) readings to cells first count frames e = e
 
-pub prepare_of : (o : Option Objects) (r : Result ⊤ PrepareFault) (h old : Held) (cells : List (List ℕ)) (first count : ℕ) (frames : List (List ℕ)) → h ≡ old → cells ≡ cells_of h
-    → IfSome o (λ m. ReadsJobs r m h.dataset h.from h.to cells first count frames) → IfSome o (λ m. Prepares r (jobs_fault (work_of old) m first count))
-prepare_of None r h old cells first count frames e is read = tt
-prepare_of (Some m) r h old cells first count frames e is read =
-    subst (λ x. Prepares r (jobs_fault (work_of x) m first count)) e
-    (by_cells r m h first count frames (subst (λ cs. ReadsJobs r m h.dataset h.from h.to cs first count frames) is read))
+pub prepare_of : (o : Option Objects) (r : Result ⊤ PrepareFault) (readings : Objects → Readings) (h : Held) (cells : List (List ℕ)) (first count : ℕ) (frames : List (List ℕ)) → cells ≡ cells_of h
+    → IfSome o (λ m. ReadsAll r (readings m) h.to cells first count frames) → IfSome o (λ m. Prepares r (first_of (readings m) (cells_of h) first count))
+prepare_of None r readings h cells first count frames is read = tt
+prepare_of (Some m) r readings h cells first count frames is read =
+    by_cells r (readings m) h.to (cells_of h) first count frames (subst (λ cs. ReadsAll r (readings m) h.to cs first count frames) is read)
 
 pub same_items : {X : Type 0} (v : Vec X Global) (xs : List X) → length xs ≡ length v.items → (with_items v xs).items ≡ xs
 same_items v xs e = take_at xs _ v.len (e ∙ sym v.ok.0)
 
 -- a copier with other frames
 pub held_again : (h : Held) (jobs : List Job) (first count : ℕ) (old : List (Vec ℕ Global)) (frames : Vec (Vec ℕ Global) Global) (fs : List (Vec ℕ Global))
-    → IsHeld h jobs old → h.frames ≡ map (λ v. v.items) frames.items → length fs ≡ length frames.items → count ≤ length frames.items → AreFilled h.to count (map (λ v. v.items) fs) → All (Holds h.to) fs
-    → IsHeld (record h { first = first; count = count; frames = map (λ v. v.items) (with_items frames fs).items }) jobs (with_items frames fs).items
+    → HasFrames h jobs old → h.frames ≡ map (λ v. v.items) frames.items → length fs ≡ length frames.items → count ≤ length frames.items → AreFilled h.to count (map (λ v. v.items) fs) → All (Holds h.to) fs
+    → HasFrames (record h { first = first; count = count; frames = map (λ v. v.items) (with_items frames fs).items }) jobs (with_items frames fs).items
 held_again h jobs first count old frames fs held frames_are len within filled each =
     let same : (with_items frames fs).items ≡ fs = same_items frames fs len in
     let all : length (map (λ (v : Vec ℕ Global). v.items) (with_items frames fs).items) ≡ length frames.items = length-map (with_items frames fs).items (λ (v : Vec ℕ Global). v.items) ∙ ap length same ∙ len in
     let before : length h.frames ≡ length frames.items = ap length frames_are ∙ length-map frames.items (λ (v : Vec ℕ Global). v.items) in
     record {
-      volume = held.volume;
       jobs_are = held.jobs_are;
       room = let room = held.room in omega (arith, room, before, all);
       within = omega (arith, all, within);
@@ -124,10 +120,10 @@ held_in true false bytes e f = absurd (cc f)
 held_in false hi bytes e f = absurd (cc e)
 
 -- jobs that were read are ready
-ready_in : (m : Objects) (h : Held) (first last : ℕ) (fs : List (List ℕ)) → AreFilled h.to (last - first) fs → AreRead m h.dataset h.from h.to (cells_of h) first (last - first) fs
+ready_in : (readings : Readings) (h : Held) (first last : ℕ) (fs : List (List ℕ)) → AreFilled h.to (last - first) fs → AreRead readings h.to (cells_of h) first (last - first) fs
     → (job : ℕ) → first ≤ job → job < last
-    → ready_of (record h { first = first; count = last - first; frames = fs }) job ≡ Some (raw_of h m job)
-ready_in m h first last fs filled read job low high =
+    → ready_of (record h { first = first; count = last - first; frames = fs }) job ≡ Some (readings.raw (cell_of (cells_of h) job))
+ready_in readings h first last fs filled read job low high =
     let place : first + (job - first) ≡ job = omega arith in
     let cell : List ℕ = cell_of (cells_of h) job in
     let frame : List ℕ = slice_index_or fs (job - first) [] in
@@ -137,17 +133,16 @@ ready_in m h first last fs filled read job low high =
     let hi : nat_lt job (first + (last - first)) ≡ true = grind (arith, nat_tests) in
     held_in (nat_le first job) (nat_lt job (first + (last - first))) (front (raw_size h.to cell) frame) lo hi
     ∙ ap Some (take-append-le (raw_size h.to cell) frame (replicate (raw_size h.to cell) 0) (omega (arith, long, short))
-    ∙ subst (λ j. take (raw_size h.to (cell_of (cells_of h) j)) frame ≡ copied_raw m h.dataset h.from h.to (cell_of (cells_of h) j)) place (read.bytes (job - first) (omega arith)))
+    ∙ subst (λ j. take (raw_size h.to (cell_of (cells_of h) j)) frame ≡ readings.raw (cell_of (cells_of h) j)) place (read.bytes (job - first) (omega arith)))
 
-pub ready_held : (o : Option Objects) (h old : Held) (cells : List (List ℕ)) (first last : ℕ) (fs fr : List (List ℕ)) → h ≡ old → cells ≡ cells_of h → fr ≡ fs → AreFilled h.to (last - first) fs
-    → IfSome o (λ m. ReadsJobs (Ok tt) m h.dataset h.from h.to cells first (last - first) fs)
+pub ready_held : (o : Option Objects) (readings : Objects → Readings) (h : Held) (cells : List (List ℕ)) (first last : ℕ) (fs fr : List (List ℕ)) → cells ≡ cells_of h → fr ≡ fs → AreFilled h.to (last - first) fs
+    → IfSome o (λ m. ReadsAll (Ok tt) (readings m) h.to cells first (last - first) fs)
     → IfSome o (λ m. (job : ℕ) → first ≤ job → job < last
-    → ready_of (record h { first = first; count = last - first; frames = fr }) job ≡ Some (raw_of old m job))
-ready_held None h old cells first last fs fr e is same filled read = tt
-ready_held (Some m) h old cells first last fs fr e is same filled read = λ job low high.
+    → ready_of (record h { first = first; count = last - first; frames = fr }) job ≡ Some ((readings m).raw (cell_of (cells_of h) job)))
+ready_held None readings h cells first last fs fr is same filled read = tt
+ready_held (Some m) readings h cells first last fs fr is same filled read = λ job low high.
     ap (λ xs. ready_of (record h { first = first; count = last - first; frames = xs }) job) same
-    ∙ ready_in m h first last fs filled (subst (λ cs. AreRead m h.dataset h.from h.to cs first (last - first) fs) is read) job low high
-    ∙ ap (λ x. Some (raw_of x m job)) e
+    ∙ ready_in (readings m) h first last fs filled (subst (λ cs. AreRead (readings m) h.to cs first (last - first) fs) is read) job low high
 
 -- and those from one number up to another are some
 pub ready_some : (h : Held) (first last : ℕ) (fr : List (List ℕ)) (job : ℕ) → first ≤ job → job < last

@@ -84,41 +84,60 @@ IsFilled to frame = length frame ≡ first_bytes to.width to.channels to.size to
 abbrev pub AreFilled : Scale → ℕ → List Bytes → Type 0
 AreFilled to count frames = (k : ℕ) → k < count → IsFilled to (slice_index_or frames k [])
 
--- both scales are of one volume, the jobs are those of its cells, there is a frame for each job that is prepared at once, and those of the jobs
--- that are prepared are filled
-pub record IsHeld (h : Held) (jobs : List Job) (frames : List (Vec ℕ Global)) : Type 0 where
-  pub volume : AreOfOneVolume h.from h.to
+-- the jobs are those of the cells, there is a frame for each job that is prepared at once, and those of the jobs that are prepared are filled
+pub record HasFrames (h : Held) (jobs : List Job) (frames : List (Vec ℕ Global)) : Type 0 where
   pub jobs_are : jobs ≡ jobs_of h.to (cells_of h)
   pub room : min (window_of h.to) (length (cells_of h)) ≤ length h.frames
   pub within : h.count ≤ length h.frames
   pub filled : AreFilled h.to h.count h.frames
   pub each : All (Holds h.to) frames
 
+-- and both scales are of one volume
+pub record IsHeld (h : Held) (jobs : List Job) (frames : List (Vec ℕ Global)) : Type 0 where
+  pub volume : AreOfOneVolume h.from h.to
+  pub held : HasFrames h jobs frames
+
+-- what each cell is read as: its first fault, if any, and its raw bytes where it has none
+pub record Readings : Type 0 where
+  pub fault : Cell → Option (Cell × Fault)
+  pub raw : Cell → Bytes
+
 -- reading a job: its raw bytes, or its first fault
-abbrev pub ReadsJob : Result ⊤ PrepareFault → Objects → Name → Scale → Scale → Cell → Bytes → Type 0
-ReadsJob (Ok done) m dataset from to cell out = (first_fault m dataset from (cell_box to cell) ≡ None) ×
-    (out ≡ copied_raw m dataset from to cell)
-ReadsJob (Err (Damaged at fault)) m dataset from to cell out =
-    first_fault m dataset from (cell_box to cell) ≡ Some (at, fault)
-ReadsJob (Err StoreFault) m dataset from to cell out = Unit {0}
+abbrev pub Reads : Result ⊤ PrepareFault → Readings → Cell → Bytes → Type 0
+Reads (Ok done) readings cell out = (readings.fault cell ≡ None) × (out ≡ readings.raw cell)
+Reads (Err (Damaged at fault)) readings cell out = readings.fault cell ≡ Some (at, fault)
+Reads (Err StoreFault) readings cell out = Unit {0}
 
 -- the first fault of so many jobs, from a number on
-abbrev pub first_of : Objects → Name → Scale → Scale → List Cell → ℕ → ℕ → Option (Cell × Fault)
-first_of m dataset from to cells first count = first_some
-    (map (λ job. first_fault m dataset from (cell_box to (cell_of cells job))) (range_with_len first count))
+abbrev pub first_of : Readings → List Cell → ℕ → ℕ → Option (Cell × Fault)
+first_of readings cells first count =
+    first_some (map (λ job. readings.fault (cell_of cells job)) (range_with_len first count))
 
 -- jobs are read: none has a fault, and each frame has its job's raw bytes
-pub record AreRead (m : Objects) (dataset : Name) (from to : Scale) (cells : List Cell) (first count : ℕ)
+pub record AreRead (readings : Readings) (to : Scale) (cells : List Cell) (first count : ℕ)
     (frames : List Bytes) : Type 0 where
-  pub sound : first_of m dataset from to cells first count ≡ None
+  pub sound : first_of readings cells first count ≡ None
   pub bytes : (k : ℕ) → k < count → take (raw_size to (cell_of cells (first + k)))
-      (slice_index_or frames k []) ≡ copied_raw m dataset from to (cell_of cells (first + k))
+      (slice_index_or frames k []) ≡ readings.raw (cell_of cells (first + k))
 
 -- reading jobs: all of them, or the first fault
+abbrev pub ReadsAll : Result ⊤ PrepareFault → Readings → Scale → List Cell → ℕ → ℕ → List Bytes → Type 0
+ReadsAll (Ok done) readings to cells first count frames = AreRead readings to cells first count frames
+ReadsAll (Err (Damaged at fault)) readings to cells first count frames =
+    first_of readings cells first count ≡ Some (at, fault)
+ReadsAll (Err StoreFault) readings to cells first count frames = Unit {0}
+
+-- a copy reads the source's values in the box of the target's cell
+abbrev pub copies_of : Objects → Name → Scale → Scale → Readings
+copies_of m dataset from to = record {
+  fault = λ cell. first_fault m dataset from (cell_box to cell);
+  raw = copied_raw m dataset from to;
+}
+
+abbrev pub ReadsJob : Result ⊤ PrepareFault → Objects → Name → Scale → Scale → Cell → Bytes → Type 0
+ReadsJob result m dataset from to cell out = Reads result (copies_of m dataset from to) cell out
+
 abbrev pub ReadsJobs : Result ⊤ PrepareFault → Objects → Name → Scale → Scale → List Cell → ℕ → ℕ →
     List Bytes → Type 0
-ReadsJobs (Ok done) m dataset from to cells first count frames =
-    AreRead m dataset from to cells first count frames
-ReadsJobs (Err (Damaged at fault)) m dataset from to cells first count frames =
-    first_of m dataset from to cells first count ≡ Some (at, fault)
-ReadsJobs (Err StoreFault) m dataset from to cells first count frames = Unit {0}
+ReadsJobs result m dataset from to cells first count frames =
+    ReadsAll result (copies_of m dataset from to) to cells first count frames

@@ -20,9 +20,9 @@ use vol_base::{Name, OutOfMemory, Store, StoreRefusal};
 use vol_spec::Scale;
 use write_plan::{Chunks, JobList, PrepareFault, window};
 
-// So many frames, each with room for the values of each cell of a scale, and with no bytes yet. So a frame's
-// memory isn't touched before it is filled.
-fn reserve_frames(alloc: Global, scale: &Scale, count: u64) -> Result<Vec<Vec<u8>>, AllocError>
+/// So many frames, each with room for the values of each cell of a scale, and with no bytes yet. So a frame's
+/// memory isn't touched before it is filled.
+pub fn reserve_frames(alloc: Global, scale: &Scale, count: u64) -> Result<Vec<Vec<u8>>, AllocError>
     ensures count { IfOk result (λ frames. length frames.items ≡ count) }
     ensures each { IfOk result (λ frames. All (Holds scale.now) frames.items) }
 {
@@ -195,7 +195,7 @@ impl Chunks for Copier {
         ensures draft { S.draft store.new ≡ S.draft store.old }
         ensures cause { HasCauseOf PrepareFault.StoreFault (S.faults store.old) (S.faults store.new) result }
 
-        // It asks for the rows of an index once, as long as each cell stands behind the one before it.
+        // In this call it asks for the rows of an index once, as long as each cell stands behind the one before it.
         ensures asked { IfSome (S.objects store.old) (λ m.
             S.asked store.new ≤ S.asked store.old + window_cost self.old m from (to - from)) }
     {

@@ -4,7 +4,7 @@ ghost use Rattle.vol_base.specs.Causes.{HasCause, HasCauseOf};
 ghost use Rattle.vol_base.specs.Outside.{OnlyReads};
 ghost use Rattle.vol_spec.specs.Chunks.{chunk_in};
 ghost use Rattle.vol_spec.specs.Copies.{AreOfOneVolume, copied_cells, is_copied, is_there as there};
-ghost use Rattle.vol_spec.specs.Grid.{IsCell, cell_box as box_of, meets};
+ghost use Rattle.vol_spec.specs.Grid.{Inside, IsCell, meets};
 ghost use Rattle.vol_spec.specs.StoredCells.{AreInOrder};
 ghost use Rattle.write_plan.specs.Pairs.{cell_count};
 ghost use Rattle.copier.specs.Marks.{AddsMarks, AreMarked};
@@ -13,7 +13,7 @@ use crate::marks::{list_marked, mark_cells};
 use chunk_grid::{cell_box, cells, count_cells, whole};
 use cutout::{CutFault, Found, Reader};
 use std::alloc::{AllocError, Global};
-use vol_base::{Failed, Source, StoreRefusal};
+use vol_base::{Box3, Failed, Source, StoreRefusal};
 use vol_spec::Scale;
 
 // Whether the source has something of a cell: a chunk, or a fault.
@@ -35,22 +35,24 @@ fn is_there<S: Source>(reader: &mut Reader, store: &mut S, cell: [u64; 3]) -> Re
     }
 }
 
-// Marks the cells of the target that the box of a cell of the source meets, if it has something of it.
-fn mark_source<S: Source>(
+/// Marks the cells of the target that meet a box, if the source has a chunk or a fault of a cell.
+///
+/// # Errors
+/// `Failed` only where the store failed.
+pub fn mark_source<S: Source>(
     reader: &mut Reader,
     store: &mut S,
-    from: &Scale,
-    to: &Scale,
     cell: [u64; 3],
+    to: &Scale,
+    part: &Box3,
     marks: &mut [bool],
 ) -> Result<(), Failed>
-    requires source { reader.old.scale ≡ from.now }
-    requires volume { AreOfOneVolume from.now to.now }
+    requires cell { IsCell reader.old.scale cell }
     requires few { cell_count to.now ≤ 2 ^ 22 }
     requires len { length marks.old ≡ cell_count to.now }
-    requires cell { IsCell from.now cell }
+    requires inside { Inside to.now part.now }
     ensures marks { OnOk result (IfSome (S.objects store.old) (λ m. AddsMarks to.now
-        (λ c. there (chunk_in m reader.old.dataset from.now cell) && meets to.now (box_of from.now cell) c)
+        (λ c. there (chunk_in m reader.old.dataset reader.old.scale cell) && meets to.now part.now c)
         marks.old marks.new)) }
     ensures same { reader.new ≡ reader.old }
     ensures kept { OnlyReads (S.objects store.old) (S.objects store.new) (S.draft store.old)
@@ -61,7 +63,7 @@ fn mark_source<S: Source>(
         Err(fault) => Err(fault),
         Ok(false) => Ok(()),
         Ok(true) => {
-            mark_cells(to, &cell_box(from, cell), marks);
+            mark_cells(to, part, marks);
             Ok(())
         }
     }
@@ -88,7 +90,7 @@ fn mark_copied<S: Source>(
     ensures cause { HasCause (S.faults store.old) (S.faults store.new) result }
 {
     for cell in cells(from, &whole(from)) {
-        match mark_source(reader, store, from, to, cell, marks) {
+        match mark_source(reader, store, cell, to, &cell_box(from, cell), marks) {
             Ok(()) => {}
             Err(fault) => return Err(fault),
         }
@@ -96,8 +98,8 @@ fn mark_copied<S: Source>(
     Ok(())
 }
 
-// So many marks, of which none is set.
-fn reserve_marks(alloc: Global, count: usize) -> Result<Vec<bool>, AllocError>
+/// So many marks, of which none is set.
+pub fn reserve_marks(alloc: Global, count: usize) -> Result<Vec<bool>, AllocError>
     ensures { IfOk result (λ marks. marks.items ≡ replicate count false) }
 {
     vec![in alloc; false; count]

@@ -8,4 +8,7 @@ mod reading;
 #[cfg(test)]
 mod tests;
 
-pub use copier::Copier;
+pub use copier::{Copier, reserve_frames};
+pub use found::{mark_source, reserve_marks};
+pub use marks::list_marked;
+pub use reading::{fill_up, values_len};

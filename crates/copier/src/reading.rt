@@ -49,8 +49,8 @@ fn read_job<S: Source>(
     }
 }
 
-// How many bytes the values of a cell have.
-fn values_len(scale: &Scale, cell: [u64; 3]) -> usize
+/// How many bytes the values of a cell have.
+pub fn values_len(scale: &Scale, cell: [u64; 3]) -> usize
     requires { IsCell scale.now cell }
     ensures { result ≡ raw_size scale.now cell }
 {
@@ -87,8 +87,8 @@ fn read_into<S: Source>(
     read_job(reader, store, to, cell, &mut frame[..len])
 }
 
-// Fills a frame up with zeros, as far as it isn't yet. So its memory is touched the first time that it is used.
-fn fill_up(scale: &Scale, frame: &mut Vec<u8>)
+/// Fills a frame up with zeros, as far as it isn't yet. So its memory is touched the first time that it is used.
+pub fn fill_up(scale: &Scale, frame: &mut Vec<u8>)
     requires { Holds scale.now frame.old }
     ensures filled { IsFilled scale.now frame.new.items }
     ensures room { Holds scale.now frame.new }

@@ -1,7 +1,7 @@
 //! Rounds of a scale's jobs: their chunks are encoded by workers, and stored afterwards in the jobs' order.
 ghost use Rattle.std.specs.Prelude.{◌≡◌, ◌≢◌, ◌-◌, ◌*◌, ◌/◌, ◌≤◌, ◌<◌, ◌^◌, IfOk, max, min};
 ghost use Rattle.encode_round.specs.Serving.{ArePrepared};
-ghost use Rattle.shard_writer.specs.Serving.{HoldsJobs, ServesRounds, chunk_at, round_size};
+ghost use Rattle.shard_writer.specs.Serving.{HoldsJobs, ServesRounds, chunk_at, prepared_bytes, prepared_size, round_size};
 ghost use Rattle.vol_spec.specs.Limits.{first_bytes};
 ghost use Rattle.write_plan.specs.Jobs.{frame_len, window_of};
 
@@ -56,11 +56,16 @@ pub(crate) fn count_workers(scale: &Scale, workers: u32) -> u32
 // The bytes of the frames of several workers, where two frames for each do not have more.
 const ROOM: u64 = 1 << 27;
 
-// How many chunks of a scale have room in these bytes.
-fn count_in_room(scale: &Scale) -> u64
-    ensures { result ≡ 2 ^ 27 / frame_len scale.now }
+// The bytes of the frames of jobs that are prepared at once, of raw chunks and of others, where a round does not have more.
+const RAW_PREPARED: u64 = 1 << 20;
+
+const CODED_PREPARED: u64 = 1 << 26;
+
+// How many chunks of a scale have room in so many bytes.
+fn count_in_room(scale: &Scale, bytes: u64) -> u64
+    ensures { result ≡ bytes / frame_len scale.now }
 {
-    ROOM / scale.raw_limit().max(scale.chunk_limit())
+    bytes / scale.raw_limit().max(scale.chunk_limit())
 }
 
 // How many jobs of a scale a round has at most. Where several workers encode them it is as many as have 128 MiB of
@@ -74,7 +79,7 @@ fn count_at_once(scale: &Scale, workers: u32) -> u64
     ensures most { result ≤ window_of scale.now }
 {
     if workers > 1 {
-        window(scale).min(count_in_room(scale).max(2 * workers as u64))
+        window(scale).min(count_in_room(scale, ROOM).max(2 * workers as u64))
     } else {
         1
     }
@@ -102,6 +107,31 @@ pub(crate) fn size_of(rounds: &Rounds) -> u64
     ensures { result ≡ round_size rounds.now }
 {
     rounds.bench.size()
+}
+
+// The bytes of the frames of jobs that are prepared at once: of raw chunks as few as lie close to the processor until they
+// are stored, and more of those whose encoding takes longer than reading them.
+fn find_room(scale: &Scale) -> u64
+    ensures { result ≡ prepared_bytes scale.now.encoding }
+{
+    match scale.encoding {
+        Encoding::Raw => RAW_PREPARED,
+        Encoding::Seg { .. } => CODED_PREPARED,
+    }
+}
+
+/// How many jobs are prepared at once at most: as many as have 1 MiB of frames, or 64 MiB where they are encoded, or as a
+/// round has if that is more, but no more than a window. So what a source looks up for many chunks, as an index of a
+/// minishard, it need not look up for each of them.
+pub(crate) fn count_prepared(scale: &Scale, rounds: &Rounds) -> u64
+    requires { ServesRounds scale.now rounds.now }
+    ensures value { result ≡ prepared_size scale.now rounds.now }
+    ensures some { 0 < result }
+    ensures most { result ≤ window_of scale.now }
+{
+    window(scale)
+        .min(count_in_room(scale, find_room(scale)))
+        .max(size_of(rounds))
 }
 
 /// Encodes the chunks of the jobs from one number up to, not with, another, which are prepared, in one round.

@@ -1,6 +1,8 @@
 //! Updates over stand-ins in memory. What each stores and answers was worked out by hand.
 
+mod crew;
 mod failing;
+mod reads;
 mod rows;
 mod shards;
 
@@ -12,7 +14,7 @@ use std::process::Abort;
 use std::sync::Wait;
 use std::test::Fail;
 use std::thread::Threads;
-use vol_base::{FreeGate, MemoryFeed, MemoryOutlet, MemoryStore};
+use vol_base::{FreeGate, Gate, MemoryFeed, MemoryOutlet, MemoryStore};
 
 // The begin and the size of a box on the three axes, and the bytes of its values.
 type Write<'a> = ([i64; 3], [u64; 3], &'a [u8]);
@@ -99,6 +101,19 @@ fn stream_of(alloc: Global, row: &Row) -> Result<Vec<u8>, AllocError> {
     Ok(bytes)
 }
 
+// The status of an update by a crew.
+fn call_crew<R: Threads + Wait + Sync, G: Gate + Sync>(
+    crew: &Crew<R, G>,
+    store: &mut MemoryStore,
+    feed: &mut MemoryFeed,
+    out: &mut MemoryOutlet,
+    err: &mut MemoryOutlet,
+) -> Result<Status, Fail> {
+    let dataset = name_of("d")?;
+    let key = name_of("s")?;
+    Ok(run_update(crew, store, feed, out, err, &dataset, &key))
+}
+
 // The status of an update.
 fn call<R: Threads + Wait + Sync>(
     rt: &R,
@@ -109,10 +124,8 @@ fn call<R: Threads + Wait + Sync>(
     err: &mut MemoryOutlet,
     workers: u32,
 ) -> Result<Status, Fail> {
-    let dataset = name_of("d")?;
-    let key = name_of("s")?;
     let crew = Crew::of(rt, alloc, workers, &FreeGate);
-    Ok(run_update(&crew, store, feed, out, err, &dataset, &key))
+    call_crew(&crew, store, feed, out, err)
 }
 
 // A row, by so many workers, while calls fail.

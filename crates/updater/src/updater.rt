@@ -106,7 +106,7 @@ impl Chunks for Updater {
         ensures draft { S.draft store.new ≡ S.draft store.old }
         ensures cause { HasCauseOf PrepareFault.StoreFault (S.faults store.old) (S.faults store.new) result }
 
-        // It asks for the rows of an index once, as long as each cell stands behind the one before it.
+        // In this call it asks for the rows of an index once, as long as each cell stands behind the one before it.
         ensures asked { IfSome (S.objects store.old) (λ m.
             S.asked store.new ≤ S.asked store.old + window_cost self.old.held m from (to - from)) }
     {

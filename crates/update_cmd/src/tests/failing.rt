@@ -9,9 +9,9 @@ use std::sync::Wait;
 use std::test::Fail;
 use std::thread::Threads;
 
-// How many new objects stand where call k of the store fails: the document is read, and each old chunk is read and the new one
-// begun, appended to and finished.
-const NEW_ONES: [usize; 13] = [0, 0, 0, 0, 0, 1, 1, 1, 1, 2, 2, 2, 2];
+// How many new objects stand where call k of the store fails: the document is read, and the three old chunks, and each new one
+// is begun, appended to and finished.
+const NEW_ONES: [usize; 13] = [0, 0, 0, 0, 0, 0, 0, 1, 1, 1, 2, 2, 2];
 
 // Three cells are updated while a call of the store fails: the first objects are new, the others as before.
 fn check_points<R: Threads + Wait + Abort + Sync>(

@@ -150,7 +150,7 @@ const IN_ORDER: &[Row] = &[
     },
 ];
 
-// A damaged chunk that a write meets, in part or whole. Those before it are put.
+// A damaged chunk that a write meets, in part or whole. It is found before any of the chunks that are read with it is put.
 const DAMAGED: &[Row] = &[
     Row {
         before: &[("d/s/0-2_0-2_0-1", &[1, 2, 3])],
@@ -171,7 +171,7 @@ const DAMAGED: &[Row] = &[
         before: &[("d/s/0-1_0-1_0-1", &[7]), ("d/s/1-2_0-1_0-1", &[8, 8])],
         status: Status::Damaged,
         line: "damaged 1,0,0: chunk length 2 wanted 1\n",
-        after: &[("d/s/0-1_0-1_0-1", &[1]), ("d/s/1-2_0-1_0-1", &[8, 8])],
+        after: &[("d/s/0-1_0-1_0-1", &[7]), ("d/s/1-2_0-1_0-1", &[8, 8])],
         ..THREE
     },
 ];
@@ -181,7 +181,7 @@ fn refuses_updates(rt: HostRuntime) -> Result<(), Fail> {
     let alloc = rt.alloc();
     check_rows(&rt, alloc, IN_ORDER, 1, 7)?;
     check_rows(&rt, alloc, DAMAGED, 1, 255)?;
-    check_rows(&rt, alloc, &DAMAGED[..2], 16, 255)
+    check_rows(&rt, alloc, DAMAGED, 16, 255)
 }
 
 // The stream of a write of so many voxels from the begin on, twice.

@@ -1,4 +1,4 @@
-use Rattle.std.proofs.Common.{◌∙◌, ◌&&◌, ap, arith, refl, subst, sym}
+use Rattle.std.proofs.Common.{◌∙◌, ap, arith, refl, subst, sym}
 use Rattle.std.specs.Prelude.{filter}
 use Rattle.std.specs.List.{list_any}
 use Rattle.std.proofs.lemmas.List.Elements.{All-contains}
@@ -9,6 +9,7 @@ use Rattle.vol_spec.proofs.Told.{from_told, in_told}
 use Rattle.chunk_grid.proofs.ListingSteps.{cells_in-IsCell}
 use Rattle.chunk_grid.proofs.Walked.{at_end, here, one_on}
 use Rattle.copier.specs.Marks.{AddsMarks}
+use Rattle.copier.proofs.FoundSteps.{source_added, source_inside}
 use Rattle.copier.proofs.MarkSteps.{cells_whole, from_clear, inside_whole, no_source, source_more}
 use Rattle.copier.proofs.found.mark_copied.Goals as goal
 
@@ -24,13 +25,23 @@ loop-cell-init g c = record {
   later = omega arith;
 }
 
-pub mark_source-requires-clause-source : goal.mark_source-requires-clause-source
-mark_source-requires-clause-source g c = ap (λ r. r.scale) c.loop-cell.invariant.same ∙ c.requires.source
-
 pub mark_source-requires-clause-cell : goal.mark_source-requires-clause-cell
 mark_source-requires-clause-cell g c =
+    subst (λ s. IsCell s c.in-Some.cell) (sym (ap (λ r. r.scale) c.loop-cell.invariant.same ∙ c.requires.source))
+    (All-contains (IsCell c.args.from.now) (cells_in c.args.from.now (whole c.args.from.now)) c.in-Some.cell (cells_in-IsCell c.args.from.now (whole c.args.from.now))
+    (here c.loop-cell.yielded c.loop-cell.cell-iterator c.next.new.self (cells_in c.args.from.now (whole c.args.from.now)) c.in-Some.cell c.in-Some.ensures.steps c.loop-cell.invariant.left))
+
+pub cell_box-requires : goal.cell_box-requires
+cell_box-requires g c =
     All-contains (IsCell c.args.from.now) (cells_in c.args.from.now (whole c.args.from.now)) c.in-Some.cell (cells_in-IsCell c.args.from.now (whole c.args.from.now))
     (here c.loop-cell.yielded c.loop-cell.cell-iterator c.next.new.self (cells_in c.args.from.now (whole c.args.from.now)) c.in-Some.cell c.in-Some.ensures.steps c.loop-cell.invariant.left)
+
+pub mark_source-requires-clause-inside : goal.mark_source-requires-clause-inside
+mark_source-requires-clause-inside g c =
+    source_inside c.args.from.now c.args.to.now c.in-Some.cell c.cell_box.result c.requires.volume
+    (All-contains (IsCell c.args.from.now) (cells_in c.args.from.now (whole c.args.from.now)) c.in-Some.cell (cells_in-IsCell c.args.from.now (whole c.args.from.now))
+    (here c.loop-cell.yielded c.loop-cell.cell-iterator c.next.new.self (cells_in c.args.from.now (whole c.args.from.now)) c.in-Some.cell c.in-Some.ensures.steps c.loop-cell.invariant.left))
+    c.cell_box.ensures.positions
 
 pub loop-cell-preserved : goal.loop-cell-preserved
 loop-cell-preserved g c = record {
@@ -38,8 +49,8 @@ loop-cell-preserved g c = record {
   marks = λ m told.
       source_more c.args.to.now (cell_box c.args.from.now) (λ source. is_there (chunk_in m c.args.reader.now.dataset c.args.from.now source)) c.loop-cell.yielded c.in-Some.cell c.args.marks.now c.loop-cell.marks
       c.mark_source.new.marks (c.loop-cell.invariant.marks m told)
-      (subst (λ r. AddsMarks c.args.to.now (λ cell. is_there (chunk_in m r.dataset c.args.from.now c.in-Some.cell) && meets c.args.to.now (cell_box c.args.from.now c.in-Some.cell) cell) c.loop-cell.marks c.mark_source.new.marks)
-      c.loop-cell.invariant.same (from_told _ _ m (c.loop-cell.invariant.kept.same_objects ∙ told) c.in-Ok.ensures.marks));
+      (source_added m c.args.reader.now.dataset c.loop-cell.reader.dataset c.loop-cell.reader.scale c.args.from.now c.args.to.now c.in-Some.cell c.cell_box.result (cell_box c.args.from.now c.in-Some.cell) c.loop-cell.marks
+      c.mark_source.new.marks (ap (λ r. r.dataset) c.loop-cell.invariant.same) (ap (λ r. r.scale) c.loop-cell.invariant.same ∙ c.requires.source) c.cell_box.ensures.positions (from_told _ _ m (c.loop-cell.invariant.kept.same_objects ∙ told) c.in-Ok.ensures.marks));
   same = c.mark_source.ensures.same ∙ c.loop-cell.invariant.same;
   kept = record {
     same_objects = c.mark_source.ensures.kept.same_objects ∙ c.loop-cell.invariant.kept.same_objects;

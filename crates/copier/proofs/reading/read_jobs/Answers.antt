@@ -8,7 +8,7 @@ use Rattle.vol_spec.proofs.Told.{from_told, in_told}
 use Rattle.cutout.specs.Kept.{KeepsIndex}
 use Rattle.cutout.specs.Opened.{Opened}
 use Rattle.write_plan.specs.Jobs.{cells_in}
-use Rattle.copier.specs.Held.{AreFilled, AreRead, ReadsJob}
+use Rattle.copier.specs.Held.{AreFilled, AreRead, ReadsJob, copies_of}
 use Rattle.copier.proofs.FrameSteps.{filled_more, holds_set, read_failed, read_more, read_none}
 use Rattle.cutout.proofs.RunSteps.{begun}
 use Rattle.copier.proofs.AskedSteps.{asked_job, asked_jobs, asked_refused}
@@ -41,7 +41,7 @@ loop-k-preserved g c =
       each = holds_set c.args.to.now c.loop-k.frames c.loop-k.k _ c.loop-k.invariant.each c.read_frame.ensures.room;
       frames = length-set c.loop-k.frames c.loop-k.k _ ∙ c.loop-k.invariant.frames;
       read = λ m told.
-          read_more m c.args.reader.now.opened.dataset c.args.reader.now.opened.scale c.args.to.now (cells_in c.args.jobs.now) c.args.first c.loop-k.k c.loop-k.frames _ c.get.result.cell here inside (c.loop-k.invariant.read m told)
+          read_more (copies_of m c.args.reader.now.opened.dataset c.args.reader.now.opened.scale c.args.to.now) c.args.to.now (cells_in c.args.jobs.now) c.args.first c.loop-k.k c.loop-k.frames _ c.get.result.cell here inside (c.loop-k.invariant.read m told)
           (subst (λ (r : Opened). ReadsJob (Ok tt) m r.dataset r.scale c.args.to.now c.get.result.cell (take (raw_size c.args.to.now c.get.result.cell) c.read_frame.new.frame.items)) c.loop-k.invariant.same
           (from_told _ _ m (c.loop-k.invariant.kept.same_objects ∙ told) c.in-Ok.ensures.read));
       same = c.read_frame.ensures.same ∙ c.loop-k.invariant.same;
@@ -61,7 +61,7 @@ loop-k-init g c = record {
   filled = λ k l. absurd (omega (arith, l));
   each = c.requires.each;
   frames = refl;
-  read = λ m told. read_none m c.args.reader.now.opened.dataset c.args.reader.now.opened.scale c.args.to.now (cells_in c.args.jobs.now) c.args.first _;
+  read = λ m told. read_none (copies_of m c.args.reader.now.opened.dataset c.args.reader.now.opened.scale c.args.to.now) c.args.to.now (cells_in c.args.jobs.now) c.args.first _;
   same = c.forget.ensures.same;
   keeps = c.forget.ensures.nothing _;
   run = λ m told. begun m c.args.reader.now.opened.dataset c.args.reader.now.opened.scale (g.S.Source.asked c.args.store.now) c.forget.new.self.shards;
@@ -74,7 +74,7 @@ returns-in-Err-clause-read g c =
     let number : c.args.first + c.loop-k.k < length c.args.jobs.now = omega (arith, c.requires.within, c.loop-k-test.true) in
     let here : c.get.result.cell ≡ cell_of (cells_in c.args.jobs.now) (c.args.first + c.loop-k.k) = ap (λ job. job.cell) c.get.ensures ∙ job_cell_at c.args.jobs.now (c.args.first + c.loop-k.k) number in
     in_told _ _ (λ m told.
-    read_failed m c.args.reader.now.opened.dataset c.args.reader.now.opened.scale c.args.to.now (cells_in c.args.jobs.now) c.args.first c.loop-k.k c.args.count (map (λ f. f.items) c.loop-k.frames) _ c.get.result.cell (take (raw_size c.args.to.now c.get.result.cell) c.read_frame.new.frame.items) c.in-Err.fault here c.loop-k-test.true
+    read_failed (copies_of m c.args.reader.now.opened.dataset c.args.reader.now.opened.scale c.args.to.now) c.args.to.now (cells_in c.args.jobs.now) c.args.first c.loop-k.k c.args.count (map (λ f. f.items) c.loop-k.frames) _ c.get.result.cell (take (raw_size c.args.to.now c.get.result.cell) c.read_frame.new.frame.items) c.in-Err.fault here c.loop-k-test.true
     (c.loop-k.invariant.read m told)
     (subst (λ (r : Opened). ReadsJob (Err c.in-Err.fault) m r.dataset r.scale c.args.to.now c.get.result.cell (take (raw_size c.args.to.now c.get.result.cell) c.read_frame.new.frame.items)) c.loop-k.invariant.same
     (from_told _ _ m (c.loop-k.invariant.kept.same_objects ∙ told) c.in-Err.ensures.read)))
@@ -85,7 +85,7 @@ returns-in-Err-clause-each g c = holds_set c.args.to.now c.loop-k.frames c.loop-
 pub returns-clause-read : goal.returns-clause-read
 returns-clause-read g c =
     let done : c.loop-k.k ≡ c.args.count = omega (arith, c.loop-k-test.false, c.loop-k.auto.k-end) in
-    in_told _ _ (λ m told. subst (λ n. AreRead m c.args.reader.now.opened.dataset c.args.reader.now.opened.scale c.args.to.now (cells_in c.args.jobs.now) c.args.first n (map (λ f. f.items) c.loop-k.frames)) done (c.loop-k.invariant.read m told))
+    in_told _ _ (λ m told. subst (λ n. AreRead (copies_of m c.args.reader.now.opened.dataset c.args.reader.now.opened.scale c.args.to.now) c.args.to.now (cells_in c.args.jobs.now) c.args.first n (map (λ f. f.items) c.loop-k.frames)) done (c.loop-k.invariant.read m told))
 
 pub returns-clause-filled : goal.returns-clause-filled
 returns-clause-filled g c =

@@ -4,7 +4,7 @@ use Rattle.vol_base.specs.Outside.{Objects, OnlyReads}
 use Rattle.cutout.specs.Kept.{KeepsIndex}
 use Rattle.cutout.specs.Runs.{HasRun}
 use Rattle.write_plan.specs.Jobs.{cells_in}
-use Rattle.copier.specs.Held.{AreFilled, AreRead, Holds}
+use Rattle.copier.specs.Held.{AreFilled, AreRead, Holds, copies_of}
 use Rattle.copier.specs.Sources.{sources}
 use Rattle.copier.proofs.reading.read_jobs.Given as goal
 
@@ -13,7 +13,7 @@ invariant-loop-k g l = record {
   filled : AreFilled l.to l.k (map (λ f. f.items) l.frames);
   each : All (Holds l.to) l.frames;
   frames : length l.frames ≡ length l.fn.frames;
-  read : (m : Objects) → g.S.Source.objects l.fn.store ≡ Some m → AreRead m l.fn.reader.opened.dataset l.fn.reader.opened.scale l.to (cells_in l.jobs) l.first l.k (map (λ f. f.items) l.frames);
+  read : (m : Objects) → g.S.Source.objects l.fn.store ≡ Some m → AreRead (copies_of m l.fn.reader.opened.dataset l.fn.reader.opened.scale l.to) l.to (cells_in l.jobs) l.first l.k (map (λ f. f.items) l.frames);
   same : l.reader.opened ≡ l.fn.reader.opened;
   keeps : KeepsIndex (g.S.Source.objects l.fn.store) l.reader;
   run : (m : Objects) → g.S.Source.objects l.fn.store ≡ Some m → HasRun m l.fn.reader.opened.dataset l.fn.reader.opened.scale (sources l.fn.reader.opened.scale l.to (cells_in l.jobs) l.first l.k) (g.S.Source.asked l.fn.store) (g.S.Source.asked l.store) l.reader.shards;

@@ -16,9 +16,12 @@ invariant_of-result c =
     let frames = c.in-Ok-reserve_frames.frames.items in
     subst (λ (r : Opened). IsHeld (holding r.dataset r.scale c.duplicate.result c.in-Ok-of.jobs 0 0 frames) c.in-Ok-of.jobs frames) (sym c.keeping.ensures)
     (subst (λ (s : Scale). IsHeld (holding c.in-Ok.reader.dataset c.in-Ok.reader.scale s c.in-Ok-of.jobs 0 0 frames) c.in-Ok-of.jobs frames) (sym c.duplicate.ensures)
-    (held_new c.in-Ok.reader.dataset c.in-Ok.reader.scale c.args.to.now c.args.cells.items c.in-Ok-of.jobs frames
-    (subst (λ s. AreOfOneVolume s c.args.to.now) (sym c.in-Ok.ensures.scale) c.requires.volume) c.requires.each c.in-Ok-of.ensures.jobs
-    (omega (arith, c.in-Ok-reserve_frames.ensures.count, c.min.ensures, c.window.ensures, c.len.ensures)) c.in-Ok-reserve_frames.ensures.each))
+    (record {
+      volume = subst (λ s. AreOfOneVolume s c.args.to.now) (sym c.in-Ok.ensures.scale) c.requires.volume;
+      held = held_new c.in-Ok.reader.dataset c.in-Ok.reader.scale c.args.to.now c.args.cells.items c.in-Ok-of.jobs frames
+          c.requires.each c.in-Ok-of.ensures.jobs
+          (omega (arith, c.in-Ok-reserve_frames.ensures.count, c.min.ensures, c.window.ensures, c.len.ensures)) c.in-Ok-reserve_frames.ensures.each;
+    }))
 
 pub returns-clause-jobs : goal.returns-clause-jobs
 returns-clause-jobs c =

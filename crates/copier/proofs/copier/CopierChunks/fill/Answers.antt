@@ -15,7 +15,7 @@ index-frame-requires c =
     let low = facts.0 in
     let high = facts.1 in
     let all = length-map c.self.inside.frames.items (λ f. f.items) in
-    let within = c.self.invariant.within in
+    let within = c.self.invariant.held.within in
     let ok = c.self.inside.frames.ok.0 in
     omega (arith, low, high, ok, within, all)
 
@@ -27,10 +27,10 @@ slice_bounds-copy_from_slice-end c =
     let low = facts.0 in
     let high = facts.1 in
     let all = length-map c.self.inside.frames.items (λ f. f.items) in
-    let within = c.self.invariant.within in
+    let within = c.self.invariant.held.within in
     let frame : slice_index_or h.frames (c.args.job - h.first) [] ≡ c.deref.result.now =
     get_or-map (λ f. f.items) c.self.inside.frames.items (c.args.job - c.self.inside.first) c.index-frame.result.now [] (omega (arith, low, high, all, within)) ∙ ap (λ v. v.items) (sym c.index-frame.ensures) ∙ sym c.deref.ensures.value in
-    let long : length c.args.raw.now ≤ length c.deref.result.now = frame_long h c.args.job (length c.args.raw.now) c.deref.result.now c.self.invariant.filled some frame in
+    let long : length c.args.raw.now ≤ length c.deref.result.now = frame_long h c.args.job (length c.args.raw.now) c.deref.result.now c.self.invariant.held.filled some frame in
     omega (arith, long, length-take (length c.args.raw.now) c.deref.result.now)
 
 pub copy_from_slice-requires : goal.copy_from_slice-requires
@@ -41,10 +41,10 @@ copy_from_slice-requires c =
     let low = facts.0 in
     let high = facts.1 in
     let all = length-map c.self.inside.frames.items (λ f. f.items) in
-    let within = c.self.invariant.within in
+    let within = c.self.invariant.held.within in
     let frame : slice_index_or h.frames (c.args.job - h.first) [] ≡ c.deref.result.now =
     get_or-map (λ f. f.items) c.self.inside.frames.items (c.args.job - c.self.inside.first) c.index-frame.result.now [] (omega (arith, low, high, all, within)) ∙ ap (λ v. v.items) (sym c.index-frame.ensures) ∙ sym c.deref.ensures.value in
-    let long : length c.args.raw.now ≤ length c.deref.result.now = frame_long h c.args.job (length c.args.raw.now) c.deref.result.now c.self.invariant.filled some frame in
+    let long : length c.args.raw.now ≤ length c.deref.result.now = frame_long h c.args.job (length c.args.raw.now) c.deref.result.now c.self.invariant.held.filled some frame in
     omega (arith, long, length-take (length c.args.raw.now) c.deref.result.now)
 
 pub returns : goal.returns
@@ -55,8 +55,8 @@ returns c =
     let low = facts.0 in
     let high = facts.1 in
     let all = length-map c.self.inside.frames.items (λ f. f.items) in
-    let within = c.self.invariant.within in
+    let within = c.self.invariant.held.within in
     let frame : slice_index_or h.frames (c.args.job - h.first) [] ≡ c.deref.result.now =
     get_or-map (λ f. f.items) c.self.inside.frames.items (c.args.job - c.self.inside.first) c.index-frame.result.now [] (omega (arith, low, high, all, within)) ∙ ap (λ v. v.items) (sym c.index-frame.ensures) ∙ sym c.deref.ensures.value in
-    let long : length c.args.raw.now ≤ length c.deref.result.now = frame_long h c.args.job (length c.args.raw.now) c.deref.result.now c.self.invariant.filled some frame in
+    let long : length c.args.raw.now ≤ length c.deref.result.now = frame_long h c.args.job (length c.args.raw.now) c.deref.result.now c.self.invariant.held.filled some frame in
     ap (λ x. ready_of x c.args.job) (sym c.self.view_is) ∙ ready_is h c.args.job (length c.args.raw.now) c.deref.result.now some frame long ∙ ap Some (sym c.copy_from_slice.ensures.after)

@@ -1,10 +1,10 @@
-use Rattle.std.proofs.Common.{◌-◌, ◌∙◌, ap, arith, sym, refl, length, map, subst, Ok, Err}
+use Rattle.std.proofs.Common.{◌≡◌, ◌≤◌, ◌<◌, ℕ, Some, IfSome, ◌-◌, ◌∙◌, ap, arith, sym, refl, length, map, subst, Ok, Err}
 use Rattle.std.specs.Prelude.{All}
 use Rattle.std.specs.Vec.{with_items}
 use Rattle.std.proofs.lemmas.List.{length-map}
 use Rattle.cutout.specs.Opened.{Opened}
-use Rattle.write_plan.specs.Jobs.{cells_in, window_of}
-use Rattle.copier.specs.Held.{Held, Holds, IsApart, IsHeld, cells_of, holding, work_of}
+use Rattle.write_plan.specs.Jobs.{Prepares, cells_in, jobs_fault, window_of}
+use Rattle.copier.specs.Held.{Held, Holds, IsApart, IsHeld, cells_of, copies_of, holding, raw_of, ready_of, work_of}
 use Rattle.copier.proofs.AskedSteps.{asked_held}
 use Rattle.copier.proofs.HeldSteps.{all_cells, held_again, held_len, held_of, prepare_of, ready_held, ready_some, same_items}
 use Rattle.copier.proofs.copier.CopierChunks.prepare.Goals as goal
@@ -12,23 +12,23 @@ use Rattle.copier.proofs.copier.CopierChunks.prepare.Goals as goal
 pub read_jobs-requires-clause-cells : goal.read_jobs-requires-clause-cells
 read_jobs-requires-clause-cells g c =
     let h : Held = holding c.self.inside.reader.opened.dataset c.self.inside.reader.opened.scale c.self.inside.to c.self.inside.jobs c.self.inside.first c.self.inside.count c.self.inside.frames.items in
-    all_cells h c.self.inside.jobs c.self.invariant.jobs_are
+    all_cells h c.self.inside.jobs c.self.invariant.held.jobs_are
 
 pub read_jobs-requires-clause-each : goal.read_jobs-requires-clause-each
-read_jobs-requires-clause-each g c = subst (All (Holds c.self.inside.to)) (sym c.deref_mut.ensures.value) c.self.invariant.each
+read_jobs-requires-clause-each g c = subst (All (Holds c.self.inside.to)) (sym c.deref_mut.ensures.value) c.self.invariant.held.each
 
 pub read_jobs-requires-clause-within : goal.read_jobs-requires-clause-within
 read_jobs-requires-clause-within g c =
     let h : Held = holding c.self.inside.reader.opened.dataset c.self.inside.reader.opened.scale c.self.inside.to c.self.inside.jobs c.self.inside.first c.self.inside.count c.self.inside.frames.items in
     let view = ap (λ x. length (cells_of x)) c.self.view_is in
-    let len = held_len h c.self.inside.jobs c.self.invariant.jobs_are in
+    let len = held_len h c.self.inside.jobs c.self.invariant.held.jobs_are in
     omega (arith, view, len, c.requires.within, c.requires.order)
 
 pub read_jobs-requires-clause-room : goal.read_jobs-requires-clause-room
 read_jobs-requires-clause-room g c =
     let view = ap (λ x. length (cells_of x)) c.self.view_is in
     let window = ap (λ x. window_of x.to) c.self.view_is in
-    let room = c.self.invariant.room in
+    let room = c.self.invariant.held.room in
     let all = length-map c.self.inside.frames.items (λ f. f.items) in
     let frames = ap length c.deref_mut.ensures.value in
     omega (arith, view, window, room, all, frames, c.requires.within, c.requires.window)
@@ -38,31 +38,41 @@ invariant_of-self g c =
     let h : Held = holding c.self.inside.reader.opened.dataset c.self.inside.reader.opened.scale c.self.inside.to c.self.inside.jobs c.self.inside.first c.self.inside.count c.self.inside.frames.items in
     let view = ap (λ x. length (cells_of x)) c.self.view_is in
     let window = ap (λ x. window_of x.to) c.self.view_is in
-    let room = c.self.invariant.room in
+    let room = c.self.invariant.held.room in
     let all = length-map c.self.inside.frames.items (λ f. f.items) in
     subst (λ (r : Opened). IsHeld (holding r.dataset r.scale c.self.inside.to c.self.inside.jobs c.args.from (c.args.to - c.args.from) (with_items c.self.inside.frames c.read_jobs.new.frames).items) c.self.inside.jobs (with_items c.self.inside.frames c.read_jobs.new.frames).items)
     (sym c.read_jobs.ensures.same)
-    (held_again h c.self.inside.jobs c.args.from (c.args.to - c.args.from) c.self.inside.frames.items c.self.inside.frames c.read_jobs.new.frames c.self.invariant refl
-    (c.read_jobs.ensures.frames ∙ ap length c.deref_mut.ensures.value)
-    (omega (arith, view, window, room, all, c.requires.within, c.requires.window)) c.in-Ok.ensures.filled c.read_jobs.ensures.each)
+    (record {
+      volume = c.self.invariant.volume;
+      held =
+          held_again h c.self.inside.jobs c.args.from (c.args.to - c.args.from) c.self.inside.frames.items c.self.inside.frames c.read_jobs.new.frames c.self.invariant.held refl
+          (c.read_jobs.ensures.frames ∙ ap length c.deref_mut.ensures.value)
+          (omega (arith, view, window, room, all, c.requires.within, c.requires.window)) c.in-Ok.ensures.filled c.read_jobs.ensures.each;
+    })
 
 pub invariant_of-self-in-Err : goal.invariant_of-self-in-Err
 invariant_of-self-in-Err g c =
     let h : Held = holding c.self.inside.reader.opened.dataset c.self.inside.reader.opened.scale c.self.inside.to c.self.inside.jobs c.self.inside.first c.self.inside.count c.self.inside.frames.items in
     subst (λ (r : Opened). IsHeld (holding r.dataset r.scale c.self.inside.to c.self.inside.jobs c.self.inside.first 0 (with_items c.self.inside.frames c.read_jobs.new.frames).items) c.self.inside.jobs (with_items c.self.inside.frames c.read_jobs.new.frames).items)
     (sym c.read_jobs.ensures.same)
-    (held_again h c.self.inside.jobs c.self.inside.first 0 c.self.inside.frames.items c.self.inside.frames c.read_jobs.new.frames c.self.invariant refl
-    (c.read_jobs.ensures.frames ∙ ap length c.deref_mut.ensures.value) (omega arith) (λ k l. absurd (omega (arith, l))) c.read_jobs.ensures.each)
+    (record {
+      volume = c.self.invariant.volume;
+      held =
+          held_again h c.self.inside.jobs c.self.inside.first 0 c.self.inside.frames.items c.self.inside.frames c.read_jobs.new.frames c.self.invariant.held refl
+          (c.read_jobs.ensures.frames ∙ ap length c.deref_mut.ensures.value) (omega arith) (λ k l. absurd (omega (arith, l))) c.read_jobs.ensures.each;
+    })
 
 pub returns-in-Err-clause-answer : goal.returns-in-Err-clause-answer
 returns-in-Err-clause-answer g c =
     let h : Held = holding c.self.inside.reader.opened.dataset c.self.inside.reader.opened.scale c.self.inside.to c.self.inside.jobs c.self.inside.first c.self.inside.count c.self.inside.frames.items in
-    prepare_of _ (Err c.in-Err.fault) h c.args.self.now (cells_in c.self.inside.jobs) c.args.from (c.args.to - c.args.from) _ c.self.view_is (held_of h c.self.inside.jobs c.self.invariant.jobs_are) c.in-Err.ensures.read
+    subst (λ x. IfSome (g.S.Source.objects c.args.store.now) (λ m. Prepares (Err c.in-Err.fault) (jobs_fault (work_of x) m c.args.from (c.args.to - c.args.from)))) c.self.view_is
+    (prepare_of (g.S.Source.objects c.args.store.now) (Err c.in-Err.fault) (λ m. copies_of m h.dataset h.from h.to) h (cells_in c.self.inside.jobs) c.args.from (c.args.to - c.args.from) _ (held_of h c.self.inside.jobs c.self.invariant.held.jobs_are) c.in-Err.ensures.read)
 
 pub returns-in-Ok-clause-answer : goal.returns-in-Ok-clause-answer
 returns-in-Ok-clause-answer g c =
     let h : Held = holding c.self.inside.reader.opened.dataset c.self.inside.reader.opened.scale c.self.inside.to c.self.inside.jobs c.self.inside.first c.self.inside.count c.self.inside.frames.items in
-    prepare_of _ (Ok tt) h c.args.self.now (cells_in c.self.inside.jobs) c.args.from (c.args.to - c.args.from) _ c.self.view_is (held_of h c.self.inside.jobs c.self.invariant.jobs_are) c.in-Ok.ensures.read
+    subst (λ x. IfSome (g.S.Source.objects c.args.store.now) (λ m. Prepares (Ok tt) (jobs_fault (work_of x) m c.args.from (c.args.to - c.args.from)))) c.self.view_is
+    (prepare_of (g.S.Source.objects c.args.store.now) (Ok tt) (λ m. copies_of m h.dataset h.from h.to) h (cells_in c.self.inside.jobs) c.args.from (c.args.to - c.args.from) _ (held_of h c.self.inside.jobs c.self.invariant.held.jobs_are) c.in-Ok.ensures.read)
 
 pub returns-in-Ok-clause-prepared : goal.returns-in-Ok-clause-prepared
 returns-in-Ok-clause-prepared g c job low high =
@@ -73,8 +83,10 @@ pub returns-in-Ok-clause-ready : goal.returns-in-Ok-clause-ready
 returns-in-Ok-clause-ready g c =
     let h : Held = holding c.self.inside.reader.opened.dataset c.self.inside.reader.opened.scale c.self.inside.to c.self.inside.jobs c.self.inside.first c.self.inside.count c.self.inside.frames.items in
     let len = c.read_jobs.ensures.frames ∙ ap length c.deref_mut.ensures.value in
-    ready_held _ h c.args.self.now (cells_in c.self.inside.jobs) c.args.from c.args.to (map (λ f. f.items) c.read_jobs.new.frames) _ c.self.view_is (held_of h c.self.inside.jobs c.self.invariant.jobs_are)
-    (ap (map (λ f. f.items)) (same_items c.self.inside.frames c.read_jobs.new.frames len)) c.in-Ok.ensures.filled c.in-Ok.ensures.read
+    subst (λ x. IfSome (g.S.Source.objects c.args.store.now) (λ m. (job : ℕ) → c.args.from ≤ job → job < c.args.to
+    → ready_of (record h { first = c.args.from; count = c.args.to - c.args.from; frames = map (λ f. f.items) (with_items c.self.inside.frames c.read_jobs.new.frames).items }) job ≡ Some (raw_of x m job))) c.self.view_is
+    (ready_held (g.S.Source.objects c.args.store.now) (λ m. copies_of m h.dataset h.from h.to) h (cells_in c.self.inside.jobs) c.args.from c.args.to (map (λ f. f.items) c.read_jobs.new.frames) _ (held_of h c.self.inside.jobs c.self.invariant.held.jobs_are)
+    (ap (map (λ f. f.items)) (same_items c.self.inside.frames c.read_jobs.new.frames len)) c.in-Ok.ensures.filled c.in-Ok.ensures.read)
 
 pub returns-in-Ok-clause-work : goal.returns-in-Ok-clause-work
 returns-in-Ok-clause-work g c =
@@ -105,9 +117,9 @@ returns-in-Err-clause-sure g c sure = absurd sure
 pub returns-in-Ok-clause-asked : goal.returns-in-Ok-clause-asked
 returns-in-Ok-clause-asked g c =
     let h : Held = holding c.self.inside.reader.opened.dataset c.self.inside.reader.opened.scale c.self.inside.to c.self.inside.jobs c.self.inside.first c.self.inside.count c.self.inside.frames.items in
-    asked_held (g.S.Source.objects c.args.store.now) h c.args.self.now (cells_in c.self.inside.jobs) c.args.from (c.args.to - c.args.from) _ _ c.self.view_is (held_of h c.self.inside.jobs c.self.invariant.jobs_are) c.read_jobs.ensures.asked
+    asked_held (g.S.Source.objects c.args.store.now) h c.args.self.now (cells_in c.self.inside.jobs) c.args.from (c.args.to - c.args.from) _ _ c.self.view_is (held_of h c.self.inside.jobs c.self.invariant.held.jobs_are) c.read_jobs.ensures.asked
 
 pub returns-in-Err-clause-asked : goal.returns-in-Err-clause-asked
 returns-in-Err-clause-asked g c =
     let h : Held = holding c.self.inside.reader.opened.dataset c.self.inside.reader.opened.scale c.self.inside.to c.self.inside.jobs c.self.inside.first c.self.inside.count c.self.inside.frames.items in
-    asked_held (g.S.Source.objects c.args.store.now) h c.args.self.now (cells_in c.self.inside.jobs) c.args.from (c.args.to - c.args.from) _ _ c.self.view_is (held_of h c.self.inside.jobs c.self.invariant.jobs_are) c.read_jobs.ensures.asked
+    asked_held (g.S.Source.objects c.args.store.now) h c.args.self.now (cells_in c.self.inside.jobs) c.args.from (c.args.to - c.args.from) _ _ c.self.view_is (held_of h c.self.inside.jobs c.self.invariant.held.jobs_are) c.read_jobs.ensures.asked

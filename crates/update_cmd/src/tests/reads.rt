@@ -1,0 +1,71 @@
+//! How many bytes an update asks for.
+
+use super::{Row, THREE, call, stream_of};
+use command_base::Status;
+use memory_rows::{outlet_of, put, store_of};
+use std::alloc::{AllocError, Global};
+use std::process::Abort;
+use std::sync::Wait;
+use std::test::Fail;
+use std::thread::Threads;
+use vol_base::MemoryFeed;
+
+// Forty voxels, each a cell, in one minishard.
+const FORTY: &str =
+    "{\"type\":\"image\",\"data_type\":\"uint8\",\"num_channels\":1,\"scales\":[{\"key\":\"s\",\"size\":[40,1,1],\"chunk_sizes\":[[1,1,1]],\"resolution\":[8,8,40],\"encoding\":\"raw\",\"sharding\":{\"@type\":\"neuroglancer_uint64_sharded_v1\",\"preshift_bits\":0,\"hash\":\"identity\",\"minishard_bits\":0,\"shard_bits\":0}}]}";
+
+// The last of them is written.
+const LAST: Row = Row {
+    info: FORTY,
+    writes: &[([39, 0, 0], [1, 1, 1], &[9])],
+    ..THREE
+};
+
+// An entry of 16 bytes, forty chunks of a byte, and the 960 bytes of their index: the steps of the ids, those of the starts, and
+// the sizes.
+fn forty_chunks(alloc: Global) -> Result<Vec<u8>, AllocError> {
+    let mut object = Vec::from_slice(alloc, &[40, 0, 0, 0, 0, 0, 0, 0])?;
+    object.extend_from_slice(&1000u64.to_le_bytes())?;
+    object.extend_from_slice(&[7; 40])?;
+    for (first, others) in [(0u64, 1u64), (0, 0), (1, 1)] {
+        for row in 0..40 {
+            let number = if row == 0 { first } else { others };
+            object.extend_from_slice(&number.to_le_bytes())?;
+        }
+    }
+    Ok(object)
+}
+
+// A document is asked for with a byte more than it may have.
+const DOCUMENT: u64 = (1 << 20) + 1;
+
+// How many bytes an update of the last chunk asks for.
+fn count_asked<R: Threads + Wait + Abort + Sync>(
+    rt: &R,
+    alloc: Global,
+    workers: u32,
+) -> Result<u64, Fail> {
+    let mut store = store_of(alloc, &[], &[])?;
+    put(alloc, &mut store, "d/info", FORTY.as_bytes())?;
+    put(alloc, &mut store, "d/s/0.shard", &forty_chunks(alloc)?)?;
+    let mut feed = MemoryFeed::new(stream_of(alloc, &LAST)?, 255, Vec::new(alloc));
+    let mut out = outlet_of(alloc, 255, &[])?;
+    let mut err = outlet_of(alloc, 255, &[])?;
+    let status = call(
+        rt, alloc, &mut store, &mut feed, &mut out, &mut err, workers,
+    )?;
+    assert_eq!(rt; status, Status::Ok);
+    Ok(store.asked())
+}
+
+// The document; the entry and the index where it is found what is kept; and the entry, the index and the chunks where they
+// are read. So it is with any number of workers.
+#[test]
+fn reads_an_index_once(rt: HostRuntime) -> Result<(), Fail> {
+    let alloc = rt.alloc();
+    for workers in [1, 2, 16] {
+        let asked = count_asked(&rt, alloc, workers)?;
+        assert_eq!(rt; asked, DOCUMENT + 2 * (16 + 24 * 40) + 40);
+    }
+    Ok(())
+}
