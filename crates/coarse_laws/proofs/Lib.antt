@@ -1,0 +1,4 @@
+pub mod CoarseLaw
+pub mod HalfSteps
+pub mod LiesSteps
+pub mod ReadSteps

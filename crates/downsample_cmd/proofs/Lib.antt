@@ -1,0 +1,6 @@
+pub mod AnswerSteps
+pub mod DownsampleSteps
+pub mod FaultSteps
+pub mod JudgeSteps
+pub mod ReducingSteps
+mod SameInfo

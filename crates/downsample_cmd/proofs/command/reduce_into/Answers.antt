@@ -1,0 +1,24 @@
+use Rattle.std.proofs.Common.{◌≡◌, Err, rules}
+use Rattle.reshard_cmd.proofs.ReshardSteps.{target_drops, target_kept}
+use Rattle.downsample_cmd.proofs.DownsampleSteps.{target_reduced, untargeted}
+use Rattle.downsample_cmd.proofs.command.reduce_into.Goals as goal
+
+pub returns-clause-reduces : goal.returns-clause-reduces
+returns-clause-reduces g c =
+    target_reduced c.reduce_scale.result (g.S.Source.objects c.args.store.now) (g.S.Source.objects c.read_target.new.store) (g.S.Source.objects c.reduce_scale.new.store) c.args.method c.args.dataset.now c.args.to_key.now
+    c.args.from.now c.in_ok-to.to c.read_target.ensures.kept.same_objects c.in_ok-to.ensures.read c.reduce_scale.ensures.reduces
+
+pub returns-in_err-to-clause-reduces : goal.returns-in_err-to-clause-reduces
+returns-in_err-to-clause-reduces g c =
+    let is : c.from_residual.result ≡ Err c.in_err-to.field-0.0 = search rules in
+    untargeted c.from_residual.result c.in_err-to.field-0.0 (g.S.Source.objects c.args.store.now) (g.S.Source.objects c.read_target.new.store) c.args.method c.args.dataset.now c.args.to_key.now c.args.from.now
+    is c.read_target.ensures.kept.same_objects c.in_err-to.ensures.read
+
+pub returns-clause-unsharded : goal.returns-clause-unsharded
+returns-clause-unsharded g c =
+    target_drops (g.S.Source.objects c.args.store.now) c.args.dataset.now c.args.to_key.now c.in_ok-to.to (g.S.Source.draft c.args.store.now) (g.S.Source.draft c.read_target.new.store) (g.S.Source.draft c.reduce_scale.new.store)
+    c.read_target.ensures.kept.same_draft c.in_ok-to.ensures.read c.reduce_scale.ensures.unsharded
+
+pub returns-in_err-to-clause-unsharded : goal.returns-in_err-to-clause-unsharded
+returns-in_err-to-clause-unsharded g c =
+    target_kept (g.S.Source.objects c.args.store.now) c.args.dataset.now c.args.to_key.now (g.S.Source.draft c.args.store.now) (g.S.Source.draft c.read_target.new.store) c.read_target.ensures.kept.same_draft

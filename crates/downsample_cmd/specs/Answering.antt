@@ -1,0 +1,125 @@
+-- What `downsample` answers (this project's profile). Its refusals are those of a copy, with the same statuses and lines.
+use Rattle.std.specs.Prelude.{◌≡◌, ◌⊎◌, ◌^◌, ◌<◌, true, length, Option, Some, None, Result, Ok as Done, Err, IfSome, IsOkAnd, IsSomeAnd}
+use Rattle.vol_base.specs.Outside.{any_under, Objects}
+use Rattle.vol_base.specs.declared.boxes.Box3.{Box3}
+use Rattle.vol_spec.specs.CellNames.{folder_of}
+use Rattle.vol_spec.specs.Grid.{Inside, whole}
+use Rattle.vol_spec.specs.Types.{Name}
+use Rattle.vol_spec.specs.Writable.{IsWritable, padded}
+use Rattle.vol_spec.specs.declared.scale.Scale.{Scale}
+use Rattle.chunk_laws.specs.Told.{HasNoFault}
+use Rattle.coarse_laws.specs.Coarse.{HasReduced, ReadsAsReduced, reduced_in}
+use Rattle.reduce_laws.specs.Halves.{IsHalf}
+use Rattle.reduce_laws.specs.Reduced.{IsNext, reduced_cells}
+use Rattle.reduce_laws.specs.declared.method.Method.{Method}
+use Rattle.shard_writer.specs.declared.written.Written.{Written}
+use Rattle.command_base.specs.Ending.{Ends}
+use Rattle.command_base.specs.Outlets.{Outlets}
+use Rattle.command_base.specs.Scales.{IsReady, stored_scale}
+use Rattle.command_base.specs.declared.refusal.NoScale.{NoScale}
+use Rattle.command_base.specs.declared.status.Status.{Status}
+use Rattle.reshard_cmd.specs.Copying.{KeepsScales, OfBoth, counts_line}
+use Rattle.reshard_cmd.specs.Judging.{too_many}
+use Rattle.reshard_cmd.specs.Refusals.{reshard_line, reshard_status}
+use Rattle.reshard_cmd.specs.declared.refusal.ReshardRefusal.{ReshardRefusal}
+use Rattle.reshard_cmd.specs.declared.refusal.ReshardRefusal.TheVariants as refused
+use Rattle.downsample_cmd.specs.Downsampling.{PutsReducedFront, reduced_list, source_fault}
+use Rattle.downsample_cmd.specs.Judging.{DiffersNext}
+
+-- a reduction can be begun: the target keeps the writing limit, it is the scale after the source, no grid has too many cells, and the target's folder
+-- is empty
+abbrev pub IsReadyReduction : Objects → Name → Scale → Scale → Type 0
+IsReadyReduction m dataset from to = IsNext from to × (too_many from to ≡ None) × IsReady m dataset to
+
+-- what stands after a reduction: its objects were put in and nothing else was changed, so both scales are as
+-- before; the source has no fault, each value of the target is the reduced one, and the target has no fault
+pub record HasDownsampled (method : Method) (m : Objects) (now : Option Objects) (dataset : Name)
+    (from to : Scale) : Type 0 where
+  pub ready : IsReadyReduction m dataset from to
+  pub put : now ≡ Some (reduced_in method m dataset from to)
+  pub scales : KeepsScales m (reduced_in method m dataset from to)
+  pub source : HasNoFault m dataset from
+  pub values : HasReduced method m dataset from to
+  pub target : HasNoFault (reduced_in method m dataset from to) dataset to
+
+-- each box inside the target reads as the reduced source: no cell of it has a fault, its cutout are the reduced values, and nothing is wrong with
+-- its cells; and the source reads as before
+abbrev pub AllReadAsReduced : Method → Objects → Option Objects → Name → Scale → Scale → Type 0
+AllReadAsReduced method m objects dataset from to =
+    IsSomeAnd objects (λ now. (b : Box3) → Inside to b →
+    ReadsAsReduced method m now dataset from to b)
+
+abbrev pub ReducedBack : Method → Objects → Option Objects → Name → Name → Name → Type 0
+ReducedBack method m now dataset key to_key =
+    OfBoth (stored_scale m dataset key) (stored_scale m dataset to_key)
+    (λ from to. AllReadAsReduced method m now dataset from to)
+
+-- numbers of objects and of cells that are those of a reduction
+pub record CountsReduced (written : Written) (method : Method) (m : Objects) (dataset : Name)
+    (from to : Scale) : Type 0 where
+  pub objects : written.objects ≡ length (reduced_list method m dataset from to)
+  pub cells : written.cells ≡ length (reduced_cells m dataset from to)
+
+-- a front of the objects of a reduction that could be begun, none of them with a cell over a faulty one of the source
+abbrev pub ReducedFront : Method → Objects → Option Objects → Name → Scale → Scale → Type 0
+ReducedFront method m now dataset from to = IsReadyReduction m dataset from to ×
+    PutsReducedFront method m now dataset from to
+
+-- what reducing a scale into one that keeps the writing limit answers, and what stands after it
+abbrev pub ReducesScale : Result Written ReshardRefusal → Method → Objects → Option Objects → Name → Scale →
+    Scale → Type 0
+ReducesScale (Done written) method m now dataset from to =
+    HasDownsampled method m now dataset from to × CountsReduced written method m dataset from to
+ReducesScale (Err (refused.Differs item)) method m now dataset from to = (now ≡ Some m) ×
+    IsWritable to × DiffersNext from to item
+ReducesScale (Err (refused.TooManyCells cells)) method m now dataset from to =
+    (now ≡ Some m) × IsWritable to × IsNext from to × (too_many from to ≡ Some cells)
+ReducesScale (Err refused.NotEmpty) method m now dataset from to =
+    (now ≡ Some m) × IsWritable to × IsNext from to × (too_many from to ≡ None) ×
+    (any_under m (folder_of dataset to) ≡ true)
+ReducesScale (Err (refused.Damaged cell found)) method m now dataset from to =
+    ReducedFront method m now dataset from to ×
+    (source_fault m dataset from to ≡ Some (cell, found)) × ¬ HasNoFault m dataset from
+ReducesScale (Err refused.StoreFault) method m now dataset from to = (now ≡ Some m) ⊎
+    ReducedFront method m now dataset from to
+ReducesScale (Err refused.NoMemory) method m now dataset from to = (now ≡ Some m) ⊎
+    ReducedFront method m now dataset from to
+ReducesScale (Err other) method m now dataset from to = ⊥
+
+-- what `downsample` answers before it prints, by the two scales that are told
+abbrev pub ReducesStored : Result Written ReshardRefusal → Result Scale NoScale → Result Scale NoScale →
+    Method → Objects → Option Objects → Name → Type 0
+ReducesStored (Err (refused.NoSource why)) source target method m now dataset = (now ≡ Some m) ×
+    (source ≡ Err why)
+ReducesStored (Err (refused.NoTarget why)) source target method m now dataset = (now ≡ Some m) ×
+    IsOkAnd source (λ from. target ≡ Err why)
+ReducesStored (Err (refused.TooManyVoxels voxels)) source target method m now dataset =
+    (now ≡ Some m) × OfBoth source target (λ from to. (voxels ≡ padded to) × (2 ^ 22 < padded to))
+ReducesStored (Err refused.StoreFault) source target method m now dataset =
+    (now ≡ Some m) ⊎ OfBoth source target (λ from to. ReducedFront method m now dataset from to)
+ReducesStored (Err refused.NoMemory) source target method m now dataset =
+    (now ≡ Some m) ⊎ OfBoth source target (λ from to. ReducedFront method m now dataset from to)
+ReducesStored result source target method m now dataset =
+    OfBoth source target (λ from to. ReducesScale result method m now dataset from to)
+
+-- both scales are there, the target keeps the writing limit and is half the source, no grid has too many cells, the target's folder is empty, and
+-- the source has no fault
+abbrev pub CanDownsample : Objects → Name → Name → Name → Type 0
+CanDownsample m dataset key to_key =
+    OfBoth (stored_scale m dataset key) (stored_scale m dataset to_key)
+    (λ from to. IsHalf (whole to) (whole from) × (too_many from to ≡ None) × IsReady m dataset to ×
+    HasNoFault m dataset from)
+
+-- an answer that is right over the objects, where they are told
+abbrev pub IsRightReduction : Result Written ReshardRefusal → Method → Option Objects → Option Objects →
+    Name → Name → Name → Type 0
+IsRightReduction answer method told now dataset key to_key = IfSome told (λ m.
+    ReducesStored answer (stored_scale m dataset key) (stored_scale m dataset to_key) method m now dataset)
+
+-- `downsample` ends as a right answer is told
+abbrev pub Downsampled : Status → Method → Option Objects → Option Objects → Name → Name → Name → Outlets →
+    Type 0
+Downsampled status method told now dataset key to_key o =
+    (answer : Result Written ReshardRefusal)
+    × IsRightReduction answer method told now dataset key to_key
+    × Ends counts_line reshard_status (reshard_line dataset) answer status o

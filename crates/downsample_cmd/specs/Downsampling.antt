@@ -1,0 +1,93 @@
+-- What reducing a scale into the next one answers, and what stands after it (this project's).
+use Rattle.std.specs.Prelude.{◌≡◌, ◌≢◌, ◌⊎◌, true, false, map, length, Option, Some, None, Result, Ok, Err, Contains, IfSome}
+use Rattle.std.specs.FinMap as fin
+use Rattle.vol_base.specs.Outside.{Objects, any_under}
+use Rattle.vol_base.specs.declared.faults.Fault.{Fault}
+use Rattle.vol_spec.specs.BoxValues.{first_some}
+use Rattle.vol_spec.specs.CellNames.{folder_of}
+use Rattle.vol_spec.specs.Chunks.{fault_in}
+use Rattle.vol_spec.specs.Cut.{first_fault}
+use Rattle.vol_spec.specs.Grid.{IsCell}
+use Rattle.vol_spec.specs.StoredBytes.{object_of}
+use Rattle.vol_spec.specs.StoredLists.{in_key_order, stored_list}
+use Rattle.vol_spec.specs.Types.{Cell, Listed, Name}
+use Rattle.vol_spec.specs.declared.scale.Scale.{Scale}
+use Rattle.chunk_laws.specs.Told.{HasNoFault}
+use Rattle.coarse_laws.specs.Coarse.{HasReduced, reduced_in}
+use Rattle.copier.specs.Held.{cells_of}
+use Rattle.reduce_laws.specs.Reduced.{reduced_cells, reduced_chunks, source_box}
+use Rattle.reduce_laws.specs.declared.method.Method.{Method}
+use Rattle.reducer.specs.Works.{Reduction}
+use Rattle.shard_writer.specs.Writing.{PutsFront, joint_len}
+use Rattle.shard_writer.specs.declared.written.Written.{Written}
+use Rattle.reshard_cmd.specs.declared.fault.ReshardFault.{ReshardFault}
+use Rattle.reshard_cmd.specs.declared.fault.ReshardFault.TheVariants.{Differs, TooManyCells, NotEmpty, StoreFault, Damaged, OutOfMemory}
+
+-- the objects that the reduced scale is stored as
+abbrev pub reduced_list : Method → Objects → Name → Scale → Scale → Listed
+reduced_list method m dataset from to = stored_list dataset to (reduced_chunks method m dataset from to)
+
+-- the first fault of the source on the way: the cells that are reduced are made in the order of their keys, and of each the source's box under it
+-- is read, x fastest
+abbrev pub source_fault : Objects → Name → Scale → Scale → Option (Cell × Fault)
+source_fault m dataset from to = first_some (map (λ cell.
+    first_fault m dataset from (source_box from to cell)) (in_key_order to (reduced_cells m dataset from to)))
+
+-- the object of each reduced cell over a cell of the source that has a fault is as before: what has no value isn't stored
+abbrev pub SparesFaulty : Objects → Option Objects → Name → Scale → Scale → Type 0
+SparesFaulty m now dataset from to = IfSome now (λ n. (cell : Cell) →
+    Contains (reduced_cells m dataset from to) cell →
+    first_fault m dataset from (source_box from to cell) ≢ None →
+    fin.get n (object_of dataset to cell) ≡ fin.get m (object_of dataset to cell))
+
+-- a front of the reduced scale's objects was put in, none of them with a cell over a faulty one of the source
+abbrev pub PutsReducedFront : Method → Objects → Option Objects → Name → Scale → Scale → Type 0
+PutsReducedFront method m now dataset from to =
+    PutsFront (reduced_list method m dataset from to) m now × SparesFaulty m now dataset from to
+
+-- a cell of the source that has a fault, the first on the way
+pub record IsFirstFault (m : Objects) (dataset : Name) (from to : Scale) (cell : Cell)
+    (fault : Fault) : Type 0 where
+  pub first : source_fault m dataset from to ≡ Some (cell, fault)
+  pub of_source : IsCell from cell
+  pub its_own : fault_in m dataset from cell ≡ Some fault
+
+-- a reduced scale was stored: its objects were put in and nothing else was changed, as many as are told; the source had no fault, each value of the
+-- target is the reduced one, and the target has no fault
+pub record IsReduced (method : Method) (m : Objects) (now : Option Objects) (dataset : Name)
+    (from to : Scale) (written : Written) : Type 0 where
+  pub put : now ≡ Some (reduced_in method m dataset from to)
+  pub objects : written.objects ≡ length (reduced_list method m dataset from to)
+  pub cells : written.cells ≡ length (reduced_cells m dataset from to)
+  pub bytes : written.bytes ≡ joint_len (reduced_list method m dataset from to)
+  pub source : HasNoFault m dataset from
+  pub values : HasReduced method m dataset from to
+  pub target : HasNoFault (reduced_in method m dataset from to) dataset to
+
+-- a reducer has a job for each cell that is reduced
+abbrev pub HasReducedJobs : Objects → Reduction → Scale → Type 0
+HasReducedJobs m reducer to =
+    cells_of reducer.held ≡ in_key_order to (reduced_cells m reducer.held.dataset reducer.held.from to)
+
+-- what storing a reduced scale in an empty folder answers over objects that are told
+abbrev pub Reduces : Result Written ReshardFault → Method → Objects → Option Objects → Name → Scale → Scale →
+    Type 0
+Reduces (Ok written) method m now dataset from to = IsReduced method m now dataset from to written
+Reduces (Err (Damaged cell fault)) method m now dataset from to =
+    IsFirstFault m dataset from to cell fault × PutsReducedFront method m now dataset from to
+Reduces (Err StoreFault) method m now dataset from to = PutsReducedFront method m now dataset from to
+Reduces (Err OutOfMemory) method m now dataset from to = PutsReducedFront method m now dataset from to
+Reduces (Err other) method m now dataset from to = ⊥
+
+-- what reducing a scale answers over objects that are told: the folder is judged after the scales, and nothing is put where it isn't empty
+abbrev pub Downsamples : Result Written ReshardFault → Method → Objects → Option Objects → Name → Scale →
+    Scale → Type 0
+Downsamples (Err (Differs item)) method m now dataset from to = now ≡ Some m
+Downsamples (Err (TooManyCells cells)) method m now dataset from to = now ≡ Some m
+Downsamples (Err NotEmpty) method m now dataset from to = (any_under m (folder_of dataset to) ≡ true) ×
+    (now ≡ Some m)
+Downsamples (Err StoreFault) method m now dataset from to =
+    (now ≡ Some m) ⊎ ((any_under m (folder_of dataset to) ≡ false) ×
+    PutsReducedFront method m now dataset from to)
+Downsamples result method m now dataset from to = (any_under m (folder_of dataset to) ≡ false) ×
+    Reduces result method m now dataset from to

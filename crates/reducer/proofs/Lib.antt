@@ -1,0 +1,3 @@
+pub mod FoundSteps
+pub mod JobSteps
+pub mod SourceSteps

@@ -1,0 +1,44 @@
+-- What reading and reducing jobs answers (this project's).
+use Rattle.std.specs.Prelude.{◌≡◌, ◌≤◌, ℕ, List, Result, Ok, Err, Some, None, Vec, vec_capacity, ⊤}
+use Rattle.std.specs.Global.{Global}
+use Rattle.vol_base.specs.Outside.{Objects}
+use Rattle.vol_base.specs.declared.boxes.Box3.{Box3}
+use Rattle.vol_spec.specs.Cut.{cut, first_fault}
+use Rattle.vol_spec.specs.Grid.{IsCell}
+use Rattle.vol_spec.specs.Raw.{raw_len}
+use Rattle.vol_spec.specs.Types.{Bytes, Cell, Name}
+use Rattle.vol_spec.specs.declared.scale.Scale.{Scale}
+use Rattle.write_plan.specs.declared.chunks.PrepareFault.{PrepareFault}
+use Rattle.write_plan.specs.declared.chunks.PrepareFault.TheVariants.{StoreFault, Damaged}
+use Rattle.copier.specs.Held.{Readings, Reads, ReadsAll}
+use Rattle.reduce_laws.specs.Reduced.{reduced_raw, source_box}
+use Rattle.reduce_laws.specs.declared.method.Method.{Method}
+
+-- cutting a box out: its values, or its first fault
+abbrev pub CutsBox : Result ⊤ PrepareFault → Objects → Name → Scale → Box3 → Bytes → Type 0
+CutsBox (Ok done) m dataset s b raw = (first_fault m dataset s b ≡ None) × (raw ≡ cut m dataset s b)
+CutsBox (Err (Damaged at fault)) m dataset s b raw = first_fault m dataset s b ≡ Some (at, fault)
+CutsBox (Err StoreFault) m dataset s b raw = Unit {0}
+
+-- what the cells of the target are read as: the reduced values, or the first fault of the source box
+abbrev pub reductions_of : Method → Objects → Name → Scale → Scale → Readings
+reductions_of method m dataset from to = record {
+  fault = λ cell. first_fault m dataset from (source_box from to cell);
+  raw = reduced_raw method m dataset from to;
+}
+
+-- reducing a job, and jobs
+abbrev pub ReadsReduced : Result ⊤ PrepareFault → Method → Objects → Name → Scale → Scale → Cell → Bytes →
+    Type 0
+ReadsReduced result method m dataset from to cell out =
+    Reads result (reductions_of method m dataset from to) cell out
+
+abbrev pub ReadsReductions : Result ⊤ PrepareFault → Method → Objects → Name → Scale → Scale → List Cell →
+    ℕ → ℕ → List Bytes → Type 0
+ReadsReductions result method m dataset from to cells first count frames =
+    ReadsAll result (reductions_of method m dataset from to) to cells first count frames
+
+-- a buffer has room for the source box of each cell
+abbrev pub HasRoom : Scale → Scale → Vec ℕ Global → Type 0
+HasRoom from to buffer = (cell : Cell) → IsCell to cell
+    → raw_len (source_box from to cell) from.channels from.width ≤ vec_capacity buffer

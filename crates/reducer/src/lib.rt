@@ -1,0 +1,9 @@
+//! The chunks of the next, coarser scale, reduced from the source.
+#![tactic(auto)]
+
+mod found;
+mod reading;
+mod reducer;
+mod sources;
+
+pub use reducer::Reducer;
