@@ -1,5 +1,5 @@
 -- One request of a connection, and what it leaves.
-use Rattle.std.proofs.Common.{◌≡◌, ◌≢◌, ◌∙◌, ℕ, ◌≤◌, true, false, List, [], ◌++◌, length, length-append, take, drop, append-nil, Option, Some, None, option_map, inl, inr, ap, sym, refl, subst, arith}
+use Rattle.std.proofs.Common.{◌≡◌, ◌≢◌, ◌∙◌, ℕ, ◌≤◌, List, [], ◌++◌, length, length-append, take, drop, append-nil, Option, Some, None, option_map, inl, inr, ap, sym, refl, subst, arith}
 use Rattle.httparse.specs.Grammar.{print_request}
 use Rattle.httparse.specs.Spans.{IsRequestOf}
 use Rattle.httparse.specs.declared.spans.HeaderSpan.{HeaderSpan}
@@ -11,9 +11,11 @@ use Rattle.request_heads.specs.Answers.{IsNext}
 use Rattle.request_heads.specs.declared.kinds.Next.TheVariants as coming
 use Rattle.vol_base.specs.Gains.{Gains}
 use Rattle.range_server.specs.Bodies.{Cuts, CutsReply, bad_bytes, body_in, failed_bytes}
-use Rattle.range_server.specs.Replies.{Answered, Ends, Gained, GoesOn, Stops, StopsShort, planned_at, reply_to}
+use Rattle.range_server.specs.Replies.{Answered, EndsIn, Gained, GoesOn, Stops, StopsShort, planned_at, reply_to}
 use Rattle.range_server.specs.Texts.{reply_head}
 use Rattle.range_server.specs.declared.fault.ServeFault.{ServeFault}
+use Rattle.range_server.specs.declared.reply.Ending.{Ending}
+use Rattle.range_server.specs.declared.reply.Ending.TheVariants as ending
 use Rattle.range_server.specs.declared.fault.ServeFault.TheVariants.{LinkFault, OutOfMemory, StoreFault}
 
 -- the head at the front of what was received, and what is behind it
@@ -58,19 +60,19 @@ module _ (m : Objects) (dataset : List ℕ) (n before now : ℕ) (rest : List �
 
   module _ (left : Option (List ℕ)) (received : List ℕ) (spans : List HeaderSpan) (parts : RequestSpans) (old mid new : Option (List ℕ))
       (few : length received ≤ 8192) (of : IsRequestOf received spans parts) (is : option_map (λ bytes. received ++ bytes) left ≡ Some rest) (same : mid ≡ old) where
-    pub goes_on : (pending : Option (List ℕ)) → pending ≡ option_map (λ bytes. drop parts.len received ++ bytes) left → Answered m dataset n of.0 before now mid new true
+    pub goes_on : (pending : Option (List ℕ)) → pending ≡ option_map (λ bytes. drop parts.len received ++ bytes) left → Answered m dataset n of.0 mid new None
         → GoesOn m dataset n rest old new pending
     goes_on pending e a =
         let found = behind_head left received spans parts rest few of is in
         (of.0, found.0, found.1, a.1, subst (λ o. Gains o new (reply_to m dataset n of.0)) same a.0, e ∙ found.2)
 
-    pub ends_here : Answered m dataset n of.0 before now mid new false → Gained (Ends m dataset before now n rest) old new
-    ends_here (inl a) =
+    pub ends_here : (how : Ending) → Answered m dataset n of.0 mid new (Some how) → Gained (EndsIn m dataset how n rest) old new
+    ends_here ending.Whole a =
         let found = behind_head left received spans parts rest few of is in
-        (reply_to m dataset n of.0, inl (inr (inr (of.0, found.0, found.1, a.1, refl))), subst (λ o. Gains o new (reply_to m dataset n of.0)) same a.0)
-    ends_here (inr a) =
+        (reply_to m dataset n of.0, inr (inr (of.0, found.0, found.1, a.1, refl)), subst (λ o. Gains o new (reply_to m dataset n of.0)) same a.0)
+    ends_here ending.Failed a =
         let found = behind_head left received spans parts rest few of is in
-        (failed_bytes, inr (a.0, (of.0, found.0, found.1, refl)), subst (λ o. Gains o new failed_bytes) same a.1)
+        (failed_bytes, (of.0, found.0, found.1, refl), subst (λ o. Gains o new failed_bytes) same a)
 
     pub stops_here : (fault : ServeFault) → Cuts m (planned_at m dataset n of.0) before now mid new fault → Gained (Stops m dataset before now fault n rest) old new
     stops_here LinkFault (inl cut) =

@@ -3,8 +3,11 @@ use Rattle.std.proofs.Common.{◌≡◌, ◌∙◌, ℕ, ◌+◌, ◌≤◌, Boo
 use Rattle.httparse.specs.Grammar.{RequestHead}
 use Rattle.vol_base.specs.Outside.{Objects}
 use Rattle.request_heads.specs.Heads.{BeginsWith, pending}
-use Rattle.range_server.specs.Replies.{Answers, Behind, Ends, Gained, GoesOn, HasReached, Reaches, Served, Stopped, Stops, closes_at, reply_to}
+use Rattle.range_server.specs.Replies.{Answers, Behind, EndsIn, Gained, GoesOn, HasReached, Reaches, Served, ServedIn, Stopped, Stops, closes_at, reply_to}
+use Rattle.vol_base.specs.Causes.{Rose}
 use Rattle.range_server.specs.declared.fault.ServeFault.{ServeFault}
+use Rattle.range_server.specs.declared.reply.Ending.{Ending}
+use Rattle.range_server.specs.declared.reply.Ending.TheVariants as ending
 use Rattle.range_server.specs.declared.fault.ServeFault.TheVariants.{LinkFault, OutOfMemory, StoreFault}
 use Rattle.range_server.proofs.CauseSteps.{rose_later}
 use Rattle.range_server.proofs.ConnSteps.{gains_nothing}
@@ -60,20 +63,20 @@ module _ (m : Objects) (dataset stream : List ℕ) where
         gains_more old mid new h.2 s.0 h.4 s.2,
       )
 
-  ends_later : (before mid now n : ℕ) (rest out : List ℕ) → before ≤ mid → Ends m dataset mid now n rest out → Ends m dataset before now n rest out
-  ends_later before mid now n rest out le (inl h) = inl h
-  ends_later before mid now n rest out le (inr h) = inr (rose_later before mid now le h.0, h.1)
-
   stops_later : (before mid now n : ℕ) (fault : ServeFault) (rest out : List ℕ) → before ≤ mid → Stops m dataset mid now fault n rest out → Stops m dataset before now fault n rest out
   stops_later before mid now n LinkFault rest out le (inl h) = inl h
   stops_later before mid now n LinkFault rest out le (inr h) = inr (rose_later before mid now le h.0, h.1)
   stops_later before mid now n OutOfMemory rest out le h = h
   stops_later before mid now n StoreFault rest out le h = h
 
-  pub served_all : (before mid now n : ℕ) (waiting old now_sent new : Option (List ℕ)) → before ≤ mid → HasReached m dataset n stream waiting old now_sent
-      → ((rest : List ℕ) → waiting ≡ Some rest → Gained (Ends m dataset mid now n rest) now_sent new) → Gained (Served m dataset before now stream) old new
-  served_all before mid now n waiting old now_sent new le h step =
-      reached_end (Ends m dataset before now) n waiting old now_sent new h (λ rest e. let s = step rest e in (s.0, ends_later before mid now n rest s.0 le s.1, s.2))
+  pub served_all : (how : Ending) (n : ℕ) (waiting old now_sent new : Option (List ℕ)) → HasReached m dataset n stream waiting old now_sent
+      → ((rest : List ℕ) → waiting ≡ Some rest → Gained (EndsIn m dataset how n rest) now_sent new) → Gained (ServedIn m dataset how stream) old new
+  served_all how = reached_end (EndsIn m dataset how)
+
+  -- however it ended, it was served to its end
+  pub served_as : (before now : ℕ) (how : Ending) (out : List ℕ) → (how ≡ ending.Failed → Rose before now) → ServedIn m dataset how stream out → Served m dataset before now stream out
+  served_as before now ending.Whole out rose h = (h.0, h.1, h.2, h.3, h.4, inl h.5, h.6)
+  served_as before now ending.Failed out rose h = (h.0, h.1, h.2, h.3, h.4, inr (rose refl, h.5), h.6)
 
   pub served_front : (before mid now n : ℕ) (fault : ServeFault) (waiting old now_sent new : Option (List ℕ)) → before ≤ mid → HasReached m dataset n stream waiting old now_sent
       → ((rest : List ℕ) → waiting ≡ Some rest → Gained (Stops m dataset mid now fault n rest) now_sent new) → Gained (Stopped m dataset before now fault stream) old new

@@ -6,3 +6,4 @@ pub mod Ranges
 pub mod Replies
 pub mod Serving
 pub mod Texts
+pub mod Turns

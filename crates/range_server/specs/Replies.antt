@@ -1,7 +1,7 @@
 -- The replies to a stream of requests, whatever pieces it comes in (RFC 9112, sections 2.2 and 9.3). A stream is some
 -- heads, one behind the other, since no body is ever read; and the last reply is nothing where the stream ends, the 400
 -- where no head comes, or one that closes the connection.
-use Rattle.std.specs.Prelude.{◌≡◌, ◌≢◌, ◌<◌, ◌⊎◌, ◌+◌, ◌==◌, ◌||◌, ℕ, Bool, true, false, List, [], ◌∷◌, ◌++◌, length, take, Option, Some}
+use Rattle.std.specs.Prelude.{◌≡◌, ◌≢◌, ◌<◌, ◌⊎◌, ◌+◌, ◌==◌, ◌||◌, ℕ, Bool, true, false, List, [], ◌∷◌, ◌++◌, length, take, Option, None, Some}
 use Rattle.httparse.specs.Grammar.{ReadsRequest, RequestHead}
 use Rattle.vol_base.specs.Causes.{Rose}
 use Rattle.vol_base.specs.Outside.{Objects}
@@ -12,6 +12,8 @@ use Rattle.range_server.specs.Plans.{planned}
 use Rattle.range_server.specs.Texts.{reply_head}
 use Rattle.range_server.specs.declared.fault.ServeFault.{ServeFault}
 use Rattle.range_server.specs.declared.fault.ServeFault.TheVariants.{LinkFault, OutOfMemory, StoreFault}
+use Rattle.range_server.specs.declared.reply.Ending.{Ending}
+use Rattle.range_server.specs.declared.reply.Ending.TheVariants as ending
 use Rattle.range_server.specs.declared.reply.Reply.{Reply}
 
 -- what a rest of the stream is answered, by how many requests came before it
@@ -81,6 +83,15 @@ module _ (objects : Objects) (dataset : List ℕ) where
       × (k : ℕ) × (k < length (body_in objects (planned_at n head)))
       × (out ≡ reply_head (planned_at n head) ++ take k (body_in objects (planned_at n head)))
 
+  -- how a connection ends that is served to its end: with the last reply, or with the one that says that the store failed
+  abbrev pub EndsIn : Ending → Answers
+  EndsIn ending.Whole = EndsWith reply_to closes_at
+  EndsIn ending.Failed = FailsAt
+
+  -- what was sent to a stream by a connection that ended so: its replies, or whole first ones and that the store failed
+  abbrev pub ServedIn : Ending → List ℕ → List ℕ → Type 0
+  ServedIn how = Behind reply_to closes_at (EndsIn how)
+
   -- a connection that was served to its end: with the last reply, or where the store's count of faults rose
   abbrev pub Ends : ℕ → ℕ → Answers
   Ends before now n rest out = EndsWith reply_to closes_at n rest out ⊎ (Rose before now × FailsAt n rest out)
@@ -108,14 +119,14 @@ abbrev pub IsPlanAt : ℕ → Objects → List ℕ → List ℕ → Reply → Ty
 IsPlanAt n objects dataset bytes reply = (head : RequestHead) (rest : List ℕ) → ReadsRequest bytes head rest →
     reply ≡ planned_at objects dataset n head
 
--- what answering a head sends, and whether the connection goes on behind it
-abbrev pub Answered : Objects → List ℕ → ℕ → RequestHead → ℕ → ℕ → Option (List ℕ) → Option (List ℕ) → Bool →
+-- what answering a head sends, by how the connection ends there, or where it goes on
+abbrev pub Answered : Objects → List ℕ → ℕ → RequestHead → Option (List ℕ) → Option (List ℕ) → Option Ending →
     Type 0
-Answered objects dataset n head before now old new true = Gains old new (reply_to objects dataset n head) ×
+Answered objects dataset n head old new None = Gains old new (reply_to objects dataset n head) ×
     (closes_at objects dataset n head ≡ false)
-Answered objects dataset n head before now old new false =
-    (Gains old new (reply_to objects dataset n head) × (closes_at objects dataset n head ≡ true)) ⊎
-    (Rose before now × Gains old new failed_bytes)
+Answered objects dataset n head old new (Some ending.Whole) = Gains old new (reply_to objects dataset n head) ×
+    (closes_at objects dataset n head ≡ true)
+Answered objects dataset n head old new (Some ending.Failed) = Gains old new failed_bytes
 
 -- a link gained an answer
 abbrev pub Gained : (List ℕ → Type 0) → Option (List ℕ) → Option (List ℕ) → Type 0

@@ -1,14 +1,15 @@
 //! One request, answered.
-ghost use Rattle.std.specs.Prelude.{◌≡◌, ◌≤◌, ℕ, List, false, length, IfErr, IfOk};
+ghost use Rattle.std.specs.Prelude.{◌≡◌, ◌≤◌, ℕ, List, length, IfErr, IfOk, IsSome};
 ghost use Rattle.httparse.specs.Grammar.{ReadsRequest, RequestHead};
 ghost use Rattle.httparse.specs.Spans.{IsRequestOf, IsRequestWithin};
+ghost use Rattle.vol_base.specs.Causes.{Rose};
 ghost use Rattle.vol_base.specs.Outside.{OnlyReads};
 ghost use Rattle.range_server.specs.Bodies.{Cuts, HasServeCause, WhereTold};
 ghost use Rattle.range_server.specs.Replies.{Answered, planned_at};
 
 use crate::fault::ServeFault;
 use crate::plan::plan_numbered;
-use crate::reply::Sent;
+use crate::reply::{Ending, Sent};
 use crate::write::{Writer, send_failed, send_reply};
 use httparse::spans::{HeaderSpan, RequestSpans};
 use std::alloc::Global;
@@ -22,7 +23,7 @@ pub(crate) struct Found<'a> {
     pub parts: RequestSpans,
 }
 
-/// Answers a request, by its number from 0 on; tells whether the connection goes on.
+/// Answers a request, by its number from 0 on; tells how the connection ends there, or None where it goes on.
 pub(crate) fn answer_head<L: Link, S: Source>(
     alloc: Global,
     link: &mut L,
@@ -31,17 +32,17 @@ pub(crate) fn answer_head<L: Link, S: Source>(
     number: u64,
     found: Found<'_>,
     writer: &mut Writer,
-) -> Result<bool, ServeFault>
+) -> Result<Option<Ending>, ServeFault>
     requires within { IsRequestWithin found.received.now found.spans.now found.parts }
     requires parts { IsRequestOf found.received.now found.spans.now found.parts }
     requires few { length found.spans.now ≤ 4096 }
     requires short { length found.received.now ≤ 8192 }
     requires room { 512 ≤ length writer.old.piece.items }
-    ensures answered { IfOk result (λ stays. WhereTold (S.objects store.old) (λ m.
+    ensures answered { IfOk result (λ ending. WhereTold (S.objects store.old) (λ m.
         (head : RequestHead) (rest : List ℕ) → ReadsRequest found.entry.received.now head rest
-        → Answered m dataset.now number head (S.faults store.old) (S.faults store.new)
-        (L.sent link.old) (L.sent link.new) stays)) }
-    ensures last { IfOk result (λ stays. number ≡ 65535 → stays ≡ false) }
+        → Answered m dataset.now number head (L.sent link.old) (L.sent link.new) ending)) }
+    ensures failed { result ≡ Ok (Some Ending.Failed) → Rose (S.faults store.old) (S.faults store.new) }
+    ensures last { IfOk result (λ ending. number ≡ 65535 → IsSome ending) }
     ensures cut { IfErr result (λ fault. WhereTold (S.objects store.old) (λ m.
         (head : RequestHead) (rest : List ℕ) → ReadsRequest found.entry.received.now head rest
         → Cuts m (planned_at m dataset.now number head) (S.faults store.old) (S.faults store.new)
@@ -64,12 +65,13 @@ pub(crate) fn answer_head<L: Link, S: Source>(
         dataset,
     ) {
         Ok(reply) => match send_reply(link, store, &reply, writer) {
-            Ok(Sent::Whole) => Ok(!reply.close),
-            Ok(Sent::Broken) => Ok(false),
+            Ok(Sent::Whole) if reply.close => Ok(Some(Ending::Whole)),
+            Ok(Sent::Whole) => Ok(None),
+            Ok(Sent::Broken) => Ok(Some(Ending::Failed)),
             Err(fault) => Err(fault),
         },
         Err(StoreRefusal::Failed) => match send_failed(link, &mut writer.text) {
-            Ok(()) => Ok(false),
+            Ok(()) => Ok(Some(Ending::Failed)),
             Err(fault) => Err(fault),
         },
         Err(StoreRefusal::OutOfMemory) => Err(ServeFault::OutOfMemory),

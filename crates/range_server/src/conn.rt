@@ -1,15 +1,17 @@
 //! A connection.
-ghost use Rattle.std.specs.Prelude.{◌≡◌, ◌≢◌, ◌-◌, ◌≤◌, ◌<◌, length, take, drop, None, IfErr, IfOk, IfSome, OnOk};
+ghost use Rattle.std.specs.Prelude.{◌≡◌, ◌≢◌, ◌-◌, ◌≤◌, ◌<◌, length, take, drop, IfErr, IfOk, IfSome};
 ghost use Rattle.vol_base.specs.Outside.{OnlyReads};
 ghost use Rattle.request_heads.specs.Heads.{pending};
 ghost use Rattle.request_heads.specs.Answers.{HasParts, IsNext};
-ghost use Rattle.vol_base.specs.Causes.{HasCause};
+ghost use Rattle.vol_base.specs.Causes.{HasCause, Rose};
 ghost use Rattle.range_server.specs.Bodies.{HasServeCause, WhereTold};
 ghost use Rattle.range_server.specs.Desks.{IsReady};
-ghost use Rattle.range_server.specs.Replies.{Ends, Gained, GoesOn, Served, Stopped, Stops};
+ghost use Rattle.range_server.specs.Replies.{EndsIn, Gained, GoesOn, ServedIn, Stopped, Stops};
+ghost use Rattle.range_server.specs.Turns.{IfEnd, IfNext};
 
 use crate::answer::{Found, answer_head};
 use crate::fault::ServeFault;
+use crate::reply::Ending;
 use crate::write::{Writer, send_bad};
 use httparse::spans::HeaderSpan;
 use request_heads::{Next, read_head};
@@ -22,6 +24,14 @@ pub(crate) struct Desk {
     pub received: Vec<u8>,
     pub spans: Vec<HeaderSpan>,
     pub writer: Writer,
+}
+
+/// What comes behind a request: the next one, of which so many bytes stand in front of those that are to be received, or
+/// the connection's end.
+#[derive(Clone, Copy)]
+pub(crate) enum Turn {
+    Next(usize),
+    End(Ending),
 }
 
 // Drops so many bytes from the front of those that were received; the others come in front.
@@ -63,8 +73,7 @@ fn wait_head<L: Link>(link: &mut L, len: usize, desk: &mut Desk) -> Result<(Next
     read_head(link, received, len, desk.spans.as_mut_slice())
 }
 
-/// Serves one request, where so many bytes stand in front of those that are to be received; tells how many stand there
-/// then, or None where the connection ends.
+/// Serves one request, where so many bytes stand in front of those that are to be received; tells what comes behind it.
 fn serve_one<L: Link, S: Source>(
     alloc: Global,
     link: &mut L,
@@ -73,22 +82,22 @@ fn serve_one<L: Link, S: Source>(
     number: u64,
     len: usize,
     desk: &mut Desk,
-) -> Result<Option<usize>, ServeFault>
+) -> Result<Turn, ServeFault>
     requires ready { IsReady desk.old }
     requires within { len ≤ 8192 }
     ensures ready { IsReady desk.new }
-    ensures within { IfOk result (λ next. IfSome next (λ len. len ≤ 8192)) }
-    ensures last { IfOk result (λ next. IfSome next (λ _. number ≢ 65535)) }
-    ensures goes_on { IfOk result (λ next. IfSome next (λ more.
+    ensures within { IfOk result (λ turn. IfNext turn (λ more. more ≤ 8192)) }
+    ensures last { IfOk result (λ turn. IfNext turn (λ _. number ≢ 65535)) }
+    ensures goes_on { IfOk result (λ turn. IfNext turn (λ more.
         WhereTold (S.objects store.old) (λ m. WhereTold
         (pending desk.old.received.items len (L.left link.old))
         (λ rest. GoesOn m dataset.now number rest (L.sent link.old) (L.sent link.new)
         (pending desk.new.received.items more (L.left link.new)))))) }
-    ensures ends { IfOk result (λ next. next ≡ None →
+    ensures ends { IfOk result (λ turn. IfEnd turn (λ ending.
         WhereTold (S.objects store.old) (λ m. WhereTold
         (pending desk.old.received.items len (L.left link.old))
-        (λ rest. Gained (Ends m dataset.now (S.faults store.old) (S.faults store.new) number rest)
-        (L.sent link.old) (L.sent link.new)))) }
+        (λ rest. Gained (EndsIn m dataset.now ending number rest) (L.sent link.old) (L.sent link.new))))) }
+    ensures failed { result ≡ Ok (Turn.End Ending.Failed) → Rose (S.faults store.old) (S.faults store.new) }
     ensures stops { IfErr result (λ fault. WhereTold (S.objects store.old) (λ m.
         WhereTold (pending desk.old.received.items len (L.left link.old))
         (λ rest. Gained (Stops m dataset.now (S.faults store.old) (S.faults store.new) fault number rest)
@@ -105,10 +114,10 @@ fn serve_one<L: Link, S: Source>(
     };
     let parts = match next {
         Next::Head(parts) => parts,
-        Next::End => return Ok(None),
+        Next::End => return Ok(Turn::End(Ending::Whole)),
         Next::Bad => {
             return match send_bad(link, &mut desk.writer.text) {
-                Ok(()) => Ok(None),
+                Ok(()) => Ok(Turn::End(Ending::Whole)),
                 Err(fault) => Err(fault),
             };
         }
@@ -119,27 +128,27 @@ fn serve_one<L: Link, S: Source>(
         parts,
     };
     match answer_head(alloc, link, store, dataset, number, found, &mut desk.writer) {
-        Ok(true) => {
+        Ok(None) => {
             drop_head(desk, there, parts.len);
-            Ok(Some(there - parts.len))
+            Ok(Turn::Next(there - parts.len))
         }
-        Ok(false) => Ok(None),
+        Ok(Some(ending)) => Ok(Turn::End(ending)),
         Err(fault) => Err(fault),
     }
 }
 
-/// Serves the requests of a peer, one after the other.
+/// Serves the requests of a peer, one after the other, and tells how that ended.
 pub(crate) fn serve_link<L: Link, S: Source>(
     alloc: Global,
     link: &mut L,
     store: &mut S,
     dataset: &Name,
     desk: &mut Desk,
-) -> Result<(), ServeFault>
+) -> Result<Ending, ServeFault>
     requires ready { IsReady desk.old }
-    ensures served { OnOk result (WhereTold (S.objects store.old) (λ m. WhereTold (L.left link.old)
-        (λ stream. Gained (Served m dataset.now (S.faults store.old) (S.faults store.new) stream)
-        (L.sent link.old) (L.sent link.new)))) }
+    ensures ended { IfOk result (λ ending. WhereTold (S.objects store.old) (λ m. WhereTold (L.left link.old)
+        (λ stream. Gained (ServedIn m dataset.now ending stream) (L.sent link.old) (L.sent link.new)))) }
+    ensures failed { result ≡ Ok Ending.Failed → Rose (S.faults store.old) (S.faults store.new) }
     ensures stopped { IfErr result (λ fault. WhereTold (S.objects store.old) (λ m. WhereTold (L.left link.old)
         (λ stream. Gained (Stopped m dataset.now (S.faults store.old) (S.faults store.new) fault stream)
         (L.sent link.old) (L.sent link.new)))) }
@@ -152,8 +161,8 @@ pub(crate) fn serve_link<L: Link, S: Source>(
     let mut len = 0;
     for number in 0..65536 {
         match serve_one(alloc, link, store, dataset, number, len, desk) {
-            Ok(Some(more)) => len = more,
-            Ok(None) => return Ok(()),
+            Ok(Turn::Next(more)) => len = more,
+            Ok(Turn::End(ending)) => return Ok(ending),
             Err(fault) => return Err(fault),
         }
     }

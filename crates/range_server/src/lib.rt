@@ -20,5 +20,5 @@ pub use ends::serve_ends;
 pub use fault::{DoorRefusal, ServeFault};
 pub use plan::plan_reply;
 pub use range::{RangeAnswer, range_of};
-pub use reply::Reply;
-pub use serve::{serve_conn, tell_replies};
+pub use reply::{Ending, Reply};
+pub use serve::{serve_conn, serve_to_end, tell_replies};

@@ -20,3 +20,12 @@ pub(crate) enum Sent {
     Whole,
     Broken,
 }
+
+/// How a connection ended that was served to its end.
+#[derive(Clone, Copy, Debug, PartialEq, Eq)]
+pub enum Ending {
+    /// With the last reply to its stream.
+    Whole,
+    /// With the reply that says that the store failed, in place of another.
+    Failed,
+}

@@ -3,13 +3,14 @@ ghost use Rattle.std.specs.Prelude.{◌≡◌, ◌≤◌, ◌⊎◌, ◌-◌, �
 ghost use Rattle.vol_base.specs.Outside.{Ended, Objects, OnlyReads};
 ghost use Rattle.range_server.specs.Bodies.{HasServeCause, WhereTold};
 ghost use Rattle.range_server.specs.Desks.{IsReady};
-ghost use Rattle.range_server.specs.Replies.{AreReplies, Gained, Served, Stopped};
+ghost use Rattle.range_server.specs.Replies.{AreReplies, Gained, Served, ServedIn, Stopped};
 ghost use Rattle.range_server.specs.Serving.{AtMostBroken, EndsServed};
-ghost use Rattle.vol_base.specs.Causes.{most_count};
+ghost use Rattle.vol_base.specs.Causes.{Rose, most_count};
 
 use crate::conn::{Desk, serve_link};
 use crate::fault::ServeFault;
 use crate::plan::reserve_spans;
+use crate::reply::Ending;
 use crate::write::Writer;
 use std::alloc::Global;
 use vol_base::{Link, Name, OutOfMemory, Source};
@@ -45,6 +46,42 @@ fn open_desk(alloc: Global) -> Result<Desk, OutOfMemory>
 }
 
 /// Serves the requests of a peer for the objects of a data set, until their stream ends or a reply closes the
+/// connection, and tells how it ended. At `Whole` what was sent is the replies to what was left of the link's stream, in
+/// whatever pieces it comes. `Failed` comes only where the store failed: then it is whole first replies, and the one that
+/// says so.
+///
+/// # Errors
+/// `LinkFault` and `StoreFault` only where the link or the store failed, and `OutOfMemory`. What was sent is then a
+/// front of the replies; after `StoreFault` it ends amid a body.
+pub fn serve_to_end<L: Link, S: Source>(
+    alloc: Global,
+    link: &mut L,
+    store: &mut S,
+    dataset: &Name,
+) -> Result<Ending, ServeFault>
+    ensures ended { IfOk result (λ ending. WhereTold (S.objects store.old) (λ m. WhereTold (L.left link.old)
+        (λ stream. Gained (ServedIn m dataset.now ending stream) (L.sent link.old) (L.sent link.new)))) }
+    ensures failed { result ≡ Ok Ending.Failed → Rose (S.faults store.old) (S.faults store.new) }
+    ensures stopped { IfErr result (λ fault. WhereTold (S.objects store.old) (λ m. WhereTold (L.left link.old)
+        (λ stream. Gained (Stopped m dataset.now (S.faults store.old) (S.faults store.new) fault stream)
+        (L.sent link.old) (L.sent link.new)))) }
+    ensures stream { L.stream link.new ≡ L.stream link.old }
+    ensures kept { OnlyReads (S.objects store.old) (S.objects store.new) (S.draft store.old)
+        (S.draft store.new) }
+    ensures cause { HasServeCause (L.faults link.old) (L.faults link.new) (S.faults store.old)
+        (S.faults store.new) result }
+{
+    let mut desk = match open_desk(alloc) {
+        Ok(desk) => desk,
+        Err(OutOfMemory) => return Err(ServeFault::OutOfMemory),
+    };
+    match serve_link(alloc, link, store, dataset, &mut desk) {
+        Ok(ending) => Ok(ending),
+        Err(fault) => Err(fault),
+    }
+}
+
+/// Serves the requests of a peer for the objects of a data set, until their stream ends or a reply closes the
 /// connection. What is sent is the replies to what was left of the link's stream, in whatever pieces it comes.
 ///
 /// # Errors
@@ -68,12 +105,8 @@ pub fn serve_conn<L: Link, S: Source>(
     ensures cause { HasServeCause (L.faults link.old) (L.faults link.new) (S.faults store.old)
         (S.faults store.new) result }
 {
-    let mut desk = match open_desk(alloc) {
-        Ok(desk) => desk,
-        Err(OutOfMemory) => return Err(ServeFault::OutOfMemory),
-    };
-    match serve_link(alloc, link, store, dataset, &mut desk) {
-        Ok(()) => Ok(()),
+    match serve_to_end(alloc, link, store, dataset) {
+        Ok(_) => Ok(()),
         Err(fault) => Err(fault),
     }
 }

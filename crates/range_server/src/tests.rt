@@ -2,7 +2,7 @@
 ghost use Rattle.std.specs.Prelude.{◌≡◌, IfOk, None};
 ghost use Rattle.vol_base.specs.Peers.{IsFresh};
 
-use crate::{DoorRefusal, RangeAnswer, ServeFault, range_of, serve_conn, serve_ends};
+use crate::{DoorRefusal, Ending, RangeAnswer, ServeFault, range_of, serve_ends, serve_to_end};
 use std::alloc::Global;
 use std::process::Abort;
 use std::test::Fail;
@@ -57,10 +57,10 @@ fn serve(
     piece: usize,
     link_failing: &[u64],
     store_failing: &[u64],
-) -> Result<(Vec<u8>, Result<(), ServeFault>), Fail> {
+) -> Result<(Vec<u8>, Result<Ending, ServeFault>), Fail> {
     let mut link = link_of(alloc, bytes, piece, link_failing)?;
     let mut store = store_of(alloc, store_failing)?;
-    let served = serve_conn(alloc, &mut link, &mut store, &name(b"d")?);
+    let served = serve_to_end(alloc, &mut link, &mut store, &name(b"d")?);
     Ok((Vec::from_slice(alloc, link.sent())?, served))
 }
 
@@ -68,7 +68,7 @@ fn serve(
 fn replies_are(rt: &impl Abort, alloc: Global, request: &[u8], replies: &[u8]) -> Result<(), Fail> {
     for piece in 1..request.len().min(5000).saturating_add(1) {
         let (sent, served) = serve(alloc, request, piece, &[], &[])?;
-        assert_eq!(rt; served, Ok(()));
+        assert_eq!(rt; served, Ok(Ending::Whole));
         assert_eq!(rt; sent.as_slice(), replies, "in pieces of {piece}");
     }
     Ok(())
@@ -188,7 +188,7 @@ fn answers_piped_requests(rt: HostRuntime) -> Result<(), Fail> {
 fn stops_at_each_failing_call(rt: HostRuntime) -> Result<(), Fail> {
     for call in 0..200u64 {
         let (sent, served) = serve(rt.alloc(), PART, 5, &[call], &[])?;
-        if served == Ok(()) {
+        if served == Ok(Ending::Whole) {
             assert_eq!(rt; sent.as_slice(), PART_REPLY);
         } else {
             assert_eq!(rt; served, Err(ServeFault::LinkFault));
@@ -197,7 +197,7 @@ fn stops_at_each_failing_call(rt: HostRuntime) -> Result<(), Fail> {
     }
     for call in 0..2u64 {
         let (sent, served) = serve(rt.alloc(), PART, 5, &[], &[call])?;
-        assert_eq!(rt; served, Ok(()));
+        assert_eq!(rt; served, Ok(Ending::Failed));
         assert_eq!(rt; sent.as_slice(), FAILED_REPLY);
     }
     Ok(())

@@ -3,7 +3,7 @@ ghost use Rattle.std.specs.Prelude.{◌≡◌, ◌≢◌, None, IfOk};
 ghost use Rattle.std.specs.Net.Grammar.{IsIpText, Parses};
 
 use crate::counts::count_fault;
-use crate::link::{TcpLink, drain};
+use crate::link::{Limits, TcpLink};
 use std::env::{Env, FillError};
 use std::io::{self, ErrorKind};
 use std::marker::Model;
@@ -13,13 +13,6 @@ use vol_base::{Door, Failed};
 
 // The variable of the environment that names the address.
 const ADDRESS: &str = "VOL_TOOL_ADDRESS";
-
-// How long each receive and each send of a connection may wait, and how long a connection that ends is drained.
-#[derive(Clone, Copy)]
-struct Limits {
-    silence: Duration,
-    draining: Duration,
-}
 
 // A socket that listens, and its port.
 #[derive(Drop)]
@@ -32,8 +25,10 @@ struct Listening<L> {
 /// environment names, as a door, which tells nothing of what its ends had. A text there that is no IP address is a fault
 /// of `listen`.
 ///
-/// Its ends have a limit of 10 seconds on each receive and each send, and send without delay. `close` first ends what is
-/// sent; then it drains what still comes, for one second and 64 KiB at most, so that the peer gets all that was sent.
+/// Its ends have a limit of 10 seconds on each send, and of 10 seconds for a whole head, from the accept or the last send
+/// on, however its bytes come; and a shorter one, the pause, for the first byte behind a send, so that a peer that keeps an
+/// idle connection doesn't hold up the others. They send without delay. `close` first ends what is sent; then it drains
+/// what still comes, for one second and 64 KiB at most, so that the peer gets all that was sent.
 #[derive(Drop)]
 pub struct TcpDoor<R: Net> {
     rt: R,
@@ -58,14 +53,24 @@ impl<R: Net> Model for TcpDoor<R> {
 }
 
 impl<R: Net> TcpDoor<R> {
-    /// Nothing was bound, no end was given, and nothing failed.
+    /// Nothing was bound, no end was given, and nothing failed. The pause is half a second, for ends that are served one
+    /// after the other.
     pub fn new(rt: R) -> TcpDoor<R>
+        ensures { result ≡ record { port = None; accepted = 0; faults = 0 } }
+    {
+        TcpDoor::with_pause(rt, Duration::from_millis(500))
+    }
+
+    /// The same, with a pause of its own.
+    pub fn with_pause(rt: R, pause: Duration) -> TcpDoor<R>
         ensures { result ≡ record { port = None; accepted = 0; faults = 0 } }
     {
         TcpDoor::with_limits(
             rt,
             Limits {
-                silence: Duration::from_secs(10),
+                head: Duration::from_secs(10),
+                pause,
+                send: Duration::from_secs(10),
                 draining: Duration::from_secs(1),
             },
         )
@@ -141,23 +146,22 @@ fn next_stream<L: OpenListener>(listener: &L) -> io::Result<L::Stream> {
     Err(io::Error::from(ErrorKind::TimedOut))
 }
 
-// The next peer's stream, with a limit for each call.
-fn accept_stream<L>(listener: &L, silence: Duration) -> io::Result<L::Stream>
+// The next peer's stream, with a limit for each send.
+fn accept_stream<L>(listener: &L, send: Duration) -> io::Result<L::Stream>
 where
     L: OpenListener,
     L::Stream: OpenStream,
 {
     let stream = next_stream(listener)?;
     stream.set_nodelay(true)?;
-    stream.set_read_timeout(Some(silence))?;
-    stream.set_write_timeout(Some(silence))?;
+    stream.set_write_timeout(Some(send))?;
     Ok(stream)
 }
 
-impl<R: Net + Clock + Env> Door for TcpDoor<R> {
+impl<R: Net + Clock + Env + Copy> Door for TcpDoor<R> {
     ghost use Rattle.vol_base.specs.Causes.{counted, is_count};
 
-    type End = TcpLink<R::Stream>;
+    type End = TcpLink<R, R::Stream>;
 
     ghost bound = { λ d. d.port };
 
@@ -186,17 +190,17 @@ impl<R: Net + Clock + Env> Door for TcpDoor<R> {
     }
 
     // A count of ends at its own end gives no more.
-    fn accept(&mut self) -> Result<TcpLink<R::Stream>, Failed> {
+    fn accept(&mut self) -> Result<TcpLink<R, R::Stream>, Failed> {
         let next = match &self.listening {
             Some(listening) if self.accepted < u64::MAX => {
-                accept_stream(&listening.listener, self.limits.silence)
+                accept_stream(&listening.listener, self.limits.send)
             }
             _ => Err(io::Error::from(ErrorKind::NotConnected)),
         };
         match next {
             Ok(stream) => {
                 self.accepted += 1;
-                Ok(TcpLink::new(stream))
+                Ok(TcpLink::new(self.rt, stream, self.limits))
             }
             Err(_) => {
                 count_fault(&mut self.faults);
@@ -205,8 +209,8 @@ impl<R: Net + Clock + Env> Door for TcpDoor<R> {
         }
     }
 
-    fn close(&mut self, mut end: TcpLink<R::Stream>) {
-        let _ = drain(&self.rt, &mut end.stream, self.limits.draining);
+    fn close(&mut self, mut end: TcpLink<R, R::Stream>) {
+        end.drain();
     }
 }
 
@@ -216,10 +220,11 @@ mod tests {
     use std::io::{Read, Write};
     use std::net::{TcpListener, TcpStream};
     use std::test::Fail;
+    use std::time::Instant;
     use vol_base::Link;
 
     // The host's sockets and clock, and an environment where the variable has this text.
-    #[derive(Drop)]
+    #[derive(Clone, Copy)]
     struct Host {
         rt: HostRuntime,
         address: Option<&'static str>,
@@ -272,25 +277,36 @@ mod tests {
         }
     }
 
-    // A door that waits so long for a peer, and that drains for a tenth of a second.
-    fn door_of(rt: HostRuntime, address: Option<&'static str>, silence: Duration) -> TcpDoor<Host>
+    // Milliseconds.
+    const SHORT: u64 = 100;
+
+    const LONG: u64 = 10000;
+
+    // A door that waits so many milliseconds for a head and for each send, and that pauses and drains for a tenth of a
+    // second.
+    fn door_of(rt: HostRuntime, address: Option<&'static str>, limit: u64) -> TcpDoor<Host>
         ensures { result.port ≡ None }
     {
-        let draining = Duration::from_millis(100);
-        TcpDoor::with_limits(Host { rt, address }, Limits { silence, draining })
+        let limits = Limits {
+            head: Duration::from_millis(limit),
+            pause: Duration::from_millis(SHORT),
+            send: Duration::from_millis(limit),
+            draining: Duration::from_millis(SHORT),
+        };
+        TcpDoor::with_limits(Host { rt, address }, limits)
     }
 
     // A peer of a door.
     fn connect(rt: &HostRuntime, address: Ipv4Addr, port: u16) -> io::Result<TcpStream> {
         let peer = TcpStream::connect(rt, (address, port))?;
-        peer.set_read_timeout(Some(Duration::from_secs(10)))?;
+        peer.set_read_timeout(Some(Duration::from_millis(LONG)))?;
         Ok(peer)
     }
 
     // The peer sends more than is read, and gets the whole reply, which is more than it has room for, and the end.
     #[test]
     fn replies_before_it_closes(rt: HostRuntime) -> Result<(), Fail> {
-        let mut door = door_of(rt, None, Duration::from_secs(10));
+        let mut door = door_of(rt, None, LONG);
         let Ok(port) = door.listen(0) else {
             return Err("no port is free".into());
         };
@@ -325,7 +341,7 @@ mod tests {
 
     #[test]
     fn waits_no_longer_for_a_silent_peer(rt: HostRuntime) -> Result<(), Fail> {
-        let mut door = door_of(rt, None, Duration::from_millis(100));
+        let mut door = door_of(rt, None, SHORT);
         let Ok(port) = door.listen(0) else {
             return Err("no port is free".into());
         };
@@ -341,18 +357,44 @@ mod tests {
         Ok(())
     }
 
-    // A second address has the same port, so the door was bound to its own address alone.
+    // What may be moved into another thread.
+    fn can_move<T: Send>(_value: &T) {}
+
+    // A peer that was sent something and is silent is let go long before one that was sent nothing.
     #[test]
-    fn listens_where_it_is_told(rt: HostRuntime) -> Result<(), Fail> {
-        let limit = Duration::from_secs(10);
-        let mut door = door_of(rt, None, limit);
+    fn waits_no_longer_for_an_idle_peer(rt: HostRuntime) -> Result<(), Fail> {
+        let mut door = door_of(rt, None, LONG);
         let Ok(port) = door.listen(0) else {
             return Err("no port is free".into());
         };
-        let mut other = door_of(rt, Some("127.0.0.2"), limit);
+        let mut peer = connect(&rt, Ipv4Addr::LOCALHOST, port)?;
+        peer.write_all(b"abc")?;
+        let Ok(mut end) = door.accept() else {
+            return Err("no peer is there".into());
+        };
+        let mut got = [0; 3];
+        assert_eq!(rt; end.recv(&mut got), Ok(3));
+        assert_eq!(rt; end.send(b"x"), Ok(1));
+        let begin = Instant::now(&rt)?;
+        assert_eq!(rt; end.recv(&mut got), Err(Failed));
+        assert!(rt; begin.elapsed(&rt)? < Duration::from_secs(5));
+        can_move(&end);
+        can_move(&door);
+        assert_eq!(rt; end.faults, 1);
+        Ok(())
+    }
+
+    // A second address has the same port, so the door was bound to its own address alone.
+    #[test]
+    fn listens_where_it_is_told(rt: HostRuntime) -> Result<(), Fail> {
+        let mut door = door_of(rt, None, LONG);
+        let Ok(port) = door.listen(0) else {
+            return Err("no port is free".into());
+        };
+        let mut other = door_of(rt, Some("127.0.0.2"), LONG);
         assert_eq!(rt; other.listen(port), Ok(port));
         assert!(rt; connect(&rt, Ipv4Addr::new(127, 0, 0, 2), port).is_ok());
-        let mut third = door_of(rt, None, limit);
+        let mut third = door_of(rt, None, LONG);
         assert_eq!(rt; third.listen(port), Err(Failed));
         assert_eq!(rt; third.faults, 1);
         Ok(())
@@ -368,7 +410,7 @@ mod tests {
             "127.0.0.1 ",
             "::1::",
         ] {
-            let mut door = door_of(rt, Some(text), Duration::from_secs(10));
+            let mut door = door_of(rt, Some(text), LONG);
             assert_eq!(rt; door.listen(0), Err(Failed), "at {text}");
             assert_eq!(rt; door.faults, 1, "at {text}");
         }

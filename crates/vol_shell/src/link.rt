@@ -5,7 +5,7 @@ ghost use Rattle.vol_base.specs.Causes.{HasCause, counted, is_count};
 ghost use Rattle.vol_shell.specs.Effects.{LosesAtMost};
 
 use crate::counts::count_fault;
-use crate::streams::{read_some, write_some};
+use crate::streams::write_some;
 use std::io::{self, ErrorKind, Read, Write};
 use std::net::{OpenStream, Shutdown};
 use std::time::{Clock, Duration, Instant};
@@ -14,26 +14,81 @@ use vol_base::{Failed, Link};
 // How many bytes a connection that ends is drained of at most.
 const MOST_DRAINED: usize = 65536;
 
+/// How long a connection waits for its peer.
+#[derive(Clone, Copy)]
+pub(crate) struct Limits {
+    /// For a whole head, from the accept or the last send on, however its bytes come.
+    pub head: Duration,
+    /// For the first byte behind a send.
+    pub pause: Duration,
+    /// For each send.
+    pub send: Duration,
+    /// For what still comes where the connection ends.
+    pub draining: Duration,
+}
+
 /// A stream of bytes both ways as a link, which tells nothing of what comes or was sent. What the stream has
 /// left, and what it holds, where it tells that, changes by exactly the bytes that a call gives or takes.
 ///
-/// A stream's own limits of time hold: where a peer is silent for longer, the call is a fault.
+/// From the accept or the last send on all that comes has to come within one limit of time, and the first byte behind a
+/// send within a shorter one; each send has a limit of its own. Where a peer is slower, the call is a fault. A clock that
+/// fails is one, too.
 #[derive(Drop)]
-pub struct TcpLink<S> {
+pub struct TcpLink<C, S> {
+    clock: C,
     pub stream: S,
+    limits: Limits,
+    // The accept, or the last send; none where the clock failed.
+    since: Option<Instant>,
+    // Whether something was sent, and nothing came since.
+    kept: bool,
     pub faults: u64,
 }
 
-impl<S> TcpLink<S> {
-    /// Nothing failed.
-    pub fn new(stream: S) -> TcpLink<S>
-        ensures { result ≡ record { stream = stream; faults = 0 } }
+impl<C: Clock, S> TcpLink<C, S> {
+    /// A stream that was just accepted: nothing failed.
+    pub(crate) fn new(clock: C, stream: S, limits: Limits) -> TcpLink<C, S>
+        ensures { result.faults ≡ 0 }
     {
-        TcpLink { stream, faults: 0 }
+        let since = Instant::now(&clock).ok();
+        TcpLink {
+            clock,
+            stream,
+            limits,
+            since,
+            kept: false,
+            faults: 0,
+        }
+    }
+
+    // Until when the next byte has to come; none where the clock failed.
+    fn end(&self) -> Option<Instant> {
+        let limit = if self.kept {
+            self.limits.pause
+        } else {
+            self.limits.head
+        };
+        self.since?.checked_add(limit)
     }
 }
 
-impl<S: Read + Write> Link for TcpLink<S> {
+impl<C: Clock, S: Read + OpenStream> TcpLink<C, S> {
+    /// Ends what is sent, and drains what still comes, for a second and 64 KiB at most: a stream that is dropped with bytes
+    /// unread is reset, and what was sent last is lost to the peer (RFC 9112, section 9.6). Where a call failed nothing is
+    /// waited for.
+    #[tactic(auto, using(crate::proofs::DrainSteps::loses_nothing))]
+    pub fn drain(&mut self)
+        ensures drained { LosesAtMost MOST_DRAINED (S.remaining self.old.stream)
+            (S.remaining self.new.stream) }
+        ensures faults { self.new.faults ≡ self.old.faults }
+    {
+        if self.faults == 0 {
+            let _ = drain(&self.clock, &mut self.stream, self.limits.draining);
+        }
+    }
+}
+
+impl<C: Clock, S: Read + Write + OpenStream> Link for TcpLink<C, S> {
     ghost use Rattle.std.specs.Prelude.{None, refl};
 
     ghost stream = { λ _. None };
@@ -54,11 +109,17 @@ impl<S: Read + Write> Link for TcpLink<S> {
             (S.remaining self.new.stream) result out.new }
         ensures cause { HasCause (counted self.old.faults) (counted self.new.faults) result }
     {
-        let given = read_some(&mut self.stream, out);
-        if given.is_err() {
-            count_fault(&mut self.faults);
+        let end = self.end();
+        match receive(&self.clock, &mut self.stream, end, out) {
+            Ok(len) => {
+                self.kept = self.kept && len == 0;
+                Ok(len)
+            }
+            Err(failed) => {
+                count_fault(&mut self.faults);
+                Err(failed)
+            }
         }
-        given
     }
 
     fn send(&mut self, piece: &[u8]) -> Result<usize, Failed>
@@ -69,10 +130,31 @@ impl<S: Read + Write> Link for TcpLink<S> {
         ensures cause { HasCause (counted self.old.faults) (counted self.new.faults) result }
     {
         let taken = write_some(&mut self.stream, piece);
+        self.since = Instant::now(&self.clock).ok();
+        self.kept = true;
         if taken.is_err() {
             count_fault(&mut self.faults);
         }
         taken
+    }
+}
+
+// Reads some bytes, and waits for them until a moment at most, where there is one.
+fn receive<C: Clock, S: Read + OpenStream>(
+    clock: &C,
+    stream: &mut S,
+    end: Option<Instant>,
+    out: &mut [u8],
+) -> Result<usize, Failed>
+    ensures within { IfOk result (λ n. n ≤ length out.old) }
+    ensures bytes { ReadConsumes (S.remaining stream.old) (S.remaining stream.new) result out.new }
+{
+    let Some(end) = end else {
+        return Err(Failed);
+    };
+    match read_until(clock, stream, end, out) {
+        Ok(len) => Ok(len),
+        Err(_) => Err(Failed),
     }
 }
 
@@ -121,10 +203,9 @@ fn skip_until<C: Clock, S: Read + OpenStream>(
     Ok(())
 }
 
-/// Ends what is sent, and drains what still comes, for so long and so far at most: a stream that is dropped with bytes
-/// unread is reset, and what was sent last is lost to the peer (RFC 9112, section 9.6).
+// Ends what is sent, and drains what still comes, for so long and so far at most.
 #[tactic(auto, using(crate::proofs::DrainSteps::loses_nothing))]
-pub(crate) fn drain<C: Clock, S: Read + OpenStream>(
+fn drain<C: Clock, S: Read + OpenStream>(
     clock: &C,
     stream: &mut S,
     limit: Duration,
@@ -142,6 +223,174 @@ pub(crate) fn drain<C: Clock, S: Read + OpenStream>(
 mod tests {
     use super::*;
     use std::cell::Cell;
+    use std::process::Abort;
+
+    // A clock, and how long the next call of a stream takes.
+    #[derive(Drop)]
+    struct Course {
+        now: Cell<Duration>,
+        call: Cell<Duration>,
+    }
+
+    impl Course {
+        fn pass(&self, time: Duration) {
+            self.now.set(self.now.get().saturating_add(time));
+        }
+    }
+
+    impl Clock for Course {
+        fn monotonic(&self) -> io::Result<Duration> {
+            Ok(self.now.get())
+        }
+
+        fn since_1970(&self) -> io::Result<Duration> {
+            Ok(self.now.get())
+        }
+    }
+
+    // A stream whose calls take their time, and that waits no longer for a byte than it is told.
+    #[derive(Drop)]
+    struct Slow<'a> {
+        course: &'a Course,
+        limit: Cell<Duration>,
+    }
+
+    impl Read for Slow<'_> {
+        fn read(&mut self, out: &mut [u8]) -> io::Result<usize> {
+            let call = self.course.call.get();
+            let limit = self.limit.get();
+            self.course.pass(call.min(limit));
+            if call > limit {
+                return Err(io::Error::from(ErrorKind::WouldBlock));
+            }
+            Ok(out.len().min(1))
+        }
+    }
+
+    impl Write for Slow<'_> {
+        fn write(&mut self, piece: &[u8]) -> io::Result<usize> {
+            self.course.pass(self.course.call.get());
+            Ok(piece.len())
+        }
+
+        fn flush(&mut self) -> io::Result<()> {
+            Ok(())
+        }
+    }
+
+    impl OpenStream for Slow<'_> {
+        fn shutdown(&self, _how: Shutdown) -> io::Result<()> {
+            Ok(())
+        }
+
+        fn set_read_timeout(&self, limit: Option<Duration>) -> io::Result<()> {
+            match limit {
+                Some(limit) if !limit.is_zero() => {
+                    self.limit.set(limit);
+                    Ok(())
+                }
+                _ => Err(io::Error::from(ErrorKind::InvalidInput)),
+            }
+        }
+    }
+
+    // A call of a link, and how many milliseconds its peer takes.
+    #[derive(Clone, Copy)]
+    enum Call {
+        Receive(u64),
+        Reply(u64),
+        Drain(u64),
+    }
+
+    use Call::{Drain, Receive, Reply};
+
+    // A second for a head, a tenth of one behind a send, and two to drain.
+    fn limits() -> Limits {
+        Limits {
+            head: Duration::from_secs(1),
+            pause: Duration::from_millis(100),
+            send: Duration::from_secs(1),
+            draining: Duration::from_secs(2),
+        }
+    }
+
+    // One call of a link over a stream of this course.
+    fn make(link: &mut TcpLink<&Course, Slow<'_>>, course: &Course, call: Call) {
+        let (Receive(time) | Reply(time) | Drain(time)) = call;
+        course.call.set(Duration::from_millis(time));
+        match call {
+            Receive(_) => {
+                let _ = link.recv(&mut [0; 8]);
+            }
+            Reply(_) => {
+                let _ = link.send(b"a");
+            }
+            Drain(_) => link.drain(),
+        }
+    }
+
+    // So many of these calls fail, and they take so many milliseconds.
+    fn takes(rt: &impl Abort, calls: &[Call], faults: u64, time: u64) {
+        let course = Course {
+            now: Cell::new(Duration::ZERO),
+            call: Cell::new(Duration::ZERO),
+        };
+        let stream = Slow {
+            course: &course,
+            limit: Cell::new(Duration::ZERO),
+        };
+        let mut link = TcpLink::new(&course, stream, limits());
+        for call in calls {
+            make(&mut link, &course, *call);
+        }
+        assert_eq!(rt; link.faults, faults);
+        assert_eq!(rt; course.now.get(), Duration::from_millis(time));
+    }
+
+    #[test]
+    fn waits_for_a_head(rt: HostRuntime) {
+        takes(&rt, &[Receive(999)], 0, 999);
+        takes(&rt, &[Receive(1001)], 1, 1000);
+        let three = [Receive(300), Receive(300), Receive(300), Receive(99)];
+        takes(&rt, &three, 0, 999);
+        let four = [Receive(300), Receive(300), Receive(300), Receive(300)];
+        takes(&rt, &four, 1, 1000);
+    }
+
+    #[test]
+    fn waits_less_behind_a_send(rt: HostRuntime) {
+        takes(&rt, &[Receive(700), Reply(0), Receive(99)], 0, 799);
+        takes(&rt, &[Receive(700), Reply(0), Receive(101)], 1, 800);
+        let head = [Receive(1), Reply(0), Receive(50), Receive(949)];
+        takes(&rt, &head, 0, 1000);
+        let late = [Receive(1), Reply(0), Receive(50), Receive(951)];
+        takes(&rt, &late, 1, 1001);
+        let idle = [Receive(1), Reply(0), Receive(50), Reply(0), Receive(101)];
+        takes(&rt, &idle, 1, 151);
+    }
+
+    #[test]
+    fn counts_from_the_last_send_on(rt: HostRuntime) {
+        let slow = [
+            Receive(900),
+            Reply(800),
+            Reply(800),
+            Receive(99),
+            Receive(800),
+        ];
+        takes(&rt, &slow, 0, 3399);
+    }
+
+    #[test]
+    fn drains_only_what_did_not_fail(rt: HostRuntime) {
+        takes(&rt, &[Receive(1), Reply(0), Drain(5000)], 0, 2001);
+        takes(
+            &rt,
+            &[Receive(1), Reply(0), Receive(101), Drain(5000)],
+            1,
+            101,
+        );
+    }
 
     // A stream that gives bytes only once its sending side is ended.
     #[derive(Drop)]

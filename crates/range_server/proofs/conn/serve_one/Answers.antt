@@ -17,27 +17,27 @@ returns-in-Err-send_bad-clause-stops g c = λ m told rest is.
     stops_bad m c.args.dataset.now c.args.number (g.S.Source.faults c.args.store.now) (g.S.Source.faults c.args.store.now) rest c.in-Err-send_bad.fault (g.L.Link.sent c.args.link.now) (g.L.Link.sent c.wait_head.new.link) (g.L.Link.sent c.send_bad.new.link)
     c.in-Err-send_bad.ensures.store c.wait_head.ensures.sent next c.in-Err-send_bad.ensures.cut
 
-pub returns-in-Ok-true-clause-goes_on : goal.returns-in-Ok-true-clause-goes_on
-returns-in-Ok-true-clause-goes_on g c = λ m told rest is.
+pub returns-in-Ok-None-clause-goes_on : goal.returns-in-Ok-None-clause-goes_on
+returns-in-Ok-None-clause-goes_on g c = λ m told rest is.
     let received = take c.in-Ok.found.1 c.wait_head.new.desk.received.items in
     let has = subst (HasParts received c.wait_head.new.desk.spans.items) c.in-Head.is c.in-Ok.ensures.parts in
     let few : length received ≤ 8192 = omega (arith, c.in-Ok.ensures.within, length-take c.in-Ok.found.1 c.wait_head.new.desk.received.items) in
     let reads = subst (λ b. ReadsRequest (take c.in-Ok.found.1 b) has.1.0 (drop c.in-Head.parts.len received)) (sym c.as_slice.ensures.value) has.1.1.reads in
     goes_on m c.args.dataset.now c.args.number (g.S.Source.faults c.args.store.now) (g.S.Source.faults c.answer_head.new.store) rest (g.L.Link.left c.wait_head.new.link) received c.wait_head.new.desk.spans.items c.in-Head.parts
     (g.L.Link.sent c.args.link.now) (g.L.Link.sent c.wait_head.new.link) (g.L.Link.sent c.answer_head.new.link) few has.1 (c.in-Ok.ensures.pending ∙ is) c.wait_head.ensures.sent _
-    (λ i. option_map (λ bytes. c.drop_head.ensures.rest i ++ bytes) (c.answer_head.ensures.left i)) (subst (Answered m c.args.dataset.now c.args.number has.1.0 (g.S.Source.faults c.args.store.now) (g.S.Source.faults c.answer_head.new.store) (g.L.Link.sent c.wait_head.new.link) (g.L.Link.sent c.answer_head.new.link))
-    c.in-Ok-true.field-0-test (c.in-Ok-true.ensures.answered m told has.1.0 (drop c.in-Head.parts.len received) reads))
+    (λ i. option_map (λ bytes. c.drop_head.ensures.rest i ++ bytes) (c.answer_head.ensures.left i)) (subst (Answered m c.args.dataset.now c.args.number has.1.0 (g.L.Link.sent c.wait_head.new.link) (g.L.Link.sent c.answer_head.new.link))
+    c.in-Ok-None.field-0-is (c.in-Ok-None.ensures.answered m told has.1.0 (drop c.in-Head.parts.len received) reads))
 
-pub returns-in-Ok-false-clause-ends : goal.returns-in-Ok-false-clause-ends
-returns-in-Ok-false-clause-ends g c = λ none m told rest is.
+pub returns-in-Ok-Some-clause-ends : goal.returns-in-Ok-Some-clause-ends
+returns-in-Ok-Some-clause-ends g c = λ m told rest is.
     let received = take c.in-Ok.found.1 c.wait_head.new.desk.received.items in
     let has = subst (HasParts received c.wait_head.new.desk.spans.items) c.in-Head.is c.in-Ok.ensures.parts in
     let few : length received ≤ 8192 = omega (arith, c.in-Ok.ensures.within, length-take c.in-Ok.found.1 c.wait_head.new.desk.received.items) in
     let reads = subst (λ b. ReadsRequest (take c.in-Ok.found.1 b) has.1.0 (drop c.in-Head.parts.len received)) (sym c.as_slice.ensures.value) has.1.1.reads in
     ends_here m c.args.dataset.now c.args.number (g.S.Source.faults c.args.store.now) (g.S.Source.faults c.answer_head.new.store) rest (g.L.Link.left c.wait_head.new.link) received c.wait_head.new.desk.spans.items c.in-Head.parts
     (g.L.Link.sent c.args.link.now) (g.L.Link.sent c.wait_head.new.link) (g.L.Link.sent c.answer_head.new.link) few has.1 (c.in-Ok.ensures.pending ∙ is) c.wait_head.ensures.sent
-    (subst (Answered m c.args.dataset.now c.args.number has.1.0 (g.S.Source.faults c.args.store.now) (g.S.Source.faults c.answer_head.new.store) (g.L.Link.sent c.wait_head.new.link) (g.L.Link.sent c.answer_head.new.link))
-    c.in-Ok-false.field-0-test (c.in-Ok-false.ensures.answered m told has.1.0 (drop c.in-Head.parts.len received) reads))
+    c.in-Ok-Some.ending (subst (Answered m c.args.dataset.now c.args.number has.1.0 (g.L.Link.sent c.wait_head.new.link) (g.L.Link.sent c.answer_head.new.link))
+    c.in-Ok-Some.field-0-is (c.in-Ok-Some.ensures.answered m told has.1.0 (drop c.in-Head.parts.len received) reads))
 
 pub returns-in-Err-answer_head-clause-stops : goal.returns-in-Err-answer_head-clause-stops
 returns-in-Err-answer_head-clause-stops g c = λ m told rest is.

@@ -1,5 +1,8 @@
-use Rattle.range_server.proofs.ServeSteps.{stopped_none}
+use Rattle.std.proofs.Common.{Ok, ap}
+use Rattle.range_server.proofs.ServeSteps.{served_as}
 use Rattle.range_server.proofs.serve.serve_conn.Goals as goal
 
-pub returns-in-Err-clause-stopped : goal.returns-in-Err-clause-stopped
-returns-in-Err-clause-stopped g c = λ m told stream all. stopped_none m c.args.dataset.now stream (g.S.Source.faults c.args.store.now) (g.S.Source.faults c.args.store.now) (g.L.Link.sent c.args.link.now)
+pub returns-in-Ok-clause-served : goal.returns-in-Ok-clause-served
+returns-in-Ok-clause-served g c = λ m told stream all.
+    let got = c.in-Ok.ensures.ended m told stream all in
+    (got.0, served_as m c.args.dataset.now stream (g.S.Source.faults c.args.store.now) (g.S.Source.faults c.serve_to_end.new.store) c.in-Ok.field-0 got.0 (λ e. c.in-Ok.ensures.failed (ap Ok e)) got.1, got.2)

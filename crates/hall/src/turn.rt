@@ -1,0 +1,36 @@
+//! One connection.
+ghost use Rattle.std.specs.Prelude.{◌≡◌, ◌∷◌, [], List, option_map};
+ghost use Rattle.hall.specs.Halls.{Turned, outcome_of};
+
+use crate::outcome::Outcome;
+use range_server::{Ending, ServeFault, serve_to_end};
+use std::alloc::Global;
+use vol_base::{Link, Name, Source};
+
+// What is noted of a connection, by how it was served.
+fn judge(served: &Result<Ending, ServeFault>) -> Outcome
+    ensures { result ≡ outcome_of served.now }
+{
+    match served {
+        Ok(Ending::Whole) | Err(ServeFault::LinkFault) => Outcome::Whole,
+        Ok(Ending::Failed) | Err(ServeFault::StoreFault) => Outcome::StoreCut,
+        Err(ServeFault::OutOfMemory) => Outcome::MemoryCut,
+    }
+}
+
+/// Serves an end on which nothing was received or sent from a store, and tells how that ended.
+pub fn serve_turn<L: Link, S: Source>(
+    alloc: Global,
+    link: &mut L,
+    store: &mut S,
+    dataset: &Name,
+) -> Outcome
+    requires fresh { (L.left link.old ≡ L.stream link.old)
+        × (L.sent link.old ≡ option_map (λ _. []) (L.stream link.old)) × (L.faults link.old ≡ 0) }
+    ensures turned { Turned (S.objects store.old ∷ []) dataset.now result (L.stream link.new) (L.sent link.new)
+        (L.faults link.new) (S.faults store.old) (S.faults store.new) }
+    ensures objects { S.objects store.new ≡ S.objects store.old }
+{
+    let served = serve_to_end(alloc, link, store, dataset);
+    judge(&served)
+}

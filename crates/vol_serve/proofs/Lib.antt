@@ -1,0 +1,4 @@
+mod Closings
+mod LimitSteps
+mod NumberSteps
+mod PrefixSteps
