@@ -1,0 +1,21 @@
+use Rattle.std.proofs.Common.{◌∙◌}
+use Rattle.remote_store.specs.declared.wanted.Wanted.TheVariants.{Length}
+use Rattle.remote_store.proofs.CallSteps.{asks_for, peer_fits, told_length}
+use Rattle.remote_store.proofs.calls.call_length.Goals as goal
+
+pub write_request-requires-clause-peer : goal.write_request-requires-clause-peer
+write_request-requires-clause-peer g c = peer_fits c.args.host.now c.args.peer.now c.args.port c.requires.host c.requires.peer c.ranges.port.fits
+
+pub returns-clause-told : goal.returns-clause-told
+returns-clause-told g c =
+    let text = c.as_slice.result.now in
+    let bytes = c.as_slice.ensures.value ∙ c.write_request.ensures.bytes in
+    told_length c.args.host.now text c.args.key.now c.args.port c.args.kept.now (g.D.Dial.peer c.args.dial.now) (g.D.Dial.line c.args.dial.now) c.ask_length.result
+    (asks_for c.args.host.now c.args.peer.now text c.args.key.now c.args.port Length c.requires.host c.requires.peer c.ranges.port.fits c.as_bytes-name.ensures.form tt bytes) c.ask_length.ensures.told
+
+pub returns-clause-quiet : goal.returns-clause-quiet
+returns-clause-quiet g c = λ on dataset named quiet.
+    let text = c.as_slice.result.now in
+    let bytes = c.as_slice.ensures.value ∙ c.write_request.ensures.bytes in
+    c.ask_length.ensures.quiet on dataset c.args.key.now
+    (asks_for c.args.host.now c.args.peer.now text c.args.key.now c.args.port Length c.requires.host c.requires.peer c.ranges.port.fits c.as_bytes-name.ensures.form tt bytes dataset named) quiet

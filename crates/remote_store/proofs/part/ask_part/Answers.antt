@@ -1,0 +1,63 @@
+use Rattle.std.proofs.Common.{◌≡◌, ◌≤◌, ◌∙◌, ◌++◌, true, false, Ok, Some, None, take, length, length-take, ap, arith}
+use Rattle.remote_store.proofs.HeardParts.{begun_some}
+use Rattle.remote_store.proofs.ToldAsks.{has_some, part_quiet, part_told, part_untold, replied_begun, replied_cut, replied_err, replied_failed, replied_whole}
+use Rattle.remote_store.proofs.part.ask_part.Goals as goal
+
+pub finish_part-requires-clause-begun : goal.finish_part-requires-clause-begun
+finish_part-requires-clause-begun g c =
+    let is : c.in-Ok-Some.field-0 ≡ Some c.in-Ok-Some.begun = cc in
+    begun_some c.in-Ok-Some.field-0 is c.in-Ok-Some.ensures.begun
+
+pub returns-in-Ok-None-clause-replied : goal.returns-in-Ok-None-clause-replied
+returns-in-Ok-None-clause-replied g c =
+    let first = take c.start.new.there c.start.new.received in
+    let few : length first ≤ 8192 = omega (arith, length-take c.start.new.there c.start.new.received, c.start.ensures.within) in
+    let is : c.in-Ok-None.field-0 ≡ None = cc in
+    (first, replied_begun _ _ first _ _ _ _ _ few c.start.ensures.received (c.in-Ok-None.ensures.unfit is))
+
+pub returns-in-Ok-None-clause-told : goal.returns-in-Ok-None-clause-told
+returns-in-Ok-None-clause-told g c = λ dataset key asks quiet p same serves.
+    let is : c.in-Ok-None.field-0 ≡ None = cc in
+    absurd (((c.in-Ok-None.ensures.told dataset key asks quiet) p same serves).0 is)
+
+pub returns-in-Err-clause-replied : goal.returns-in-Err-clause-replied
+returns-in-Err-clause-replied g c =
+    let first = take c.start.new.there c.start.new.received in
+    let few : length first ≤ 8192 = omega (arith, length-take c.start.new.there c.start.new.received, c.start.ensures.within) in
+    (first, replied_failed _ _ first _ _ _ _ _ _ few c.start.ensures.received)
+
+pub returns-in-Ok-true-clause-replied : goal.returns-in-Ok-true-clause-replied
+returns-in-Ok-true-clause-replied g c =
+    let all : c.finish_part.result ≡ Ok true = c.in-Ok-true.is ∙ ap Ok c.in-Ok-true.field-0-test in
+    let fin = c.finish_part.ensures.finished in
+    (take c.start.new.there c.start.new.received ++ fin.0, replied_whole fin.1 _ _ all c.start.ensures.received)
+
+pub returns-in-Ok-true-clause-told : goal.returns-in-Ok-true-clause-told
+returns-in-Ok-true-clause-told g c = λ dataset key asks quiet.
+    let all : c.finish_part.result ≡ Ok true = c.in-Ok-true.is ∙ ap Ok c.in-Ok-true.field-0-test in
+    let is : c.in-Ok-Some.field-0 ≡ Some c.in-Ok-Some.begun = cc in
+    part_told c.finish_part.ensures.finished.1 all (g.met.D.Dial.plain c.args.dial.now) asks (has_some c.in-Ok-Some.field-0 is (c.in-Ok-Some.ensures.told dataset key asks quiet))
+
+pub returns-in-Ok-true-clause-quiet : goal.returns-in-Ok-true-clause-quiet
+returns-in-Ok-true-clause-quiet g c = λ on dataset key asks quiet.
+    let all : c.finish_part.result ≡ Ok true = c.in-Ok-true.is ∙ ap Ok c.in-Ok-true.field-0-test in
+    let is : c.in-Ok-Some.field-0 ≡ Some c.in-Ok-Some.begun = cc in
+    part_quiet c.finish_part.ensures.finished.1 all (g.met.D.Dial.plain c.args.dial.now) asks (has_some c.in-Ok-Some.field-0 is (c.in-Ok-Some.ensures.told dataset key asks quiet))
+    (c.finish_part.ensures.same.same_peer ∙ c.start.ensures.peer) on
+
+pub returns-in-Ok-false-clause-replied : goal.returns-in-Ok-false-clause-replied
+returns-in-Ok-false-clause-replied g c =
+    let off : c.finish_part.result ≡ Ok false = c.in-Ok-false.is ∙ ap Ok c.in-Ok-false.field-0-test in
+    let fin = c.finish_part.ensures.finished in
+    (take c.start.new.there c.start.new.received ++ fin.0, replied_cut fin.1 _ _ off c.start.ensures.received c.start.ensures.ends)
+
+pub returns-in-Ok-false-clause-told : goal.returns-in-Ok-false-clause-told
+returns-in-Ok-false-clause-told g c = λ dataset key asks quiet.
+    let off : c.finish_part.result ≡ Ok false = c.in-Ok-false.is ∙ ap Ok c.in-Ok-false.field-0-test in
+    let is : c.in-Ok-Some.field-0 ≡ Some c.in-Ok-Some.begun = cc in
+    part_untold c.finish_part.ensures.finished.1 off (g.met.D.Dial.plain c.args.dial.now) asks (has_some c.in-Ok-Some.field-0 is (c.in-Ok-Some.ensures.told dataset key asks quiet))
+
+pub returns-in-Err-finish_part-clause-replied : goal.returns-in-Err-finish_part-clause-replied
+returns-in-Err-finish_part-clause-replied g c =
+    let fin = c.finish_part.ensures.finished in
+    (take c.start.new.there c.start.new.received ++ fin.0, replied_err fin.1 _ _ _ c.start.ensures.received)

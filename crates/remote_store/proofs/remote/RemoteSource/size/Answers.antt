@@ -1,0 +1,48 @@
+use Rattle.std.proofs.Common.{◌≡◌, ◌∙◌, Some, None, refl}
+use Rattle.remote_store.specs.Shown.{key_in, shown}
+use Rattle.remote_store.proofs.KeySteps.{key_parts}
+use Rattle.remote_store.proofs.Looked.{if_shown, no_length, shown_bytes}
+use Rattle.remote_store.specs.Remotes.{IsSame, IsSize}
+use Rattle.remote_store.specs.declared.wanted.Wanted.TheVariants.{Length}
+use Rattle.remote_store.proofs.JudgedSteps.{if_any, if_none, judged_failed, judged_size}
+use Rattle.remote_store.proofs.RemoteSteps.{found_told}
+use Rattle.remote_store.proofs.remote.RemoteSource.size.Goals as goal
+
+pub returns-in-None-clause-found : goal.returns-in-None-clause-found
+returns-in-None-clause-found g c =
+    let s = c.args.self.now in
+    let e : key_in s.dataset c.args.name.now ≡ None = cc in
+    no_length s.dataset (g.D.Dial.peer s.dial) c.args.name.now e
+
+pub returns-in-None-clause-bytes : goal.returns-in-None-clause-bytes
+returns-in-None-clause-bytes g c = shown_bytes c.args.self.now.dataset (g.D.Dial.peer c.args.self.now.dial) (g.met.D.Dial.plain c.args.self.now.dial)
+
+pub ask_length-requires : goal.ask_length-requires
+ask_length-requires g c =
+    let s = c.args.self.now in
+    let e : key_in s.dataset c.args.name.now ≡ Some c.in-Some.key = cc in
+    (key_parts s.dataset c.args.name.now c.in-Some.key c.as_bytes-name.ensures.form e).named
+
+pub returns-in-Ok-clause-found : goal.returns-in-Ok-clause-found
+returns-in-Ok-clause-found g c =
+    let s = c.args.self.now in
+    let e : key_in s.dataset c.args.name.now ≡ Some c.in-Some.key = cc in
+    let k = key_parts s.dataset c.args.name.now c.in-Some.key c.as_bytes-name.ensures.form e in
+    if_shown (shown s.dataset (g.D.Dial.peer s.dial)) (found_told s.dataset c.args.name.now c.in-Some.key (g.D.Dial.peer s.dial) c.in-Ok.promise k c.in-Ok.ensures.told) (λ m x. c.find_size.ensures ∙ x)
+
+pub returns-in-Ok-clause-bytes : goal.returns-in-Ok-clause-bytes
+returns-in-Ok-clause-bytes g c = shown_bytes c.args.self.now.dataset (g.D.Dial.peer c.args.self.now.dial) (g.met.D.Dial.plain c.args.self.now.dial)
+
+pub returns-in-Err-clause-bytes : goal.returns-in-Err-clause-bytes
+returns-in-Err-clause-bytes g c = shown_bytes c.args.self.now.dataset (g.D.Dial.peer c.args.self.now.dial) (g.met.D.Dial.plain c.args.self.now.dial)
+
+pub returns-in-None-clause-judged : goal.returns-in-None-clause-judged
+returns-in-None-clause-judged g c =
+    let e : key_in c.args.self.now.dataset c.args.name.now ≡ None = cc in
+    if_none _ (key_in c.args.self.now.dataset c.args.name.now) e
+
+pub returns-in-Ok-clause-judged : goal.returns-in-Ok-clause-judged
+returns-in-Ok-clause-judged g c = if_any (key_in c.args.self.now.dataset c.args.name.now) (judged_size _ _ _ _ _ _ _ c.in-Ok.promise c.find_size.result c.find_size.ensures c.in-Ok.ensures.judged)
+
+pub returns-in-Err-clause-judged : goal.returns-in-Err-clause-judged
+returns-in-Err-clause-judged g c = if_any (key_in c.args.self.now.dataset c.args.name.now) (judged_failed _ _ _ _ _ _ _ Length Length IsSame IsSize _ refl c.in-Err.ensures.judged)

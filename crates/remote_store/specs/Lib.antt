@@ -1,0 +1,17 @@
+pub mod Requests
+pub mod Fits
+pub mod Answers
+pub mod Dials
+pub mod Scripts
+pub mod Waits
+pub mod Values
+pub mod Reading
+pub mod Talks
+pub mod Quiet
+pub mod Shown
+pub mod Texts
+pub mod Bodies
+pub mod Placed
+pub mod Asking
+pub mod Hosts
+pub mod Remotes

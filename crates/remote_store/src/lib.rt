@@ -1,0 +1,33 @@
+//! A store over HTTP: the objects of a range server.
+#![tactic(auto)]
+
+mod begin;
+mod body;
+mod calls;
+mod counts;
+mod dial;
+mod fields;
+mod hosts;
+mod judge;
+mod keys;
+mod law;
+mod numbers;
+mod part;
+mod remote;
+mod room;
+mod script;
+mod start;
+mod talk;
+#[cfg(test)]
+mod tests;
+mod text;
+mod wait;
+mod wanted;
+
+pub use dial::Dial;
+pub use hosts::is_host;
+pub use law::tell_reply;
+pub use remote::Remote;
+pub use script::ScriptDial;
+pub use wait::{Front, judge_front};
+pub use wanted::{Begun, Kind, Promise, Wanted};

@@ -1,0 +1,2 @@
+pub mod FetchSteps
+pub mod LineSteps
