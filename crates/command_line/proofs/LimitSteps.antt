@@ -6,8 +6,9 @@ use Rattle.std.proofs.lemmas.Bool.Decides.{nat_tests}
 use Rattle.std.proofs.Common.{arith}
 use Rattle.vol_base.specs.Names.{is_name}
 use Rattle.vol_base.specs.declared.boxes.Box3.{Box3}
+use Rattle.reduce_laws.specs.declared.method.Method.{Method}
 use Rattle.command_line.specs.declared.commands.Command.{Command}
-use Rattle.command_line.specs.Words.{box_of, connection_count, cutout_line, cutout_of, either_value, generate_line, generate_of, KeepsLimits, line, number, other_words, part_of, plain_words, port_number, reshard_line, reshard_of, seed, serve_line, serve_of, short_name, update_line, update_of, verify_line, verify_of, workers, write_count, write_line, write_of}
+use Rattle.command_line.specs.Words.{box_of, connection_count, cutout_line, cutout_of, downsample_by, downsample_line, downsample_of, either_value, generate_line, generate_of, KeepsLimits, line, method_in, number, other_words, part_of, plain_words, port_number, reshard_line, reshard_of, seed, serve_line, serve_of, short_name, update_line, update_of, verify_line, verify_of, workers, write_count, write_line, write_of}
 
 abbrev IsShort : Option (List ℕ) → Type 0
 IsShort name = IfSome name (λ n. length n ≤ 200)
@@ -48,6 +49,13 @@ reshard_keeps (Some a) (Some b) (Some c) None n ha hb hc hd = tt
 reshard_keeps (Some a) (Some b) None d n ha hb hc hd = tt
 reshard_keeps (Some a) None c d n ha hb hc hd = tt
 reshard_keeps None b c d n ha hb hc hd = tt
+
+downsample_keeps : (a b c : Option (List ℕ)) (m : Method) (n : Option ℕ) → IsShort a → IsShort b → IsShort c → KeepsLimits (downsample_of a b c m n)
+downsample_keeps (Some a) (Some b) (Some c) m (Some n) ha hb hc = (ha, hb, hc)
+downsample_keeps (Some a) (Some b) (Some c) m None ha hb hc = tt
+downsample_keeps (Some a) (Some b) None m n ha hb hc = tt
+downsample_keeps (Some a) None c m n ha hb hc = tt
+downsample_keeps None b c m n ha hb hc = tt
 
 verify_keeps : (a b : Option (List ℕ)) (p : Option (Option Box3)) → IsShort a → IsShort b → KeepsLimits (verify_of a b p)
 verify_keeps (Some a) (Some b) (Some p) ha hb = (ha, hb)
@@ -131,6 +139,17 @@ reshard_line_keeps (a ∷ b ∷ []) others = tt
 reshard_line_keeps (a ∷ b ∷ c ∷ []) others = tt
 reshard_line_keeps (a ∷ b ∷ c ∷ d ∷ e ∷ plain) others = tt
 
+method_keeps : (a b c : Option (List ℕ)) (found : Option (Method × List (List ℕ))) → IsShort a → IsShort b → IsShort c → KeepsLimits (downsample_by a b c found)
+method_keeps a b c (Some found) ha hb hc = downsample_keeps a b c found.0 (workers found.1) ha hb hc
+method_keeps a b c None ha hb hc = tt
+
+downsample_line_keeps : (plain others : List (List ℕ)) → KeepsLimits (downsample_line plain others)
+downsample_line_keeps (a ∷ b ∷ c ∷ []) others = method_keeps (short_name a) (short_name b) (short_name c) (method_in others) (short_is a) (short_is b) (short_is c)
+downsample_line_keeps [] others = tt
+downsample_line_keeps (a ∷ []) others = tt
+downsample_line_keeps (a ∷ b ∷ []) others = tt
+downsample_line_keeps (a ∷ b ∷ c ∷ d ∷ plain) others = tt
+
 verify_line_keeps : (plain others : List (List ℕ)) → KeepsLimits (verify_line plain others)
 verify_line_keeps (a ∷ b ∷ []) [] = verify_keeps (short_name a) (short_name b) (part_of None) (short_is a) (short_is b)
 verify_line_keeps (a ∷ b ∷ []) (o ∷ others) = tt
@@ -185,8 +204,9 @@ line_keeps (command ∷ words) =
     (either_keeps (bytes_eq command (codes "update")) (update_line plain others) _ (update_line_keeps plain others)
     (either_keeps (bytes_eq command (codes "generate")) (generate_line plain others) _ (generate_line_keeps plain others)
     (either_keeps (bytes_eq command (codes "reshard")) (reshard_line plain others) _ (reshard_line_keeps plain others)
+    (either_keeps (bytes_eq command (codes "downsample")) (downsample_line plain others) _ (downsample_line_keeps plain others)
     (either_keeps (bytes_eq command (codes "verify")) (verify_line plain others) _ (verify_line_keeps plain others)
-    (either_keeps (bytes_eq command (codes "serve")) (serve_line plain others) None (serve_line_keeps plain others) tt))))))
+    (either_keeps (bytes_eq command (codes "serve")) (serve_line plain others) None (serve_line_keeps plain others) tt)))))))
 
 pub command_keeps : (found : Option Command) (words : List (List ℕ)) → found ≡ line words → KeepsLimits found
 command_keeps found words e = subst KeepsLimits (sym e) (line_keeps words)

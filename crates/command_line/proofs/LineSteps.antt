@@ -1,8 +1,9 @@
 -- Lists of words that spell no command.
 use Rattle.std.proofs.Common.{◌≡◌, ◌<◌, ℕ, List, [], ◌∷◌, false, Option, Some, None, length, map, option_and_then, arith, refl}
 use Rattle.std.specs.Borrow.{Bor}
+use Rattle.reduce_laws.specs.declared.method.Method.{Method}
 use Rattle.command_line.specs.Parsers.{is_given}
-use Rattle.command_line.specs.Words.{cutout_line, generate_line, generate_of, numbered, over, reshard_line, reshard_of, short_name, targeted, update_line, update_of, verify_line, worker_count, workers, write_line, write_of}
+use Rattle.command_line.specs.Words.{coarsened, cutout_line, downsample_line, downsample_of, generate_line, generate_of, numbered, over, reshard_line, reshard_of, short_name, targeted, update_line, update_of, verify_line, worker_count, workers, write_line, write_of}
 
 -- the texts behind references
 abbrev pub texts : List (Bor (List ℕ)) → List (List ℕ)
@@ -99,3 +100,19 @@ reshard_is (Some d) (Some k) None l (Some count) = refl
 reshard_is (Some d) (Some k) None l None = refl
 reshard_is (Some d) None e l count = refl
 reshard_is None k e l count = refl
+
+-- the same of `downsample`, of whose words the first two and the others but for the method are those of `write`
+pub no_downsample : (plain others : List (Bor (List ℕ))) → (length plain ≡ 3 → ⊥) → None ≡ downsample_line (texts plain) (texts others)
+no_downsample [] others h = refl
+no_downsample (a ∷ []) others h = refl
+no_downsample (a ∷ b ∷ []) others h = refl
+no_downsample (a ∷ b ∷ c ∷ []) others h = absurd (h refl)
+no_downsample (a ∷ b ∷ c ∷ d ∷ rest) others h = refl
+
+pub downsample_is : (dataset key to_key : Option (List ℕ)) (method : Method) (count : Option ℕ) → coarsened (write_of dataset key count) to_key method ≡ downsample_of dataset key to_key method count
+downsample_is (Some d) (Some k) (Some t) method (Some count) = refl
+downsample_is (Some d) (Some k) (Some t) method None = refl
+downsample_is (Some d) (Some k) None method (Some count) = refl
+downsample_is (Some d) (Some k) None method None = refl
+downsample_is (Some d) None t method count = refl
+downsample_is None k t method count = refl

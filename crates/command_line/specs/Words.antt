@@ -9,8 +9,10 @@ use Rattle.std.specs.Str.Parse.{digits_value}
 use Rattle.vol_base.specs.BoxText.{box_numbers, parsed}
 use Rattle.vol_base.specs.Names.{is_name}
 use Rattle.vol_base.specs.declared.boxes.Box3.{Box3}
+use Rattle.reduce_laws.specs.declared.method.Method.{Method}
+use Rattle.reduce_laws.specs.declared.method.Method.TheVariants.{Mode, Mean}
 use Rattle.command_line.specs.declared.commands.Command.{Command}
-use Rattle.command_line.specs.declared.commands.Command.TheVariants.{Cutout, Generate, Reshard, Serve, Update, Verify, Write}
+use Rattle.command_line.specs.declared.commands.Command.TheVariants.{Cutout, Downsample, Generate, Reshard, Serve, Update, Verify, Write}
 
 -- a plain word isn't empty and doesn't begin with `-`
 abbrev pub is_plain : List ℕ → Bool
@@ -141,6 +143,49 @@ targeted (Some (Write dataset key count)) (Some to_dataset) (Some to_key) =
     Some (Reshard dataset key to_dataset to_key count)
 targeted found to_dataset to_key = None
 
+-- `--method=M`: the value that occurs most often, or the mean
+abbrev pub method_word : List ℕ → Option Method
+method_word word = if bytes_eq word (codes "--method=mode") then Some Mode
+    else if bytes_eq word (codes "--method=mean") then Some Mean else None
+
+-- the method among one or two words, and the words beside it, in either order
+abbrev pub method_before : Option Method → List (List ℕ) → Option (Method × List (List ℕ))
+method_before (Some method) others = Some (method, others)
+method_before None others = None
+
+abbrev pub method_in : List (List ℕ) → Option (Method × List (List ℕ))
+method_in [] = None
+method_in (a ∷ []) = method_before (method_word a) []
+method_in (a ∷ b ∷ []) = option_or (method_before (method_word a) (b ∷ []))
+    (method_before (method_word b) (a ∷ []))
+method_in (a ∷ b ∷ c ∷ words) = None
+
+-- `downsample DATASET KEY KEY2 --method=mode|mean [--workers=N]`, by its plain words and the others: a scale, and the one that it is reduced into
+abbrev pub downsample_of : Option (List ℕ) → Option (List ℕ) → Option (List ℕ) → Method → Option ℕ →
+    Option Command
+downsample_of (Some dataset) (Some key) (Some to_key) method (Some count) =
+    Some (Downsample dataset key to_key method count)
+downsample_of (Some dataset) (Some key) (Some to_key) method None = None
+downsample_of (Some dataset) (Some key) None method count = None
+downsample_of (Some dataset) None to_key method count = None
+downsample_of None key to_key method count = None
+
+abbrev pub downsample_by : Option (List ℕ) → Option (List ℕ) → Option (List ℕ) →
+    Option (Method × List (List ℕ)) → Option Command
+downsample_by dataset key to_key (Some found) = downsample_of dataset key to_key found.0 (workers found.1)
+downsample_by dataset key to_key None = None
+
+abbrev pub downsample_line : List (List ℕ) → List (List ℕ) → Option Command
+downsample_line (dataset ∷ key ∷ to_key ∷ []) others =
+    downsample_by (short_name dataset) (short_name key) (short_name to_key) (method_in others)
+downsample_line plain others = None
+
+-- a command `write` with the key of another scale, and a method
+abbrev pub coarsened : Option Command → Option (List ℕ) → Method → Option Command
+coarsened (Some (Write dataset key count)) (Some to_key) method =
+    Some (Downsample dataset key to_key method count)
+coarsened found to_key method = None
+
 -- `verify DATASET KEY [BOX]`, where no other word may stand: without a box all of the scale
 abbrev pub part_of : Option (List ℕ) → Option (Option Box3)
 part_of (Some word) = option_map Some (box_of word)
@@ -196,6 +241,8 @@ line (command ∷ words) = if bytes_eq command (codes "cutout")
     else if bytes_eq command (codes "update") then update_line (plain_words words) (other_words words)
     else if bytes_eq command (codes "generate") then generate_line (plain_words words) (other_words words)
     else if bytes_eq command (codes "reshard") then reshard_line (plain_words words) (other_words words)
+    else if bytes_eq command (codes "downsample")
+    then downsample_line (plain_words words) (other_words words)
     else if bytes_eq command (codes "verify") then verify_line (plain_words words) (other_words words)
     else if bytes_eq command (codes "serve") then serve_line (plain_words words) (other_words words) else None
 
@@ -209,5 +256,7 @@ KeepsLimits (Some (Generate dataset key n writes count)) =
     (length dataset ≤ 200) × (length key ≤ 200) × (n < 2 ^ 31) × (writes ≤ 4096)
 KeepsLimits (Some (Reshard dataset key to_dataset to_key count)) =
     (length dataset ≤ 200) × (length key ≤ 200) × (length to_dataset ≤ 200) × (length to_key ≤ 200)
+KeepsLimits (Some (Downsample dataset key to_key method count)) =
+    (length dataset ≤ 200) × (length key ≤ 200) × (length to_key ≤ 200)
 KeepsLimits (Some (Verify dataset key part)) = (length dataset ≤ 200) × (length key ≤ 200)
 KeepsLimits (Some (Serve dataset port count)) = (length dataset ≤ 200) × (1 ≤ count)

@@ -1,4 +1,5 @@
 //! The commands.
+use reduce_laws::Method;
 use vol_base::{Box3, Name};
 
 /// A command and its arguments. Names have at most 200 bytes.
@@ -44,6 +45,15 @@ pub enum Command {
         key: Name,
         to_dataset: Name,
         to_key: Name,
+        workers: u32,
+    },
+    /// `downsample DATASET KEY KEY2 --method=mode|mean [--workers=N]`: a scale into an empty one of half the
+    /// resolution, by 1 to 16 workers.
+    Downsample {
+        dataset: Name,
+        key: Name,
+        to_key: Name,
+        method: Method,
         workers: u32,
     },
     /// `serve DATASET --port=P --connections=N`: its objects by byte ranges, to 1 to 65,536 peers one after the

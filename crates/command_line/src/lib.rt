@@ -2,6 +2,7 @@
 #![tactic(auto)]
 
 mod commands;
+mod downsampling;
 mod parsers;
 mod resharding;
 mod serving;

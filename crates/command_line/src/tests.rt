@@ -19,6 +19,10 @@ generate d s 2147483647 4096 --workers=3 => generate 2147483647 4096 3
 generate --workers=16 d s 7 200 => generate 7 200 16
 reshard d s e t => reshard 1
 reshard d s d t --workers=4 => reshard 4
+downsample d s t --method=mode => downsample Mode 1
+downsample d --method=mean s t => downsample Mean 1
+downsample d s t --method=mean --workers=4 => downsample Mean 4
+downsample --workers=16 d s t --method=mode => downsample Mode 16
 verify d s => verify all
 verify d s [0:4,0:4,0:4] => verify box
 serve d --port=80 --connections=1 => serve 80 1
@@ -70,6 +74,17 @@ reshard d s e t u
 reshard d s e ../t
 reshard d s ../e t
 reshard d s e t --workers=0
+downsample d s t
+downsample d s --method=mode
+downsample d s t u --method=mode
+downsample d s ../t --method=mode
+downsample d s t --method=median
+downsample d s t --method=
+downsample d s t --method=mode --method=mode
+downsample d s t --method=mode --workers=17
+downsample d s t --method=mode --port=1
+downsample d s t --workers=1
+downsample d s t --method=mode --workers=1 --workers=1
 verify d s [0:4,0:4]
 verify d s [0:4,0:4,0:4] x
 verify d
@@ -114,6 +129,11 @@ fn print_command(alloc: Global, command: &Command) -> Result<String, AllocError>
             ..
         } => format!(in alloc; "generate {number} {writes} {workers}"),
         Command::Reshard { workers, .. } => format!(in alloc; "reshard {workers}"),
+        Command::Downsample {
+            method,
+            workers,
+            ..
+        } => format!(in alloc; "downsample {method:?} {workers}"),
         Command::Verify { part: None, .. } => String::from_str(alloc, "verify all"),
         Command::Verify { part: Some(_), .. } => String::from_str(alloc, "verify box"),
         Command::Serve {

@@ -6,6 +6,7 @@ ghost use Rattle.command_line.specs.Parsers.{cutout_by, is_given, write_by};
 ghost use Rattle.command_line.specs.Words.{KeepsLimits, box_of, is_number, is_plain, cutout_line, cutout_of, generate_line, generate_of, line, number, numbered, other_words, plain_words, seed, short_name, value_after, worker_count, workers, write_count, write_line, write_of};
 
 use crate::commands::Command;
+use crate::downsampling::read_downsample;
 use crate::parsers::find_values;
 use crate::resharding::read_reshard;
 use crate::serving::read_serve;
@@ -330,6 +331,7 @@ fn read_command(
         "update" => read_update(alloc, &sorted.plain, &sorted.others),
         "generate" => read_generate(alloc, &sorted.plain, &sorted.others),
         "reshard" => read_reshard(alloc, &sorted.plain, &sorted.others),
+        "downsample" => read_downsample(alloc, &sorted.plain, &sorted.others),
         "verify" => Ok(read_verify(&sorted.plain, &sorted.others)),
         "serve" => read_serve(alloc, &sorted.plain, &sorted.others),
         _ => Ok(None),

@@ -20,7 +20,7 @@ use Rattle.write_plan.proofs.KeySteps.{to_key_order}
 use Rattle.reshard_cmd.specs.Resharding.{IsFirstFault, copy_fault}
 
 -- the first of a list is of one of its elements
-first_of : {X Y : Type 0} (f : X → Option Y) (xs : List X) (y : Y) → first_some (map f xs) ≡ Some y → (x : X) × Contains xs x × (f x ≡ Some y)
+pub first_of : {X Y : Type 0} (f : X → Option Y) (xs : List X) (y : Y) → first_some (map f xs) ≡ Some y → (x : X) × Contains xs x × (f x ≡ Some y)
 first_of f [] y e = absurd (cc e)
 first_of {X} {Y} f (x ∷ xs) y e = by (f x) refl (first_of f xs y) e
   where
@@ -33,7 +33,7 @@ heads : {Y : Type 0} (o : Option Y) (rest : List (Option Y)) → first_some (o �
 heads None rest e = (refl, e)
 heads (Some y) rest e = absurd (cc e)
 
-none_each : {X Y : Type 0} (f : X → Option Y) (xs : List X) → first_some (map f xs) ≡ None → All (λ x. f x ≡ None) xs
+pub none_each : {X Y : Type 0} (f : X → Option Y) (xs : List X) → first_some (map f xs) ≡ None → All (λ x. f x ≡ None) xs
 none_each f [] e = All-nil (λ x. f x ≡ None)
 none_each f (x ∷ xs) e = let parts = heads (f x) (map f xs) e in All-cons (λ x. f x ≡ None) x xs parts.0 (none_each f xs parts.1)
 
@@ -44,7 +44,7 @@ told_cell cell at (Some found) fault e =
     let same : (let x : List ℕ × Fault = (cell, found) in x) ≡ (at, fault) = cc e in
     (ap (λ (x : List ℕ × Fault). x.0) same, ap (λ (x : List ℕ × Fault). Some x.1) same)
 
-box_fault : (m : Objects) (dataset : List ℕ) (s : Scale) (b : Box3) (cell : List ℕ) (fault : Fault) → first_fault m dataset s b ≡ Some (cell, fault) → IsCell s cell × (fault_in m dataset s cell ≡ Some fault)
+pub box_fault : (m : Objects) (dataset : List ℕ) (s : Scale) (b : Box3) (cell : List ℕ) (fault : Fault) → first_fault m dataset s b ≡ Some (cell, fault) → IsCell s cell × (fault_in m dataset s cell ≡ Some fault)
 unfolding first_fault
 box_fault m dataset s b cell fault e =
     let (at, listed, is) = first_of (faulty m dataset s) (cells_in s b) (cell, fault) e in

@@ -161,7 +161,7 @@ source_drops o same dataset key before read after objects kept drops =
     subst (λ d. IfSome o (λ m. DropsUnsharded (stored_scale m dataset key) d after)) kept (subst (λ x. IfSome x (λ m. DropsUnsharded (stored_scale m dataset key) read after)) objects drops)
 
 -- of both scales
-both_and : (source target : Result Scale NoScaleType) (P Q : Scale → Scale → Type 0) → ((from to : Scale) → P from to → Q from to) → OfBoth source target P → OfBoth source target Q
+pub both_and : (source target : Result Scale NoScaleType) (P Q : Scale → Scale → Type 0) → ((from to : Scale) → P from to → Q from to) → OfBoth source target P → OfBoth source target Q
 both_and source target P Q f = ok_and source (λ from. IsOkAnd target (P from)) (λ from. IsOkAnd target (Q from)) (λ from. ok_and target (P from) (Q from) (f from))
 
 -- after a copy each box reads as the source
@@ -183,7 +183,7 @@ pub refusal_told : (refusal : ReshardRefusal) (status : Status) (from_dataset to
 refusal_told refusal status from_dataset to_dataset named o names told = subst (λ d. Reports (reshard_status refusal) (reshard_line d refusal) status (Tells o)) names told
 
 -- a refusal of a copy that could be made
-meet : (source target : Result Scale NoScaleType) (P Q : Scale → Scale → Type 0) → OfBoth source target P → OfBoth source target Q → ((from to : Scale) → P from to → Q from to → ⊥) → ⊥
+pub meet : (source target : Result Scale NoScaleType) (P Q : Scale → Scale → Type 0) → OfBoth source target P → OfBoth source target Q → ((from to : Scale) → P from to → Q from to → ⊥) → ⊥
 meet (Ok from) (Ok to) P Q p q f = f from to p q
 meet (Ok from) (Err why) P Q p q f = p
 meet (Err why) target P Q p q f = p

@@ -22,8 +22,8 @@ use std::thread::Threads;
 use vol_base::{Gate, Name, Outlet, Source, Store};
 use vol_spec::Scale;
 
-// A fault of the copy.
-fn refuse(fault: ReshardFault) -> ReshardRefusal
+/// A fault of the copy, as a refusal.
+pub fn refuse(fault: ReshardFault) -> ReshardRefusal
     ensures { result ≡ unmade fault }
 {
     match fault {
@@ -50,8 +50,12 @@ fn find_named<'a>(
     }
 }
 
-// The scale that is copied into, where it is there and keeps the writing limit.
-fn read_target<S: Source>(
+/// The scale that is written into, where it is there and keeps the writing limit.
+///
+/// # Errors
+/// `NoTarget` where it isn't there, `TooManyVoxels` where it has more padded voxels than are written, `StoreFault`
+/// only where the store failed, and `NoMemory`.
+pub fn read_target<S: Source>(
     alloc: Global,
     store: &mut S,
     dataset: &Name,

@@ -55,8 +55,8 @@ fn count_grid(scale: &Scale) -> u128
     count_cells(scale, &whole(scale))
 }
 
-// The number of cells of the first grid, of the source's and the target's, that has too many.
-fn find_excess(from: &Scale, to: &Scale) -> Option<u128>
+/// The number of cells of the first grid, of the source's and the target's, that has too many: more than 2^22.
+pub fn find_excess(from: &Scale, to: &Scale) -> Option<u128>
     ensures { result ≡ too_many from.now to.now }
 {
     let sources = count_grid(from);
@@ -85,7 +85,10 @@ pub(crate) fn judge_scales(from: &Scale, to: &Scale) -> Result<(), ReshardFault>
 }
 
 /// Refuses a scale in whose folder some object is.
-pub(crate) fn judge_folder<S: Store>(
+///
+/// # Errors
+/// `NotEmpty`, and `StoreFault` only where the store failed.
+pub fn judge_folder<S: Store>(
     store: &mut S,
     dataset: &Name,
     scale: &Scale,

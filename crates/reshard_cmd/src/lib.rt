@@ -11,7 +11,8 @@ mod report;
 #[cfg(test)]
 mod tests;
 
-pub use command::run_reshard;
+pub use command::{read_target, refuse, run_reshard};
 pub use copying::reshard;
 pub use fault::ReshardFault;
+pub use judge::{find_excess, judge_folder};
 pub use refusal::ReshardRefusal;

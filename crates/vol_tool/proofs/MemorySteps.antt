@@ -1,7 +1,7 @@
 -- Where there is no memory for the words themselves, each command says what it says at that status.
 use Rattle.std.proofs.Common.{◌≡◌, ◌∙◌, ◌≤◌, ◌+◌, ◌^◌, ℕ, [], Option, Some, None, Err, ap, refl, subst, sym, inl, inr, arith}
 use Rattle.command_line.specs.declared.commands.Command.{Command}
-use Rattle.command_line.specs.declared.commands.Command.TheVariants.{Cutout, Generate, Reshard, Serve, Update, Verify, Write}
+use Rattle.command_line.specs.declared.commands.Command.TheVariants.{Cutout, Downsample, Generate, Reshard, Serve, Update, Verify, Write}
 use Rattle.vol_shell.specs.Lines.{memory_line}
 use Rattle.vol_spec.proofs.Told.{in_told}
 use Rattle.vol_spec.specs.Types.{Bytes}
@@ -12,6 +12,7 @@ use Rattle.command_base.specs.declared.status.Status.TheVariants.{NoMemory}
 use Rattle.cutout_cmd.proofs.AskSteps.{asks_none}
 use Rattle.cutout_cmd.proofs.CutoutSteps.{memory_ends}
 use Rattle.cutout_cmd.specs.Cutouts.{cells_cost}
+use Rattle.downsample_cmd.proofs.DownsampleSteps.{memory_right as memory_reduces}
 use Rattle.generate_cmd.proofs.DrawnSteps.{memory_right as memory_generates}
 use Rattle.generate_cmd.specs.declared.refusal.GenerateRefusal.TheVariants as generate
 use Rattle.reshard_cmd.proofs.ReshardSteps.{draft_kept, memory_right as memory_copies}
@@ -40,6 +41,8 @@ memory_answers (Some (Generate dataset key number writes workers)) before err co
 memory_answers (Some (Verify dataset key part)) before err count unbound said = (Err verify.NoMemory, memory_verifies before.objects dataset key part, (refl, inl (refl, said)))
 memory_answers (Some (Reshard dataset key to_dataset to_key workers)) before err count unbound said =
     (Err reshard.NoMemory, memory_copies before.objects before.objects dataset key to_dataset to_key refl, (refl, inl (refl, said)))
+memory_answers (Some (Downsample dataset key to_key method workers)) before err count unbound said =
+    (Err reshard.NoMemory, memory_reduces before.objects before.objects method dataset key to_key refl, (refl, inl (refl, said)))
 memory_answers (Some (Serve dataset port connections)) before err count unbound said = (
   (subst (IsBoundTo port) (sym unbound) tt, inl refl, said),
   in_told before.door.served _ (λ list noted. ([], noted ∙ ap Some (sym (nothing_behind list)), omega arith)),
@@ -54,6 +57,7 @@ memory_succeeds (Some (Update dataset key workers)) before err count = in_told b
 memory_succeeds (Some (Generate dataset key number writes workers)) before err count = in_told before.objects _ (λ m told can store out. inr refl)
 memory_succeeds (Some (Verify dataset key part)) before err count = in_told before.objects _ (λ m told can store out. inr refl)
 memory_succeeds (Some (Reshard dataset key to_dataset to_key workers)) before err count = in_told before.objects _ (λ m told can store out. inr refl)
+memory_succeeds (Some (Downsample dataset key to_key method workers)) before err count = in_told before.objects _ (λ m told can store out. inr refl)
 memory_succeeds (Some (Serve dataset port connections)) before err count = λ door out. inr refl
 
 pub memory_headline : (command : Option Command) (before : Seen) (err : Option Bytes) (count : ℕ) → Headline command NoMemory before (said_only before err count)
@@ -64,6 +68,7 @@ memory_headline (Some (Update dataset key workers)) before err count = λ done. 
 memory_headline (Some (Generate dataset key number writes workers)) before err count = λ done. absurd (cc done)
 memory_headline (Some (Verify dataset key part)) before err count = tt
 memory_headline (Some (Reshard dataset key to_dataset to_key workers)) before err count = λ done. absurd (cc done)
+memory_headline (Some (Downsample dataset key to_key method workers)) before err count = λ done. absurd (cc done)
 memory_headline (Some (Serve dataset port connections)) before err count = tt
 
 reads : (before : Seen) (err : Option Bytes) (count : ℕ) → LeavesStore before (said_only before err count)
@@ -80,6 +85,8 @@ memory_keeps (Some (Generate dataset key number writes workers)) before err coun
 memory_keeps (Some (Verify dataset key part)) before err count = (reads before err count, refl, refl)
 memory_keeps (Some (Reshard dataset key to_dataset to_key workers)) before err count =
     (λ done. absurd (cc done), λ out. absurd (cc out), in_told before.objects _ (λ m told. draft_kept (stored_scale m to_dataset to_key) before.draft before.draft refl), λ no. reads before err count, refl, refl)
+memory_keeps (Some (Downsample dataset key to_key method workers)) before err count =
+    (λ done. absurd (cc done), λ out. absurd (cc out), in_told before.objects _ (λ m told. draft_kept (stored_scale m dataset to_key) before.draft before.draft refl), λ no. reads before err count, refl, refl)
 memory_keeps (Some (Serve dataset port connections)) before err count = (reads before err count, refl, (0, omega arith, omega arith), in_told before.out _ (λ bytes gained same. refl))
 
 caused : (before : Faults) (count : ℕ) → before.err ≤ count → AreCaused NoMemory before (record before { err = count })
@@ -103,4 +110,5 @@ memory_causes (Some (Update dataset key workers)) before count later = (caused b
 memory_causes (Some (Generate dataset key number writes workers)) before count later = (caused before count later, λ e. absurd (cc e), refl, refl)
 memory_causes (Some (Verify dataset key part)) before count later = (caused before count later, λ e. absurd (cc e), refl, refl)
 memory_causes (Some (Reshard dataset key to_dataset to_key workers)) before count later = (caused before count later, λ e. absurd (cc e), refl, refl)
+memory_causes (Some (Downsample dataset key to_key method workers)) before count later = (caused before count later, λ e. absurd (cc e), refl, refl)
 memory_causes (Some (Serve dataset port connections)) before count later = (caused before count later, refl)

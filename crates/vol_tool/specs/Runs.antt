@@ -3,7 +3,7 @@ use Rattle.std.specs.Prelude.{◌≡◌, false, [], Option, None, Some, IfSome}
 use Rattle.std.specs.Option.{option_map}
 use Rattle.vol_base.specs.Causes.{Rose}
 use Rattle.command_line.specs.declared.commands.Command.{Command}
-use Rattle.command_line.specs.declared.commands.Command.TheVariants.{Cutout, Generate, Reshard, Serve, Update, Verify, Write}
+use Rattle.command_line.specs.declared.commands.Command.TheVariants.{Cutout, Downsample, Generate, Reshard, Serve, Update, Verify, Write}
 use Rattle.shard_writer.specs.Writing.{Drops}
 use Rattle.write_plan.specs.Stream.{writes_of}
 use Rattle.vol_shell.specs.Lines.{memory_line, usage_line}
@@ -20,6 +20,7 @@ use Rattle.update_cmd.specs.Answering as update
 use Rattle.generate_cmd.specs.Generating.{CanGenerate, drawn, Generated}
 use Rattle.verify_cmd.specs.Verified.{CanVerify, Verified}
 use Rattle.reshard_cmd.specs.Copying.{CanReshard, CopiedBack, DropsUnsharded, Resharded}
+use Rattle.downsample_cmd.specs.Answering.{CanDownsample, Downsampled, ReducedBack}
 use Rattle.serve_cmd.specs.Servings.{AcceptsEnds, NotesEnds, ServeLeaves, ServeShows, TellsFirst}
 use Rattle.vol_tool.specs.Seen.{Faults, IsLater, LeavesStore, outlets, Seen}
 
@@ -45,6 +46,8 @@ Answers (Some (Verify dataset key part)) status before after =
     Verified status before.objects dataset key part (outlets before after)
 Answers (Some (Reshard dataset key to_dataset to_key workers)) status before after =
     Resharded status before.objects after.objects dataset key to_dataset to_key (outlets before after)
+Answers (Some (Downsample dataset key to_key method workers)) status before after =
+    Downsampled status method before.objects after.objects dataset key to_key (outlets before after)
 Answers (Some (Serve dataset port connections)) status before after =
     ServeLeaves status port after.door.bound (outlets before after) × NotesEnds before.door after.door
     × IfSome before.objects (λ m. ServeShows status m dataset before.door after.door before.faults.store
@@ -77,6 +80,10 @@ Succeeds (Some (Reshard dataset key to_dataset to_key workers)) status before af
     IfSome before.objects (λ m. CanReshard m dataset key to_dataset to_key
     → ¬ Rose before.faults.store after.faults.store → ¬ Rose before.faults.out after.faults.out →
     EndsWell status)
+Succeeds (Some (Downsample dataset key to_key method workers)) status before after =
+    IfSome before.objects (λ m. CanDownsample m dataset key to_key
+    → ¬ Rose before.faults.store after.faults.store → ¬ Rose before.faults.out after.faults.out →
+    EndsWell status)
 Succeeds (Some (Serve dataset port connections)) status before after =
     ¬ Rose before.faults.door after.faults.door → ¬ Rose before.faults.out after.faults.out → EndsWell status
 
@@ -84,7 +91,8 @@ Succeeds (Some (Serve dataset port connections)) status before after =
 -- and its cutout is exactly the bytes of the last write at each voxel and channel, none missing: one value for each,
 -- side by side. After an `update` that succeeds, each box inside the scale that had no fault has none, and its cutout is
 -- exactly the bytes of the last write at each voxel and channel, else of what was there. After a `reshard` that succeeds, each box inside the target reads as the source: no cell of it has a
--- fault, and its cutout is exactly the source's, before the copy and after it.
+-- fault, and its cutout is exactly the source's, before the copy and after it. After a `downsample` that succeeds, each box inside the target has no
+-- fault, and its cutout is exactly the reduced values of the source, which reads as before.
 abbrev pub Headline : Option Command → Status → Seen → Seen → Type 0
 Headline None status before after = Unit {0}
 Headline (Some (Cutout dataset key part)) status before after = Unit {0}
@@ -99,6 +107,8 @@ Headline (Some (Generate dataset key number count workers)) status before after 
 Headline (Some (Verify dataset key part)) status before after = Unit {0}
 Headline (Some (Reshard dataset key to_dataset to_key workers)) status before after =
     status ≡ Ok → IfSome before.objects (λ m. CopiedBack m after.objects dataset key to_dataset to_key)
+Headline (Some (Downsample dataset key to_key method workers)) status before after =
+    status ≡ Ok → IfSome before.objects (λ m. ReducedBack method m after.objects dataset key to_key)
 Headline (Some (Serve dataset port connections)) status before after = Unit {0}
 
 -- What stays of the store, the feed and the door.
@@ -137,6 +147,12 @@ Keeps (Some (Verify dataset key part)) status before after =
 Keeps (Some (Reshard dataset key to_dataset to_key workers)) status before after =
     (status ≡ Ok → Drops before.draft after.draft) × (status ≡ OutFault → Drops before.draft after.draft)
     × IfSome before.objects (λ m. DropsUnsharded (stored_scale m to_dataset to_key) before.draft after.draft)
+    × (puts status ≡ false → LeavesStore before after) × (after.left ≡ before.left) ×
+    (after.door ≡ before.door)
+-- the same of a reduction
+Keeps (Some (Downsample dataset key to_key method workers)) status before after =
+    (status ≡ Ok → Drops before.draft after.draft) × (status ≡ OutFault → Drops before.draft after.draft)
+    × IfSome before.objects (λ m. DropsUnsharded (stored_scale m dataset to_key) before.draft after.draft)
     × (puts status ≡ false → LeavesStore before after) × (after.left ≡ before.left) ×
     (after.door ≡ before.door)
 -- no more ends are taken from the door than were asked for, and none before the port is told

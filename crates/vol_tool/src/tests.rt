@@ -15,9 +15,9 @@ use std::thread::Threads;
 use vol_base::{FreeGate, MemoryDoor, MemoryFeed, MemoryLink, MemoryOutlet, MemoryStore};
 use vol_shell::NoDoor;
 
-// A square of four voxels in one chunk; the same in two chunks; and a row of four.
+// A square of four voxels in one chunk, and the next scale; the same square in two chunks; and a row of four.
 const SQUARE: &[u8] =
-    b"{\"type\":\"image\",\"data_type\":\"uint8\",\"num_channels\":1,\"scales\":[{\"key\":\"s\",\"size\":[2,2,1],\"chunk_sizes\":[[2,2,1]],\"resolution\":[8,8,40],\"encoding\":\"raw\"}]}";
+    b"{\"type\":\"image\",\"data_type\":\"uint8\",\"num_channels\":1,\"scales\":[{\"key\":\"s\",\"size\":[2,2,1],\"chunk_sizes\":[[2,2,1]],\"resolution\":[8,8,40],\"encoding\":\"raw\"},{\"key\":\"t\",\"size\":[1,1,1],\"chunk_sizes\":[[1,1,1]],\"resolution\":[16,16,80],\"encoding\":\"raw\"}]}";
 
 const COLUMNS: &[u8] =
     b"{\"type\":\"image\",\"data_type\":\"uint8\",\"num_channels\":1,\"scales\":[{\"key\":\"s\",\"size\":[2,2,1],\"chunk_sizes\":[[1,2,1]],\"resolution\":[8,8,40],\"encoding\":\"raw\"}]}";
@@ -39,7 +39,7 @@ const LINES: &[(&str, u8, &[u8], &str)] = &[
     ("verify d s [0:1,0:1,0:1] s", 1, &[], "usage\n"),
     ("serve d --port=80", 1, &[], "usage\n"),
     ("cutout x s [0:1,0:1,0:1]", 2, &[], "info of x: absent\n"),
-    ("write d t", 2, &[], "info of d: scale absent\n"),
+    ("write d u", 2, &[], "info of d: scale absent\n"),
     (
         "verify d s [0:3,0:1,0:1]",
         3,
@@ -51,9 +51,17 @@ const LINES: &[(&str, u8, &[u8], &str)] = &[
     ("cutout d s [0:2,0:2,0:1]", 0, &[1, 2, 3, 4], ""),
     ("cutout d s [1:2,0:2,0:1]", 0, &[2, 4], ""),
     ("write d s", 3, &[], "folder not empty\n"),
-    ("update d t", 2, &[], "info of d: scale absent\n"),
+    ("update d u", 2, &[], "info of d: scale absent\n"),
     ("update d s --workers=2", 0, b"objects 1 cells 1\n", ""),
     ("generate d s 5 2", 3, &[], "folder not empty\n"),
+    (
+        "downsample d s t --method=mean",
+        0,
+        b"objects 1 cells 1\n",
+        "",
+    ),
+    ("cutout d t [0:1,0:1,0:1]", 0, &[2], ""),
+    ("downsample d t s --method=mode", 3, &[], "differs size\n"),
     ("reshard d s e s", 0, b"objects 2 cells 2\n", ""),
     ("verify e s", 0, b"cells 2 stored 2 absent 0\n", ""),
     ("cutout e s [0:2,0:2,0:1]", 0, &[1, 2, 3, 4], ""),

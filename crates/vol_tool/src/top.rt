@@ -7,6 +7,7 @@ ghost use Rattle.vol_tool.specs.Seen.{Seen, view};
 use command_base::{Crew, Status, tell};
 use command_line::{Command, read_words};
 use cutout_cmd::run_cutout;
+use downsample_cmd::run_downsample;
 use generate_cmd::run_generate;
 use reshard_cmd::run_reshard;
 use serve_cmd::run_serve;
@@ -60,6 +61,7 @@ where
     // After a write each box inside the scale reads back: the last write at each voxel and channel.
     // After an update it does so where it had no fault: the last write, else what was there.
     // After a copy each box inside the target reads as the source did.
+    // After a reduction it reads as the source's values, reduced.
     ensures headline { let at = ⟦<Outside as Viewed<S, F, O, E, D>>⟧.at in
         Headline (line (map string_bytes words.now)) result
         (at store.old feed.old out.old err.old door.old)
@@ -138,6 +140,20 @@ where
         ) => {
             let crew = Crew::of(rt, alloc, workers, gate);
             run_reshard(&crew, store, out, err, &dataset, &key, &to_dataset, &to_key)
+        }
+        Ok(
+            Some(
+                Command::Downsample {
+                    dataset,
+                    key,
+                    to_key,
+                    method,
+                    workers,
+                },
+            ),
+        ) => {
+            let crew = Crew::of(rt, alloc, workers, gate);
+            run_downsample(&crew, store, out, err, &dataset, &key, &to_key, method)
         }
         Ok(Some(Command::Verify { dataset, key, part })) => {
             run_verify(alloc, store, out, err, &dataset, &key, &part)

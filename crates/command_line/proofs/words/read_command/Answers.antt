@@ -21,3 +21,6 @@ read_reshard-requires c = ap (list_all is_plain) (ap (map (λ word. word.now)) c
 
 pub read_update-requires : goal.read_update-requires
 read_update-requires c = ap (list_all is_plain) (ap (map (λ word. word.now)) c.deref-in-update.ensures.value ∙ c.in_ok-sorted.ensures.plain) ∙ filter_all is_plain (map (string_bytes {Z = Global}) c.args.words.now)
+
+pub read_downsample-requires : goal.read_downsample-requires
+read_downsample-requires c = ap (list_all is_plain) (ap (map (λ word. word.now)) c.deref-in-downsample.ensures.value ∙ c.in_ok-sorted.ensures.plain) ∙ filter_all is_plain (map (string_bytes {Z = Global}) c.args.words.now)

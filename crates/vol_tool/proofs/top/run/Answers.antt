@@ -1,6 +1,7 @@
 use Rattle.std.proofs.Common.{◌≡◌, ◌∙◌, ℕ, List, Some, map, string_bytes, subst, sym}
 use Rattle.command_line.specs.Words.{line}
-use Rattle.command_line.specs.declared.commands.Command.TheVariants.{Reshard, Update}
+use Rattle.command_line.specs.declared.commands.Command.TheVariants.{Downsample, Reshard, Update}
+use Rattle.downsample_cmd.specs.Answering.{CanDownsample}
 use Rattle.reshard_cmd.specs.Copying.{CanReshard}
 use Rattle.update_cmd.specs.Answering.{CanBeUpdated}
 use Rattle.write_plan.specs.Stream.{writes_of}
@@ -49,6 +50,20 @@ returns-in-Ok-Some-Reshard-clause-succeeds g c =
     → (Rose (g.S.Source.faults c.args.store.now) (g.S.Source.faults c.run_reshard.new.store) → ⊥) → (Rose (g.O.Outlet.faults c.args.out.now) (g.O.Outlet.faults c.run_reshard.new.out) → ⊥) → EndsWell c.run_reshard.result = c.run_reshard.ensures.complete in
     in_told (g.S.Source.objects c.args.store.now) (λ m. CanReshard m c.in-Ok-Some-Reshard.dataset c.in-Ok-Some-Reshard.key c.in-Ok-Some-Reshard.to_dataset c.in-Ok-Some-Reshard.to_key
     → (Rose (g.S.Source.faults c.args.store.now) (g.S.Source.faults c.run_reshard.new.store) → ⊥) → (Rose (g.O.Outlet.faults c.args.out.now) (g.O.Outlet.faults c.run_reshard.new.out) → ⊥) → EndsWell c.run_reshard.result) done)
+
+pub returns-in-Ok-Some-Downsample-clause-succeeds : goal.returns-in-Ok-Some-Downsample-clause-succeeds
+returns-in-Ok-Some-Downsample-clause-succeeds g c =
+    let spelled : c.in-Ok-Some-Downsample.field-0 ≡ Some (Downsample c.in-Ok-Some-Downsample.dataset c.in-Ok-Some-Downsample.key c.in-Ok-Some-Downsample.to_key c.in-Ok-Some-Downsample.method c.in-Ok-Some-Downsample.workers) = cc (c.in-Ok-Some-Downsample.field-0-is, c.in-Ok-Some-Downsample.field-0-0-is) in
+    subst (λ command. Succeeds command c.run_downsample.result
+    (view g.S.Source.objects g.S.Source.draft g.S.Source.asked g.S.Source.faults g.F.Feed.left g.F.Feed.faults g.O.Outlet.written g.O.Outlet.faults g.E.Outlet.written g.E.Outlet.faults
+    g.D.Door.bound g.D.Door.accepted g.D.Door.served g.D.Door.faults c.args.store.now c.args.feed.now c.args.out.now c.args.err.now c.args.door.now)
+    (view g.S.Source.objects g.S.Source.draft g.S.Source.asked g.S.Source.faults g.F.Feed.left g.F.Feed.faults g.O.Outlet.written g.O.Outlet.faults g.E.Outlet.written g.E.Outlet.faults
+    g.D.Door.bound g.D.Door.accepted g.D.Door.served g.D.Door.faults c.run_downsample.new.store c.args.feed.now c.run_downsample.new.out c.run_downsample.new.err c.args.door.now))
+    (sym spelled ∙ c.in-Ok-Some-Downsample.ensures.line)
+    (let done : (m : Objects) → g.S.Source.objects c.args.store.now ≡ Some m → CanDownsample m c.in-Ok-Some-Downsample.dataset c.in-Ok-Some-Downsample.key c.in-Ok-Some-Downsample.to_key
+    → (Rose (g.S.Source.faults c.args.store.now) (g.S.Source.faults c.run_downsample.new.store) → ⊥) → (Rose (g.O.Outlet.faults c.args.out.now) (g.O.Outlet.faults c.run_downsample.new.out) → ⊥) → EndsWell c.run_downsample.result = c.run_downsample.ensures.complete in
+    in_told (g.S.Source.objects c.args.store.now) (λ m. CanDownsample m c.in-Ok-Some-Downsample.dataset c.in-Ok-Some-Downsample.key c.in-Ok-Some-Downsample.to_key
+    → (Rose (g.S.Source.faults c.args.store.now) (g.S.Source.faults c.run_downsample.new.store) → ⊥) → (Rose (g.O.Outlet.faults c.args.out.now) (g.O.Outlet.faults c.run_downsample.new.out) → ⊥) → EndsWell c.run_downsample.result) done)
 
 pub returns-in-Ok-Some-Update-clause-succeeds : goal.returns-in-Ok-Some-Update-clause-succeeds
 returns-in-Ok-Some-Update-clause-succeeds g c =
