@@ -26,6 +26,9 @@ const MANY: Layout = Layout { size: 512, chunk: 32, channels: 1, width: 1, block
 
 const FEW: Layout = Layout { size: 96, chunk: 32, channels: 1, width: 1, block: None };
 
+/// One channel of bytes: 16 MiB in 64 chunks of 256 KiB.
+const CUBE: Layout = Layout { size: 256, chunk: 64, channels: 1, width: 1, block: None };
+
 /// A segmentation of 64-bit labels: 128 MiB of them in 64 chunks, each of 512 blocks.
 const LABELS: Layout = Layout { size: 256, chunk: 64, channels: 1, width: 8, block: Some(8) };
 
@@ -49,6 +52,7 @@ impl Layout {
             "wide" => Some(WIDE),
             "many" => Some(MANY),
             "few" => Some(FEW),
+            "cube" => Some(CUBE),
             "labels" => Some(LABELS),
             "large" => Some(LARGE),
             "sparse" => Some(SPARSE),

@@ -1,16 +1,18 @@
 //! A server of objects by byte ranges as an ordinary Rust program has it, for comparison: the replies of docs/serving.md,
-//! on one thread, one connection after the other.
+//! on so many threads (1 where none is named), on each one connection after the other.
 //!
-//!     plain_serve serve DATASET --port=P --connections=N
+//!     plain_serve serve DATASET --port=P --connections=N [--workers=W]
 //!
-//! Port 0 is any free one. It prints `listening PORT`. The file that was read last stays open, as long as it stands there
-//! and is as long as it was.
+//! Port 0 is any free one. It prints `listening PORT`. On each thread the file that was read last stays open, as long as it
+//! stands there and is as long as it was.
 
 use std::fs::{self, File, Metadata};
 use std::io::{self, ErrorKind, Read, Write};
 use std::net::{Ipv4Addr, TcpListener, TcpStream};
 use std::os::unix::fs::{FileExt, MetadataExt};
 use std::process::ExitCode;
+use std::sync::atomic::{AtomicU32, Ordering};
+use std::thread;
 use std::time::{Duration, Instant};
 
 const MOST_HEAD: usize = 8192;
@@ -414,14 +416,14 @@ fn close(mut stream: TcpStream) -> io::Result<()> {
     Ok(())
 }
 
-fn run(dataset: &str, port: u16, connections: u32) -> io::Result<()> {
-    let listener = TcpListener::bind((Ipv4Addr::LOCALHOST, port))?;
-    println!("listening {}", listener.local_addr()?.port());
+/// Serves one connection after the other, until as many as are left were accepted.
+fn work(listener: &TcpListener, left: &AtomicU32, dataset: &str) -> io::Result<()> {
     let mut store = Store {
         dataset: dataset.to_string(),
         opened: None,
     };
-    for _ in 0..connections {
+    let fewer = |left: u32| left.checked_sub(1);
+    while left.fetch_update(Ordering::SeqCst, Ordering::SeqCst, fewer).is_ok() {
         let (mut stream, _) = listener.accept()?;
         let limit = Some(Duration::from_secs(10));
         stream.set_nodelay(true)?;
@@ -433,26 +435,51 @@ fn run(dataset: &str, port: u16, connections: u32) -> io::Result<()> {
     Ok(())
 }
 
+fn run(dataset: &str, port: u16, connections: u32, workers: usize) -> io::Result<()> {
+    let listener = TcpListener::bind((Ipv4Addr::LOCALHOST, port))?;
+    println!("listening {}", listener.local_addr()?.port());
+    let left = AtomicU32::new(connections);
+    thread::scope(|scope| {
+        let threads: Vec<_> = (0..workers)
+            .map(|_| scope.spawn(|| work(&listener, &left, dataset)))
+            .collect();
+        for thread in threads {
+            thread.join().map_err(|_| io::Error::other("a thread has ended"))??;
+        }
+        Ok(())
+    })
+}
+
+/// The number of an option, as `--port=8080` has it.
+fn option<T: std::str::FromStr>(word: &str, name: &str) -> Option<T> {
+    word.strip_prefix(name)?.parse().ok()
+}
+
+fn parse(words: &[&str]) -> Option<(String, u16, u32, usize)> {
+    let ["serve", dataset, port, connections, workers @ ..] = words else {
+        return None;
+    };
+    let workers = match workers {
+        [] => 1,
+        [workers] => option(workers, "--workers=")?,
+        _ => return None,
+    };
+    Some((
+        dataset.to_string(),
+        option(port, "--port=")?,
+        option(connections, "--connections=")?,
+        workers,
+    ))
+}
+
 fn main() -> ExitCode {
     let words: Vec<String> = std::env::args().skip(1).collect();
     let words: Vec<&str> = words.iter().map(String::as_str).collect();
-    let parsed = match words[..] {
-        ["serve", dataset, port, connections] => port
-            .strip_prefix("--port=")
-            .and_then(|port| port.parse().ok())
-            .zip(
-                connections
-                    .strip_prefix("--connections=")
-                    .and_then(|n| n.parse().ok()),
-            )
-            .map(|(port, connections)| (dataset, port, connections)),
-        _ => None,
-    };
-    let Some((dataset, port, connections)) = parsed else {
+    let Some((dataset, port, connections, workers)) = parse(&words) else {
         eprintln!("usage");
         return ExitCode::from(1);
     };
-    match run(dataset, port, connections) {
+    match run(&dataset, port, connections, workers) {
         Ok(()) => ExitCode::SUCCESS,
         Err(error) => {
             eprintln!("{error}");

@@ -25,47 +25,16 @@ mod writes;
 
 use layout::{Layout, Noise, Spans};
 use segments::Segments;
-use shards::{code, members, place, read_index, shard_bits, write_shard, Index, Placed};
+use shards::{code, members, place, shard_bits, write_shard, Placed, Reader};
 use std::collections::BTreeMap;
-use std::fs::{self, File};
+use std::fs;
 use std::io;
-use std::os::unix::fs::FileExt;
-use std::path::{Path, PathBuf};
+use std::path::Path;
 use std::process::ExitCode;
 use std::sync::atomic::{AtomicUsize, Ordering};
 use std::sync::OnceLock;
 use std::thread;
 use writes::{fill_chunk, met_cells, read_stream, BoxWrite};
-
-/// The shard and the index that were read last.
-struct Reader {
-    folder: PathBuf,
-    shard_bits: u32,
-    shard: Option<(u64, File)>,
-    index: Option<((u64, u64), Index)>,
-}
-
-impl Reader {
-    fn read(&mut self, id: u64, chunk: &mut Vec<u8>) -> io::Result<bool> {
-        let (shard, minishard) = place(self.shard_bits, id);
-        if self.shard.as_ref().is_none_or(|(kept, _)| *kept != shard) {
-            let file = File::open(self.folder.join(format!("{shard:x}.shard")))?;
-            self.shard = Some((shard, file));
-        }
-        let (_, file) = self.shard.as_ref().unwrap();
-        if self.index.as_ref().is_none_or(|(kept, _)| *kept != (shard, minishard)) {
-            self.index = Some(((shard, minishard), read_index(file, minishard)?));
-        }
-        let (_, index) = self.index.as_ref().unwrap();
-        let Ok(found) = index.binary_search_by_key(&id, |row| row.0) else {
-            return Ok(false);
-        };
-        let (_, start, len) = index[found];
-        chunk.resize(len as usize, 0);
-        file.read_exact_at(chunk, start)?;
-        Ok(true)
-    }
-}
 
 /// Cuts one box after the other out of a scale.
 struct Cutter<'a> {
@@ -82,8 +51,7 @@ impl<'a> Cutter<'a> {
         let len = layout.bytes_of(&layout.cell_box([0, 0, 0]));
         let values = vec![0; if segments.is_some() { len } else { 0 }];
         let shard_bits = shard_bits(layout);
-        let reader = Reader { folder: folder.to_path_buf(), shard_bits, shard: None, index: None };
-        Cutter { layout, segments, reader, chunk: Vec::new(), values }
+        Cutter { layout, segments, reader: Reader::new(folder, shard_bits), chunk: Vec::new(), values }
     }
 
     /// Puts the values of a box over zeros. False where no chunk of it is stored.

@@ -6,7 +6,7 @@ use std::collections::BTreeMap;
 use std::fs::{self, File};
 use std::io::{self, Write};
 use std::os::unix::fs::FileExt;
-use std::path::Path;
+use std::path::{Path, PathBuf};
 
 const PRESHIFT: u32 = 3;
 pub const MINISHARD_BITS: u32 = 2;
@@ -95,6 +95,41 @@ pub fn read_index(file: &File, minishard: u64) -> io::Result<Index> {
         place += len;
     }
     Ok(index)
+}
+
+/// Reads the chunks of a scale, and keeps the shard and the index that were read last.
+pub struct Reader {
+    folder: PathBuf,
+    shard_bits: u32,
+    shard: Option<(u64, File)>,
+    index: Option<((u64, u64), Index)>,
+}
+
+impl Reader {
+    pub fn new(folder: &Path, shard_bits: u32) -> Reader {
+        Reader { folder: folder.to_path_buf(), shard_bits, shard: None, index: None }
+    }
+
+    /// Reads the chunk of an id, or answers false where there is none.
+    pub fn read(&mut self, id: u64, chunk: &mut Vec<u8>) -> io::Result<bool> {
+        let (shard, minishard) = place(self.shard_bits, id);
+        if self.shard.as_ref().is_none_or(|(kept, _)| *kept != shard) {
+            let file = File::open(self.folder.join(format!("{shard:x}.shard")))?;
+            self.shard = Some((shard, file));
+        }
+        let (_, file) = self.shard.as_ref().unwrap();
+        if self.index.as_ref().is_none_or(|(kept, _)| *kept != (shard, minishard)) {
+            self.index = Some(((shard, minishard), read_index(file, minishard)?));
+        }
+        let (_, index) = self.index.as_ref().unwrap();
+        let Ok(found) = index.binary_search_by_key(&id, |row| row.0) else {
+            return Ok(false);
+        };
+        let (_, start, len) = index[found];
+        chunk.resize(len as usize, 0);
+        file.read_exact_at(chunk, start)?;
+        Ok(true)
+    }
 }
 
 /// The bytes of the index of a minishard whose chunks begin at a place behind the entries, and the lengths of its chunks by

@@ -270,4 +270,4 @@ def rows():
 
 
 if __name__ == "__main__":
-    main(rows, jobs=1, needs_program=False)
+    main(rows, jobs=1, program=None)

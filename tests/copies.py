@@ -16,8 +16,8 @@ import subprocess
 import tempfile
 
 from harness import (
-    DEVICE, FOLDER, LIMIT, LOOP, PIPE, Wrong, answers, contents, main, open_closed_pipe, open_full, standing, want, want_ending,
-    want_files, want_front,
+    DEVICE, FOLDER, LIMIT, LOOP, PIPE, Wrong, answers, contents, main, open_closed_pipe, open_full, standing, want, want_added,
+    want_ending, want_files, want_front,
 )
 from model import (
     OK, SEGMENTED, Sharding, Values, Volume, box_in, copy_of, damaged, info_of, infos_of, printed, refused, sound, spell,
@@ -42,27 +42,6 @@ def copy_words(source, target, *options):
     return ["reshard", source.dataset, source.key, target.dataset, target.key, *options]
 
 
-def want_added(before, after, due):
-    """The files before are as they were, and beside them are those that are due."""
-    want_files({path: entry for path, entry in after.items() if path in before}, before)
-    want_files(contents({path: entry for path, entry in after.items() if path not in before}), due)
-
-
-def want_copy(trial, source, target, options, copy):
-    """A copy ends as the model's, and has its files; one that broke off a front of them, and what there is of the next one."""
-    before = standing(trial.folder)
-    found = trial.run(copy_words(source, target, *options))
-    after = standing(trial.folder)
-    if copy.fault is None:
-        want_added(before, after, copy.files)
-    else:
-        new = [path for path in after if path not in before and not path.endswith(".part")]
-        begun = {f"{path}.part" for path in copy.paths[len(new) : len(new) + 1]}
-        whole = {path: entry for path, entry in after.items() if path in before or path not in begun}
-        want_added(before, whole, dict(list(copy.files.items())[: len(new)]))
-    want_ending(found, copy.answer())
-
-
 def want_written(trial, source, target, copy):
     """A write of the source's chunks, each a box with its values, leaves the files of the copy."""
     with tempfile.TemporaryDirectory() as name:
@@ -74,7 +53,7 @@ def want_written(trial, source, target, copy):
 def is_copied(trial, source, target, options, boxes):
     """A sound source is copied, and both scales are judged and read. Gives the copy."""
     copy = copy_of(source, target, contents(standing(trial.folder)))
-    want_copy(trial, source, target, options, copy)
+    trial.want_copy(copy_words(source, target, *options), copy)
     for volume, count in ((source, len(copy.there)), (target, copy.cells)):
         trial.want(volume.words("verify"), sound(len(volume.cells), count))
         trial.want_values(volume, copy.values, boxes)
@@ -291,7 +270,7 @@ def copies_damaged(trial, seed, forms):
     files = trial.write(source, pick_writes(chance, source, chance.choice([0, 1, 1, 2, 3, 5]), labelled(volumes)))
     trial.lay_out({**damage_some(chance, source, files), **infos_of(source, target)})
     copy = copy_of(source, target, contents(standing(trial.folder)))
-    want_copy(trial, source, target, pick_options(chance), copy)
+    trial.want_copy(copy_words(source, target, *pick_options(chance)), copy)
     if copy.fault is None:
         trial.want(target.words("verify"), sound(len(target.cells), copy.cells))
 
@@ -324,7 +303,7 @@ DAMAGES = [
      []),
     ("a lower shard before a lower minishard", EIGHT, line(8, 2, sharding=Sharding(0, False, 1, 1)), [(2, 0, 0), (4, 0, 0)],
      (2, 0, 0), []),
-    # many cells, which are made one by one where they are raw, and 256 at once by several workers where they are segmentations
+    # many cells, of which up to 256 are made at once
     ("behind many files", LONG, LONG, [(598, 0, 0)], (598, 0, 0), ALL_BUT_TWO),
     ("deep in the second shard", LONG, line(600, 1, sharding=TWO_SHARDS), [(599, 0, 0)], (599, 0, 0), ["0.shard"]),
     ("deep in the first shard", LONG, line(600, 1, sharding=TWO_SHARDS), [(598, 0, 0), (1, 0, 0)], (598, 0, 0), []),
@@ -341,7 +320,7 @@ def tells_damage(trial, source, target, empty, told, may_stand, workers):
     copy = copy_of(source, target, contents(standing(trial.folder)))
     want_ending(copy.answer(), refused(damaged(told, f"chunk length 0 wanted {source.width}")), "the model")
     want(list(copy.files), list(map(target.path, may_stand)), "the model's files")
-    want_copy(trial, source, target, [f"--workers={workers}"], copy)
+    trial.want_copy(copy_words(source, target, f"--workers={workers}"), copy)
 
 
 # Copies that are killed.

@@ -1,11 +1,13 @@
-"""What the scripts share that disturb small runs: the runs, over a row of three voxels and a volume of two layers, and what may come."""
+"""What the scripts share that disturb small runs: the runs, over a row of three voxels and volumes of layers, and what may come."""
 import dataclasses
+import json
 import pathlib
 import tempfile
 
 from harness import files_in, lay_out, want_front, want_true
 from model import (
-    SEGMENTED, Sharding, Volume, along, answer, files_of, generated, info_of, printed, refused, sound, stored, stream_of, sum_of,
+    SEGMENTED, Sharding, Volume, along, answer, copy_of, cutout, files_of, generated, info_of, printed, refused, sound, spell,
+    stored, stream_of, sum_of, update_of, verdict, voxels_in,
 )
 
 ROW = info_of([3, 1, 1], [1, 1, 1])
@@ -47,6 +49,20 @@ OLD_BLOCKS = OVER_VOLUME.files(OVER_VOLUME.chunks_after([OLD_LABELS]))
 BLOCKS_OVER = OVER_VOLUME.files(OVER_VOLUME.chunks_after([OLD_LABELS, NEW_LABELS]))
 LABELS_OVER = stream_of([NEW_LABELS])
 
+
+def info_next(**scale):
+    """The info of the row with its next scale, a chunk a voxel."""
+    info = json.loads(ROW)
+    info["scales"] += json.loads(info_of([2, 1, 1], [1, 1, 1], key="t", **scale))["scales"]
+    return json.dumps(info).encode()
+
+
+# This scale, in files and in shards, and its objects, which are means.
+NEXT = info_next()
+NEXT_OBJECTS = {"d/t/0-1_0-1_0-1": b"\1", "d/t/1-2_0-1_0-1": b"\3"}
+NEXT_IN_SHARDS = info_next(sharding=SHARDING.member())
+NEXT_SHARDS = {f"d/t/{name}": shard for name, shard in files_of(SHARDING, {0: b"\1", 1: b"\3"}).items()}
+
 # Two layers of two channels each, a chunk a voxel.
 LAYERS = info_of([1, 1, 2], [1, 1, 1], {"num_channels": 2})
 LAYER_OBJECTS = {"d/s/0-1_0-1_0-1": b"\1\2", "d/s/0-1_0-1_1-2": b"\3\4"}
@@ -64,7 +80,7 @@ TWICE = stream_of([(along(0, 3), b"\1\2\3"), (along(1, 2), b"\2")])
 OUTSIDE = stream_of([(along(0, 4), b"\1\2\3\4")])
 FIRST = stream_of([(along(0, 1), b"\1")])
 WRITE, GENERATE, VERIFY, COPY, CUT = "write d s", "generate d s 7 3", "verify d s", "reshard d s e s", "cutout d s [0:3,0:1,0:1]"
-UPDATE = "update d s"
+UPDATE, DOWN = "update d s", "downsample d s t --method=mean"
 CUT_LAYERS = "cutout d s [0:1,0:1,0:2]"
 WORKERS = " --workers=3"
 FULL = refused("folder not empty")
@@ -106,6 +122,50 @@ def with_target(info, objects=None):
     return {**(ROW_OBJECTS if objects is None else objects), "e/info": info}
 
 
+# Scales of three layers in two shards, of two minishards each, with two channels: raw chunks of a voxel, and segmentations of two.
+DEEP = {
+    "deep shards": Volume([2, 1, 3], [1, 1, 1], channels=2, sharding=SHARDING),
+    "deep shards of blocks": Volume([4, 1, 3], [2, 1, 1], channels=2, width=4, block=(2, 1, 1), sharding=SHARDING),
+}
+TWO_WORKERS = " --workers=2"
+
+
+def counting(volume, box, first):
+    """A write of a box with the values from a number on."""
+    values = range(first, first + voxels_in(box) * volume.channels)
+    return box, b"".join(value.to_bytes(volume.width, "little") for value in values)
+
+
+def deep_runs(title, volume):
+    """Runs of each command over a deep scale."""
+    info, writes = volume.info(), [counting(volume, volume.whole, 1)]
+    over = [counting(volume, [volume.whole[0], (0, 1), (1, 3)], 101)]
+    chunks = volume.chunks_after(writes)
+    files, list_writes = volume.files(chunks), generated(volume, 7, 3)
+    listed = volume.files(volume.chunks_after(list_writes))
+    update, written = update_of(volume, files, over), stored(len(files), len(chunks))
+    torn = volume.files({**chunks, volume.cells[-1]: chunks[volume.cells[-1]][:-1]})
+    target = dataclasses.replace(volume, dataset="e", chunk=[*volume.chunk[:2], 2])
+    copy, stopped = copy_of(volume, target, files), copy_of(volume, target, torn)
+    cut, both = f"cutout d s {spell(volume.whole)}", {"e/info": target.info()}
+    return [
+        Run(f"a write into {title}", info, {}, WRITE, stream_of(writes), written, files),
+        Run(f"a write into {title} with workers", info, {}, WRITE + TWO_WORKERS, stream_of(writes), written, files),
+        Run(f"a list into {title}", info, {}, GENERATE, b"", answer(3, listed, sum_of(volume, list_writes)), listed),
+        Run(f"an update of {title}", info, files, UPDATE, stream_of(over), update.answer, update.files, 1),
+        Run(f"an update of {title} with workers", info, files, UPDATE + TWO_WORKERS, stream_of(over), update.answer, update.files, 1),
+        Run(f"a cutout of {title}", info, files, cut, b"", cutout(volume, files)),
+        Run(f"a cutout of damaged {title}", info, torn, cut, b"", cutout(volume, torn)),
+        Run(f"a judgement of {title}", info, files, VERIFY, b"", verdict(volume, files)),
+        Run(f"a judgement of damaged {title}", info, torn, VERIFY, b"", verdict(volume, torn)),
+        Run(f"a copy of {title}", info, {**files, **both}, COPY, b"", copy.answer(), copy.files, 1),
+        Run(f"a copy of {title} with workers", info, {**files, **both}, COPY + TWO_WORKERS, b"", copy.answer(), copy.files, 1),
+        Run(f"a copy of damaged {title}", info, {**torn, **both}, COPY, b"", stopped.answer(), stopped.files, 1),
+    ]
+
+
+DEEP_RUNS = [run for title, volume in DEEP.items() for run in deep_runs(title, volume)]
+
 RUNS = [
     Run("a write", ROW, {}, WRITE, TWICE, stored(3, 3), ROW_OBJECTS),
     Run("a write with workers", ROW, {}, WRITE + WORKERS, THREE, stored(3, 3), ROW_OBJECTS),
@@ -120,7 +180,7 @@ RUNS = [
     Run("an update of shards", IN_SHARDS, OLD_SHARDS, UPDATE + WORKERS, THREE, stored(2, 3), SHARDS, 1),
     Run("an update of blocks", BLOCKS, OLD_BLOCKS, UPDATE, LABELS_OVER, stored(2, 2), BLOCKS_OVER),
     Run("an update of blocks with workers", BLOCKS, OLD_BLOCKS, UPDATE + WORKERS, LABELS_OVER, stored(2, 2), BLOCKS_OVER),
-    Run("an update of a damaged object", ROW, TORN, UPDATE, TWICE, refused(TORN_LINE), {"d/s/0-1_0-1_0-1": b"\1"}),
+    Run("an update of a damaged object", ROW, TORN, UPDATE, TWICE, refused(TORN_LINE)),
     Run("an update of a damaged shard", IN_SHARDS, BAD_SHARDS, UPDATE, THREE, refused("shard 1 0: shard short index")),
     Run("an update outside", ROW, OLD_OBJECTS, UPDATE, OUTSIDE, refused("write 0: outside scale")),
     Run("a list", ROW, {}, GENERATE, b"", answer(3, LIST_OBJECTS, sum_of(ROW_VOLUME, LIST)), LIST_OBJECTS),
@@ -139,10 +199,15 @@ RUNS = [
     Run("a copy out of shards", IN_SHARDS, with_target(PAIRS, SHARDS), COPY, b"", stored(2, 2), COPIED_PAIRS),
     Run("a copy into blocks", LABELS, with_target(BLOCKS, LABELLED), COPY, b"", stored(2, 2), COPIED_BLOCKS),
     Run("a copy into blocks with workers", LABELS, with_target(BLOCKS, LABELLED), COPY + WORKERS, b"", stored(2, 2), COPIED_BLOCKS),
-    Run("a copy of a damaged object", ROW, with_target(ROW, TORN), COPY, b"", refused(TORN_LINE), {"e/s/0-1_0-1_0-1": b"\1"}),
+    Run("a copy of a damaged object", ROW, with_target(ROW, TORN), COPY, b"", refused(TORN_LINE)),
     Run("a copy into a folder that isn't empty", ROW, {**with_target(PAIRS), "e/s/a": b""}, COPY, b"", FULL),
     Run("a copy into another volume", ROW, with_target(LABELS), COPY, b"", refused("differs data_type")),
     Run("a copy into no scale", ROW, ROW_OBJECTS, COPY, b"", refused("info of e: absent")),
+    Run("a next scale", NEXT, ROW_OBJECTS, DOWN, b"", stored(2, 2), NEXT_OBJECTS),
+    Run("a next scale with workers", NEXT, ROW_OBJECTS, DOWN + WORKERS, b"", stored(2, 2), NEXT_OBJECTS),
+    Run("a next scale in shards", NEXT_IN_SHARDS, ROW_OBJECTS, DOWN, b"", stored(1, 2), NEXT_SHARDS, 1),
+    Run("a next scale of a damaged object", NEXT, TORN, DOWN, b"", refused(TORN_LINE)),
+    Run("a next scale into a folder that isn't empty", NEXT, {**ROW_OBJECTS, "d/t/a": b""}, DOWN, b"", FULL),
     Run("a judgement", ROW, ROW_OBJECTS, VERIFY, b"", sound(3, 3)),
     Run("a judgement of a box", ROW, ROW_OBJECTS, f"{VERIFY} [1:3,0:1,0:1]", b"", sound(2, 2)),
     Run("a judgement of shards", IN_SHARDS, SHARDS, VERIFY, b"", sound(3, 3)),
@@ -159,6 +224,7 @@ RUNS = [
     Run("a broken info", ROW[:-1], {}, CUT, b"", refused("info of d: not json")),
     Run("no info", None, {}, CUT, b"", refused("info of d: absent")),
     Run("no command", ROW, {}, "cut", b"", refused("usage")),
+    *DEEP_RUNS,
 ]
 
 

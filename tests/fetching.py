@@ -157,4 +157,4 @@ def rows():
 
 
 if __name__ == "__main__":
-    main(rows, needs_program=False)
+    main(rows, program=None)

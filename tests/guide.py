@@ -4,7 +4,7 @@ Those of the README's first screen have to be among them.
 
     tests/guide.py [PROGRAM]
 
-PROGRAM is crates/vol_tool/out/vol_tool if it is left out. The page's blocks of `sh` are run by one bash in a temporary home; a block of
+PROGRAM is crates/vol_tool/out/vol_tool if it is left out; vol_serve is crates/vol_serve/out/vol_serve. The page's blocks of `sh` are run by one bash in a temporary home; a block of
 `text` is the output of the block before it. A block of `python` is saved under the name in its first line; where a module that it imports
 isn't installed it is only compiled, and run otherwise, unless a block of `sh` runs it. The ports 8080 and 8081 stand for free ones. It
 wants bash.
@@ -20,7 +20,7 @@ import socket
 import subprocess
 
 from arrays import save
-from harness import LIMIT, ROOT, main, shorten
+from harness import HALL_PROGRAM, LIMIT, ROOT, built, main, shorten
 
 GUIDE = ROOT / "docs" / "guide.md"
 BLOCK = re.compile(r"^```(\w+)\n(.*?)^```$", re.MULTILINE | re.DOTALL)
@@ -90,13 +90,15 @@ def lines_of(number, block, is_run):
 
 
 def prepare(home, program):
-    """A home with the arrays that the guide begins with, and the program under its name."""
+    """A home with the arrays that the guide begins with, and the programs under their names."""
     volumes = home / "volumes"
     volumes.mkdir()
     save_values(volumes / "image.npy", "<u2", "H", (64, 128, 128), lambda x, y, z: (x + 3 * y + 7 * z) % 60000)
     save_values(volumes / "labels.npy", "<u4", "I", (64, 128, 128), lambda x, y, z: x // 20 + 100 * (y // 30) + 70000 * (z // 9))
     (home / "bin").mkdir()
     (home / "bin" / "vol_tool").symlink_to(program)
+    (home / "bin" / "vol_serve").symlink_to(HALL_PROGRAM)
+    (home / "bin" / "vol_fetch").symlink_to(built("vol_fetch"))
 
 
 def run_guide(program, home, blocks):
@@ -125,7 +127,7 @@ def run_guide(program, home, blocks):
 def judge_readme():
     """The command lines of the README are lines of the guide, or begin some."""
     known = [line for language, text in BLOCK.findall(GUIDE.read_text()) if language == "sh" for line in text.splitlines()]
-    for line in re.findall(r"^    ((?:vol_tool|volume\.py|export|mkdir) .*)$", (ROOT / "README.md").read_text(), re.MULTILINE):
+    for line in re.findall(r"^    ((?:vol_tool|vol_serve|volume\.py|export|mkdir) .*)$", (ROOT / "README.md").read_text(), re.MULTILINE):
         words = line.split("#")[0].strip()
         yield f"README: {words}", None if any(one.startswith(words) for one in known) else "it isn't in the guide"
 

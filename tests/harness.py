@@ -13,15 +13,17 @@ import multiprocessing
 import os
 import pathlib
 import resource
+import signal
 import subprocess
 import sys
 import tempfile
 import traceback
 
-from model import cutout, infos_of, printed, spell, stored, stream_of
+from model import OK, cutout, infos_of, printed, spell, stored, stream_of, update_of
 
 ROOT = pathlib.Path(__file__).resolve().parent.parent
 PROGRAM = ROOT / "crates" / "vol_tool" / "out" / "vol_tool"
+HALL_PROGRAM = ROOT / "crates" / "vol_serve" / "out" / "vol_serve"
 
 # How long a run may take, in seconds.
 LIMIT = 60
@@ -71,6 +73,12 @@ def want_files(found, wanted, what="file"):
     """Files by their paths."""
     for path in sorted({*found, *wanted}):
         want(found.get(path), wanted.get(path), f"{what} {path}")
+
+
+def want_added(before, after, due):
+    """Files, as they stand in a folder, are those before as they were, and beside them those that are due."""
+    want_files({path: entry for path, entry in after.items() if path in before}, before)
+    want_files(contents({path: entry for path, entry in after.items() if path not in before}), due)
 
 
 def want_front(files, before, due, parts_allowed=0):
@@ -140,6 +148,21 @@ def contents(files):
     return {path: entry[2] for path, entry in files.items()}
 
 
+def want_replaced(before, after, update):
+    """
+    The model's files stand in the place of those before or beside them, or a front of them where the update broke off, and perhaps what
+    there is of the next one; all others are as they were.
+    """
+    found = contents(after)
+    put = dict(itertools.takewhile(lambda item: found.get(item[0]) == item[1], update.files.items()))
+    if update.answer[0] == OK:
+        want_files({path: found.get(path) for path in update.files}, update.files)
+    begun = [path for path in after if path not in before and path in {f"{path}.part" for path in update.paths}]
+    want_true(len(begun) <= (update.answer[0] != OK), f"not finished: {begun}")
+    want_files({path: entry for path, entry in after.items() if path not in (*put, *begun)},
+               {path: entry for path, entry in before.items() if path not in put})
+
+
 def open_full():
     """A device that takes nothing."""
     return os.open("/dev/full", os.O_WRONLY)
@@ -157,6 +180,16 @@ def memory_limit(count):
     return lambda: resource.setrlimit(resource.RLIMIT_DATA, (count, count))
 
 
+def file_limit(count):
+    """From now on no file of a process grows past so many bytes, as where a disk is full."""
+
+    def prepare():
+        signal.signal(signal.SIGXFSZ, signal.SIG_IGN)
+        resource.setrlimit(resource.RLIMIT_FSIZE, (count, count))
+
+    return prepare
+
+
 # Runs
 
 
@@ -169,6 +202,11 @@ def call(command, folder, **environment):
 
 def words_in(text):
     return text.split() if isinstance(text, str) else text
+
+
+def built(name):
+    """A program beside vol_tool, or the one that the environment names, as VOL_FETCH names vol_fetch."""
+    return pathlib.Path(os.environ.get(name.upper(), ROOT / "crates" / name / "out" / name)).resolve()
 
 
 @dataclasses.dataclass(frozen=True)
@@ -227,6 +265,32 @@ class Trial:
         self.want(volume.words("write", *options), stored(len(files), len(chunks)), stream_of(writes))
         want_files(self.files(), files)
         return files
+
+    def want_copy(self, words, copy):
+        """
+        A run that makes a scale of another ends as the model's copy, and adds its files; one that broke off a front of them, and what
+        there is of the next one.
+        """
+        before = standing(self.folder)
+        found = self.run(words)
+        after = standing(self.folder)
+        if copy.fault is None:
+            want_added(before, after, copy.files)
+        else:
+            new = [path for path in after if path not in before and not path.endswith(".part")]
+            begun = {f"{path}.part" for path in copy.paths[len(new) : len(new) + 1]}
+            whole = {path: entry for path, entry in after.items() if path in before or path not in begun}
+            want_added(before, whole, dict(list(copy.files.items())[: len(new)]))
+        want_ending(found, copy.answer())
+
+    def want_update(self, volume, writes, *options):
+        """An update ends as the model's, and leaves its files. Gives the model's."""
+        before = standing(self.folder)
+        update = update_of(volume, contents(before), writes)
+        found = self.run(volume.words("update", *options), stream_of(writes))
+        want_ending(found, update.answer)
+        want_replaced(before, standing(self.folder), update)
+        return update
 
     def store(self, volume, chunks):
         """Puts a scale's info and its chunks. Gives the files."""
@@ -294,11 +358,12 @@ def judge_all(jobs):
         yield from pool.imap(judge_number, range(len(Rows.picked)))
 
 
-def read_options(count, jobs, needs_program):
+def read_options(count, jobs, program):
     page = sys.modules["__main__"].__doc__ or ""
     parser = argparse.ArgumentParser(description=page.strip().splitlines()[0])
-    if needs_program:
-        parser.add_argument("program", nargs="?", type=pathlib.Path, default=PROGRAM, help="crates/vol_tool/out/vol_tool if it is left out")
+    if program is not None:
+        told = f"{program.relative_to(ROOT)} if it is left out"
+        parser.add_argument("program", nargs="?", type=pathlib.Path, default=program, help=told)
     if count is not None:
         parser.add_argument("count", nargs="?", type=int, default=count, help=f"how many trials at random there are of a kind ({count})")
     parser.add_argument("-k", metavar="WORD", default="", help="judges the rows alone that have this in their titles")
@@ -306,15 +371,15 @@ def read_options(count, jobs, needs_program):
     return parser.parse_args()
 
 
-def main(rows_of, count=None, jobs=None, needs_program=True):
+def main(rows_of, count=None, jobs=None, program=PROGRAM):
     """
     Judges the rows that `rows_of` gives, of so many random trials where it takes a count; prints each row that is wrong, and how many
     passed and failed; and ends with status 1 where one failed or there was none.
     """
     processors = len(os.sched_getaffinity(0))
-    options = read_options(count, min(jobs or processors, processors), needs_program)
+    options = read_options(count, min(jobs or processors, processors), program)
     passed = failed = 0
-    if needs_program:
+    if program is not None:
         Rows.program = options.program.resolve()
         if not os.access(Rows.program, os.X_OK):
             print(f"there is no program {Rows.program}\n0 passed, 1 failed")

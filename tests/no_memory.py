@@ -7,7 +7,8 @@ It wants a C compiler, `cc`, for the library that refuses (refuse_memory.c), so 
 the store is asked, an allocation for a path, for a folder's entries or of the system's own library may end as a store fault instead.
 Each refused run has a folder of its own; afterwards whole objects stand there, the first ones that are due, and no half of one, but
 that a copy into shards, or an update of some, may leave one file whose name ends in .part. A cutout may have printed the layers
-before. Peers of a served run get whole replies, the first ones that are due, and behind them nothing, or that the store failed.
+before. Peers of a served run get whole replies, the first ones that are due, and behind them nothing, or that the store failed. A
+fetched box has nothing printed.
 """
 import collections
 import dataclasses
@@ -15,14 +16,20 @@ import pathlib
 import subprocess
 
 from disturbed import ROW, ROW_OBJECTS, RUNS, in_store
-from harness import LIMIT, Wrong, main, want, want_true
-from model import DOOR, MEMORY, OK, STORE, USAGE
+from harness import LIMIT, Wrong, built, main, want, want_true
+from model import DOOR, MEMORY, OK, STORE, USAGE, Sharding, Volume, cutout, infos_of
 from peers import PEERS, SERVE, WHOLE, failed_of, fronts_of, is_answered, serve_peers
+from remote import chunks_of, fetch_words
+from servers import python
 
 # More allocations than a run of these has.
 MOST_ALLOCATIONS = 10_000
 
 NO_MEMORY = (MEMORY, b"out of memory\n")
+
+# Scales of few and of many cells: none takes more allocations to be fetched than another, and none amid its output.
+SHARDS = Sharding(1, False, 1, 1)
+FETCHED = [Volume([2 * count, 1, count], [2, 1, 1], channels=2, sharding=sharding) for count in (2, 5) for sharding in (None, SHARDS)]
 
 
 def build_library(trial):
@@ -93,8 +100,29 @@ def is_refused_each_served(trial):
     refuse_each(trial, "a served run", {**ROW_OBJECTS, "d/info": ROW}, run_with, want_refused)
 
 
+def is_refused_each_fetched(trial, volume):
+    chunks = chunks_of(volume)
+    ending = cutout(volume, volume.files(chunks))
+
+    def run_with(folder, variables):
+        with python(folder / "d") as port:
+            apart = dataclasses.replace(trial, program=built("vol_fetch"), folder=folder)
+            return apart.run(fetch_words(port, volume, volume.whole), **variables)
+
+    def want_refused(found, whole):
+        want(whole[:3], ending, "with memory")
+        if found != whole:
+            want_true((found[0], found[2]) in [NO_MEMORY, (STORE, b"store fault\n")], f"status {found[0]}, {found[2]!r}")
+            want(found[1], b"", "output")
+
+    files = {**infos_of(volume), **volume.files(chunks)}
+    refuse_each(trial, f"a fetched box of {len(volume.cells)} cells", files, run_with, want_refused)
+
+
 def rows():
     yield "a served run", is_refused_each_served
+    for volume in FETCHED:
+        yield f"a fetched box of {len(volume.cells)} cells", is_refused_each_fetched, volume
     for run in RUNS:
         yield run.title, is_refused_each, run
 

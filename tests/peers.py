@@ -29,9 +29,10 @@ def talk(port, request, pieces=(), half_close=True, address="127.0.0.1"):
 
 
 @contextlib.contextmanager
-def serving(trial, connections, **environment):
-    """A server of the data set d, by its port; it has to end with status 0 and say nothing else."""
-    words = f"serve d --port=0 --connections={connections}"
+def serving(trial, connections, workers=None, **environment):
+    """A server of the data set d, or one of several workers, by its port; it has to end with status 0 and say nothing else."""
+    words = f"d --port=0 --connections={connections}"
+    words = f"serve {words}" if workers is None else f"{words} --workers={workers}"
     child = trial.start(words, stdout=subprocess.PIPE, stderr=subprocess.PIPE, env={**os.environ, **environment})
     try:
         line = child.stdout.readline()

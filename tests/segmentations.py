@@ -119,6 +119,14 @@ def takes_short(trial, sharding, channels, width, words, value):
     trial.want_cuts(volume, files, [volume.whole])
 
 
+def refuses_one_word(trial):
+    """A chunk of one word that leads behind its end."""
+    volume = Volume([1, 1, 1], [1, 1, 1], width=4, block=(1, 1, 1))
+    trial.store(volume, {(0, 0, 0): b"\xff" * 4})
+    for command in (volume.words("cutout", spell(volume.whole)), volume.words("verify")):
+        trial.want_unchanged(command, refused("damaged 0,0,0: seg channel 0"))
+
+
 # The largest chunks that are written: 2^22 blocks of one voxel.
 LONG = Volume([2**22, 1, 1], [2**22, 1, 1], width=4, block=(1, 1, 1))
 LONG_OF_TWO = Volume([2**21 - 3, 1, 1], [2**40, 7, 7], channels=2, width=8, block=(4, 1, 1))
@@ -164,6 +172,7 @@ def rows(count):
     yield "no writes into 2^22 padded voxels", writes_nothing, LONG
     yield "no writes into 2^22 padded voxels of two channels", writes_nothing, LONG_OF_TWO
     yield "the largest chunk", writes_largest
+    yield "one word", refuses_one_word
 
 
 if __name__ == "__main__":

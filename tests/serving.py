@@ -14,13 +14,14 @@ import signal
 import socket
 import struct
 import subprocess
+import threading
 import time
 
 from harness import LIMIT, PIPE, Wrong, call, main, open_full, want, want_true
 from model import along, info_of, refused, stored, stream_of
 from model.replies import (
-    ABSENT, BAD, FAILED, MOST_HEAD, MOST_NAME, MOST_REQUESTS, NOT_ALLOWED, SILENCE, ask, closing, head_of, no_part_of, part_of,
-    whole_of,
+    ABSENT, BAD, FAILED, MOST_HEAD, MOST_NAME, MOST_REQUESTS, NOT_ALLOWED, PAUSE, SILENCE, ask, closing, head_of, no_part_of,
+    part_of, whole_of,
 )
 from model.small import shards
 from peers import connect, serving, talk
@@ -122,6 +123,10 @@ def answers_bytes_exactly(trial):
         (b"GET /s/x HTTP/1.1\r\n", BAD),
         (b"a" * 8192 + ASK, BAD),
         (b"\0" + ASK, BAD),
+        (ranged + b"\0", PART + BAD),
+        (ask("GET /s/x", f"Range: bytes={'9' * 400}-"), NO_PART),
+        (ask("GET /s/x", "Range: bytes=2-4", "Connection: Keep-Alive, CLOSE") + ranged, closing(PART)),
+        (ask("GET /../x") + ranged, ABSENT + PART),
         (ask("GET /../x") + ASK, ABSENT + WHOLE),
         (ask("GET /%2e%2e/x"), ABSENT),
         (ask("GET /s/x?a"), ABSENT),
@@ -134,7 +139,14 @@ def answers_bytes_exactly(trial):
                 want(talk(port, request, pieces), wanted, f"to {request[:60]!r}")
 
 
+def want_soon(begin, what):
+    """The server didn't wait for a byte that never comes."""
+    spent = time.monotonic() - begin
+    want_true(spent < SILENCE / 2, f"{what}: it took {spent:.1f} s")
+
+
 def closes_where_it_is_asked(trial):
+    """Also where the peer goes on waiting, a reply that ends the connection ends it at once."""
     close = "Connection: Keep-Alive, CLOSE"
     rows_of = [
         (b"GET /s/x HTTP/1.0\r\n\r\n", WHOLE),
@@ -150,7 +162,35 @@ def closes_where_it_is_asked(trial):
     ]
     with serving(trial, len(rows_of)) as port:
         for request, reply in rows_of:
+            begin = time.monotonic()
             want(talk(port, request + ASK, half_close=False), closing(reply), f"to {request!r}")
+            want_soon(begin, f"to {request!r}")
+
+
+def refuses_at_once(trial):
+    """What can't become a head any more is answered without waiting for its end, and so is a front as long as a head may be."""
+    rows_of = [
+        b"\0", b"\r\rGET", b"GET /s/x HTTP/1.2", b"GET /s/x HTTP/1.1\r\nX : a", b"GET  /", b"GET /\x7f", b"a" * MOST_HEAD,
+        b"G" * 3 * MOST_HEAD,
+    ]
+    with serving(trial, len(rows_of)) as port:
+        for front in rows_of:
+            begin = time.monotonic()
+            want(talk(port, front, half_close=False), BAD, f"to {front[:60]!r}")
+            want_soon(begin, f"to {front[:60]!r}")
+
+
+def answers_before_more_comes(trial):
+    """A reply leaves once its request's head is there, whatever may come behind it, and the next request is answered then."""
+    with serving(trial, 1) as port, connect(port) as peer:
+        received = peer.makefile("rb")
+        for request, reply in [
+            (ASK, WHOLE), (ask("HEAD /s/x"), HEAD_ALONE), (ask("GET /s/y"), ABSENT), (ASK + ASK[:20], WHOLE), (ASK[20:], WHOLE),
+        ]:
+            begin = time.monotonic()
+            peer.sendall(request)
+            want(received.read(len(reply)), reply, f"to {request!r}")
+            want_soon(begin, f"to {request!r}")
 
 
 def closes_behind_the_last_request(trial):
@@ -260,12 +300,82 @@ def keeps_the_last_reply(trial):
         want(talk(port, ask("POST /s/x", "Content-Length: 50000") + b"x" * 50000, half_close=False), BAD, "the reply")
 
 
+@contextlib.contextmanager
+def within(least, most, what):
+    """What is done here takes so many seconds."""
+    begin = time.monotonic()
+    yield
+    spent = time.monotonic() - begin
+    want_true(least < spent < most, f"{what} took {spent:.1f} s")
+
+
 def lets_silent_peers_go(trial):
-    with serving(trial, 2) as port, connect(port):
-        begin = time.monotonic()
-        want(talk(port, ASK), WHOLE, "the next peer's reply")
-        spent = time.monotonic() - begin
-        want_true(SILENCE - 2 < spent < SILENCE + 5, f"the next peer waited {spent:.1f} s")
+    """One that says nothing, and, after a pause, one that says nothing more behind a reply, whatever it said before that."""
+    for said, least, most in [(b"", SILENCE - 2, SILENCE + 5), (ASK, PAUSE / 2, PAUSE + 4), (ASK + ASK[:9], PAUSE / 2, PAUSE + 4)]:
+        with serving(trial, 2) as port, connect(port) as silent:
+            silent.sendall(said)
+            with within(least, most, f"the reply beside a peer that said {said!r}"):
+                want(talk(port, ASK), WHOLE, "the next peer's reply")
+
+
+def lets_dripping_peers_go(trial):
+    """One that sends a byte now and then is let go as if it said nothing, though it never stops; also behind a reply."""
+    for front, reply in [(b"", b""), (ASK, WHOLE)]:
+        with serving(trial, 2) as port, connect(port) as peer:
+            peer.sendall(front)
+            want(peer.recv(len(reply), socket.MSG_WAITALL), reply, "to what came before")
+
+            def drip(peer=peer):
+                with contextlib.suppress(OSError):
+                    for byte in padded(MOST_HEAD):
+                        peer.sendall(bytes([byte]))
+                        time.sleep(0.8 * PAUSE)
+
+            thread = threading.Thread(target=drip, daemon=True)
+            thread.start()
+            with within(SILENCE - 2, SILENCE + 5, f"the reply beside a peer that drips behind {front!r}"):
+                want(talk(port, ASK), WHOLE, "the next peer's reply")
+        thread.join()
+
+
+def lets_idle_peers_go(trial):
+    """Six connections that are kept hold up the others for a pause each; one that asks in pieces isn't let go."""
+    with serving(trial, 8) as port, contextlib.ExitStack() as kept:
+        for _ in range(6):
+            client = http.client.HTTPConnection("127.0.0.1", port, timeout=LIMIT)
+            kept.callback(client.close)
+            with within(-1, PAUSE + 2, "a kept connection's object"):
+                want(fetch(client, "/s/x")[1], OBJECT, "a kept connection's object")
+        with within(-1, PAUSE + 2, "the next peer's reply"):
+            want(talk(port, ASK), WHOLE, "the next peer's reply")
+        slow = kept.enter_context(connect(port))
+        for piece in in_halves(ASK) + in_halves(ASK):
+            slow.sendall(piece)
+            time.sleep(0.6 * PAUSE)
+        slow.shutdown(socket.SHUT_WR)
+        want(slow.makefile("rb").read(), WHOLE + WHOLE, "a slow peer's replies")
+
+
+def serves_eight_that_keep_their_connections(trial):
+    """Eight clients at once, each of which keeps its connection until all are done."""
+    done = threading.Barrier(8, timeout=LIMIT)
+    got = []
+    with serving(trial, 8) as port:
+
+        def fetch_some():
+            client = http.client.HTTPConnection("127.0.0.1", port, timeout=LIMIT)
+            found = [fetch(client, "/s/x", "bytes=2-4") for _ in range(10)]
+            got.append(found == 10 * [(206, b"234", "bytes 2-4/10")])
+            done.wait()
+            client.close()
+
+        threads = [threading.Thread(target=fetch_some) for _ in range(8)]
+        with within(-1, 8 * PAUSE + 1, "eight clients"):
+            for thread in threads:
+                thread.start()
+            for thread in threads:
+                thread.join()
+    want(got, 8 * [True], "the objects of eight clients")
 
 
 def passes_over_peers_that_reset(trial):
@@ -281,8 +391,10 @@ def passes_over_peers_that_reset(trial):
 
 def serves_one_after_the_other(trial):
     with serving(trial, 2) as port:
-        first = http.client.HTTPConnection("127.0.0.1", port, timeout=LIMIT)
-        want(fetch(first, "/s/x")[1], OBJECT, "the first peer's object")
+        first = connect(port)
+        first.sendall(ASK)
+        want(first.recv(len(WHOLE), socket.MSG_WAITALL), WHOLE, "the first peer's reply")
+        first.sendall(ASK[:9])
         with connect(port) as second:
             second.sendall(ASK)
             second.settimeout(0.3)
@@ -340,10 +452,13 @@ def serves_curl(trial):
     curl = shutil.which("curl")
     if curl is None:
         return
-    with serving(trial, 1) as port:
+    with serving(trial, 9) as port:
         url = f"http://127.0.0.1:{port}/s/x"
         found = call([curl, "-sS", "-r", "2-4", url, "--next", "-sS", url], trial.folder)
         want(found, (0, f"234{OBJECT.decode()}", ""), "curl")
+        with within(-1, 8 * PAUSE + 1, "eight transfers at once"):
+            found = call([curl, "-sS", "--no-progress-meter", "--parallel", "--parallel-immediate", *8 * [url]], trial.folder)
+        want(found, (0, 8 * OBJECT.decode(), ""), "curl, eight transfers at once")
 
 
 def ends_where_it_is_stopped(trial):
@@ -440,8 +555,9 @@ REPLIES = {
 
 # The longest first.
 CASES = [
-    lets_silent_peers_go, answers_bytes_exactly, closes_behind_the_last_request, gives_whole_objects, gives_ranges,
-    gives_large_objects, closes_where_it_is_asked, finds_names, gives_files_as_they_stand,
+    lets_silent_peers_go, lets_dripping_peers_go, lets_idle_peers_go, serves_eight_that_keep_their_connections, answers_bytes_exactly,
+    closes_behind_the_last_request, gives_whole_objects, gives_ranges, gives_large_objects, closes_where_it_is_asked, refuses_at_once,
+    answers_before_more_comes, finds_names, gives_files_as_they_stand,
     judges_ranges_by_the_file_that_stands, says_that_the_store_failed, breaks_off_where_a_file_gets_shorter,
     keeps_the_last_reply, passes_over_peers_that_reset, serves_one_after_the_other, refuses_taken_ports,
     refuses_words_and_outputs, binds_the_address_that_is_named, is_loopback_alone, serves_shards_as_a_viewer_reads_them,

@@ -8,7 +8,7 @@ Each is compared with a plain model. COUNT is the number of scales of each kind;
 import random
 import struct
 
-from harness import main
+from harness import main, want
 from model import Sharding, Values, Volume, along, infos_of, printed, refused, spell
 from model.chance import pick_box, pick_chunks, pick_volume, pick_writes, with_numbers
 
@@ -61,6 +61,8 @@ def reads_damaged(trial, seed):
     trial.want_cuts(SIX, files, [SIX.whole, *map(SIX.box_of, SIX.cells)])
 
 
+TOP = 2**64 - 1
+
 # Two voxels, each a cell.
 ONE_MINISHARD = Sharding()
 TWO_MINISHARDS = Sharding(minishard_bits=1)
@@ -84,6 +86,13 @@ ROWS = [
     ("below the first of two equal ids", ONE_MINISHARD, {18: 1, 26: 0}, None, (0, 1), b"\0"),
     ("the first of two equal ids", ONE_MINISHARD, {18: 1, 26: 0}, None, (1, 2), b"\n"),
     ("two shards by the hash", HASHED, {}, None, (0, 2), b"\n\v"),
+    ("a start of an index behind its end", TWO_MINISHARDS, {0: 25, 8: 1}, None, (0, 1), "damaged 0,0,0: shard bad range"),
+    ("2^22 + 1 rows", ONE_MINISHARD, {0: 2, 8: 2 + 24 * (2**22 + 1)}, None, (0, 1), "damaged 0,0,0: shard too many rows 4194305"),
+    ("an index at the end of 64 bits", TWO_MINISHARDS, {0: TOP - 24, 8: TOP}, None, (0, 1), "damaged 0,0,0: shard short minishard"),
+    ("a first id that is the greatest", ONE_MINISHARD, {18: TOP}, None, (0, 1), b"\0"),
+    ("behind a first id that is the greatest", ONE_MINISHARD, {18: TOP}, None, (1, 2), b"\0"),
+    ("a first size that is the greatest", ONE_MINISHARD, {50: TOP}, None, (0, 1), f"damaged 0,0,0: chunk too long {TOP} limit 1"),
+    ("behind a first size that is the greatest", ONE_MINISHARD, {50: TOP}, None, (1, 2), "damaged 1,0,0: index start 1"),
 ]
 
 
@@ -112,6 +121,16 @@ def reads_many_rows(trial):
     trial.want_values(volume, values, [along(0, 2500), along(1190, 1200), along(2499, 2500)])
 
 
+def finds_first_and_last(trial):
+    """Of an index of 5,000 rows the chunk of the first and that of the last."""
+    volume = Volume([5000, 1, 1], [1, 1, 1], sharding=ONE_MINISHARD)
+    values = random.Random("rows").randbytes(5000)
+    (shard,) = trial.write(volume, [(volume.whole, values)]).values()
+    want(len(shard), 16 + 5000 + 24 * 5000, "the length of the shard")
+    for begin, end in [(4999, 5000), (0, 1)]:
+        trial.want(volume.words("cutout", spell(along(begin, end))), printed(values[begin:end]))
+
+
 def rows(count):
     for seed in range(count):
         yield f"scale {seed}", reads_scale, seed
@@ -121,6 +140,7 @@ def rows(count):
         yield title, reads_row, *case
     yield "a chunk behind a hole", reads_far
     yield "a minishard of many rows", reads_many_rows
+    yield "the first and the last of 5,000 rows", finds_first_and_last
 
 
 if __name__ == "__main__":

@@ -7,9 +7,9 @@ It wants `strace`, which makes the calls fail, and is passed over with a word wh
 by hand and isn't a part of the gate. Of each call to files, folders and streams that a plain run makes, the first, the second and so
 on fails: with an error of the device, with a full disk, and with a signal, which is tried again or is a fault; and the call fails from
 then on, as on a device that is lost. Each run has a folder of its own; afterwards whole objects stand there, the first ones that are
-due, and no half of one, but that a device that is lost, a copy into shards and an update of some may leave one file whose name ends in
-.part. A cutout may have printed a front of its values. Of a served run the calls to peers fail too: each peer gets a front of the
-replies that are due, or that the store failed in place of one.
+due, and no half of one, but that a device that is lost, a copy or a next scale into shards, and an update of some may leave one file whose
+name ends in .part. A cutout may have printed a front of its values. Of a served run the calls to peers fail too: each peer gets a front of
+the replies that are due, or that the store failed in place of one.
 """
 import collections
 import functools
@@ -19,7 +19,7 @@ import subprocess
 import sys
 import typing
 
-from disturbed import ROW, ROW_OBJECTS, RUNS, in_store
+from disturbed import DEEP_RUNS, ROW, ROW_OBJECTS, RUNS, in_store
 from harness import LIMIT, Wrong, main, want, want_true
 from model import DOOR, FEED, OK, OUTPUT, STORE
 from peers import PEERS, SERVE, WHOLE, failed_of, fronts_of, is_answered, serve_peers
@@ -58,7 +58,8 @@ TRACED = [
     "a write", "a write beside unfinished files", "a write of nothing", "a write into shards", "a folder that isn't empty", "a list",
     "an update", "an update of nothing", "an update of a shard", "an update of shards", "an update of a damaged shard", "a cutout",
     "a cutout of shards", "a cutout of nothing", "a cutout of layers", "a cutout of a damaged layer", "a copy", "a copy into shards",
-    "a copy out of shards", "a judgement", "a judgement of shards",
+    "a next scale", "a next scale in shards",
+    "a copy out of shards", "a judgement", "a judgement of shards", *(run.title for run in DEEP_RUNS),
 ]
 
 FAULTS = {STORE: b"store fault\n", FEED: b"feed fault\n", OUTPUT: b"output fault\n"}

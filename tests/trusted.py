@@ -1,6 +1,6 @@
 #!/usr/bin/env python3
-"""Checks that docs/trusted.md lists exactly the modules of definitions, and the types of the code, that the contract of `run`
-reaches, and that each word that it names for some modules is defined in one of them.
+"""Checks that docs/trusted.md lists exactly the modules of definitions, and the types of the code, that the contracts of `run`
+and `serve_all` reach, and that each word that it names for some modules is defined in one of them.
 
     tests/trusted.py
 
@@ -22,7 +22,7 @@ def path_of(crate, module):
 def find_reached():
     """The modules of definitions and the files of types that are reached, each as a crate and a name."""
     modules, files = set(), {("vol_base", "outside")}
-    waiting = [CRATES / "vol_tool/src/top.rt"]
+    waiting = [CRATES / "vol_tool/src/top.rt", CRATES / "vol_serve/src/top.rt"]
     while waiting:
         for crate, is_type, name in USE.findall(waiting.pop().read_text()):
             if not (CRATES / crate).is_dir():
@@ -56,7 +56,7 @@ def undefined(crate, names, says):
 
 
 # commands, the program's call, a port and a member of a field
-NOT_DEFINED = {"cutout", "write", "update", "generate", "serve", "verify", "run", "serde_json", "close"}
+NOT_DEFINED = {"cutout", "write", "update", "generate", "serve", "verify", "vol_serve", "run", "serde_json", "close"}
 
 
 def judge_all():
@@ -87,4 +87,4 @@ def rows():
 
 
 if __name__ == "__main__":
-    main(rows, jobs=1, needs_program=False)
+    main(rows, jobs=1, program=None)

@@ -10,6 +10,7 @@ Chromium is installed the page isn't tried, and without numpy no arrays of numpy
 import collections
 import contextlib
 import dataclasses
+import functools
 import http.client
 import http.server
 import importlib.util
@@ -316,8 +317,8 @@ def serves_on(trial):
         for server in servers_of(pid):
             os.kill(server, signal.SIGKILL)
         want(ask(link, target), (200, None, chunk), "after the server was killed")
-        time.sleep(10.5)
-        want(ask(link, target), (200, None, chunk), "after 10 seconds of silence")
+        time.sleep(1.5)
+        want(ask(link, target), (200, None, chunk), "after a pause")
 
 
 def refuses(trial):
@@ -870,6 +871,52 @@ def shows_served(trial, browser):
             server.kill()
 
 
+PIECE = 1 << 16
+
+# How many milliseconds the pieces of an object take that are all asked for at once, and of each its status, its length and whether it
+# is the right one.
+FETCH_PIECES = """
+(async (address, pieces) => {
+    const begin = performance.now();
+    const found = await Promise.all([...Array(pieces).keys()].map(async (piece) => {
+        const range = `bytes=${piece * 65536}-${piece * 65536 + 65535}`;
+        const reply = await fetch(address, {headers: {Range: range}, cache: "no-store"});
+        const bytes = new Uint8Array(await reply.arrayBuffer());
+        return [reply.status, bytes.length, bytes.every((byte) => byte === piece)];
+    }));
+    return [performance.now() - begin, found];
+})("%s", %d)
+"""
+
+
+class Pages(http.server.SimpleHTTPRequestHandler):
+    """The files of a folder, as pages of an origin of their own."""
+
+    def log_message(self, *_):  # pylint: disable=arguments-differ
+        pass
+
+
+def fetches_pieces(trial, browser):
+    """A page of another origin asks `vol_tool serve` for 40 pieces at once, over as many connections as the browser likes."""
+    count = 40
+    trial.lay_out({"d/s/x": b"".join(PIECE * bytes([piece]) for piece in range(count)), "page/index.html": b"<!doctype html>"})
+    handler = functools.partial(Pages, directory=trial.folder / "page")
+    with (
+        http.server.ThreadingHTTPServer(("127.0.0.1", 0), handler) as pages,
+        trial.start("serve d --port=0 --connections=100", stdout=subprocess.PIPE) as server,
+    ):
+        threading.Thread(target=pages.serve_forever, daemon=True).start()
+        try:
+            port = int(server.stdout.readline().split()[1])
+            browser.open(f"http://127.0.0.1:{pages.server_port}/", "document.readyState === 'complete'")
+            spent, found = browser.run(FETCH_PIECES % (f"http://127.0.0.1:{port}/s/x", count))
+        finally:
+            server.kill()
+            pages.shutdown()
+    want(found, count * [[206, PIECE, True]], "the pieces")
+    want_true(spent < 8000, f"the pieces took {spent:.0f} ms")
+
+
 ON_THE_PAGE = [
     ("shardings of every kind", shows_shardings),
     ("chunk ids of more than 32 bits", shows_far_cells),
@@ -883,6 +930,7 @@ ON_THE_PAGE = [
     ("damaged segmentations", tells_segmentations),
     ("servers that fail", tells_servers),
     ("what vol_tool serve serves", shows_served),
+    ("pieces of vol_tool serve at once", fetches_pieces),
 ]
 
 

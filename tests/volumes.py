@@ -9,11 +9,14 @@ import array
 import dataclasses
 import itertools
 import json
+import os
 import random
+import shutil
+import subprocess
 import sys
 
 from arrays import in_order, load, save
-from harness import ROOT, call, main, want, want_true
+from harness import LIMIT, ROOT, call, files_in, main, want, want_true
 from model import REQUEST, spell
 
 SCRIPT = ROOT / "examples" / "volume.py"
@@ -50,7 +53,7 @@ class Folder:
     def does(self, *words):
         """A call that ends well, and tells nothing but what is stored."""
         status, out, errors = self.call(*words)
-        is_told = out.startswith("objects ") if words[0] == "put" else out == ""
+        is_told = {"put": out.startswith("objects "), "pyramid": ": objects " in out}.get(words[0], out == "")
         want_true((status, errors) == (0, "") and is_told, f"{words}: {status} {out!r} {errors!r}")
 
     def refuses(self, told, *words, status=1):
@@ -339,8 +342,182 @@ def corrects(folder):
     want(folder.call("put", "part.npy", "d", "s", "--at", "0,0,7", "--resume")[0], 2, "to go on with a correction")
 
 
+def told(*levels):
+    """What making levels tells: of each its key, its size, the method, and how many files and chunks it has."""
+    return "".join(f"{key} {size} {method}: objects {files} cells {chunks}\n" for key, size, method, files, chunks in levels)
+
+
+def means(content, side):
+    """The bytes of a cube of an even side, halved by means."""
+    step = side // 2
+    found = bytearray()
+    for z, y, x in itertools.product(range(step), repeat=3):
+        places = (2 * x + i + side * (2 * y + j + side * (2 * z + k)) for k, j, i in itertools.product((0, 1), repeat=3))
+        found.append(sum(content[place] for place in places) // 8)
+    return bytes(found)
+
+
+def makes_pyramids(folder):
+    """Until a scale has one chunk; the scales stand behind those of smaller voxels, in the layout of the one before."""
+    content = save_cube(folder, "in.npy", 12, 1, 1)
+    layout = "--chunk", "4,4,4", "--sharding", "1,murmur,1,1"
+    folder.does("put", "in.npy", "d", "8_8_40", *layout, "--offset=-8,0,4", "--resolution", "8,8,40")
+    folder.does("put", "in.npy", "d", "wide", "--resolution", "100,100,100")
+    wanted = told(("16_16_80", "6x6x6", "mean", 2, 8), ("32_32_160", "3x3x3", "mean", 1, 1))
+    want(folder.call("pyramid", "d", "8_8_40"), (0, wanted, ""), "a pyramid")
+    info = folder.info()
+    want([scale["key"] for scale in info["scales"]], ["8_8_40", "16_16_80", "32_32_160", "wide"], "the keys")
+    first, second, third, _ = info["scales"]
+    want(second, {**first, **dict(key="16_16_80", size=[6] * 3, voxel_offset=[-4, 0, 2], resolution=[16, 16, 80])}, "the second scale")
+    want(third, {**first, **dict(key="32_32_160", size=[3] * 3, voxel_offset=[-2, 0, 1], resolution=[32, 32, 160])}, "the third scale")
+    for key, side in (("16_16_80", 12), ("32_32_160", 6)):
+        content = means(content, side)
+        folder.does("get", "d", key, "all", "out.npy")
+        want(load(folder.path("out.npy"))[3], content, f"the values of {key}")
+        want_true(not list(folder.path(f"d/{key}").glob("*.part")), "what is noted stays")
+    want(folder.call("pyramid", "d", "8_8_40"), (0, "8_8_40: no scale is left to make\n", ""), "a second call")
+    want(folder.call("pyramid", "d", "wide"), (0, "wide: no scale is left to make\n", ""), "a scale of one chunk")
+    want(folder.info(), info, "the info")
+
+
+def picks_methods(folder):
+    """Labels by mode, images by mean, or as it is asked; and as many levels as are wanted, until a scale is a voxel."""
+    save(folder.path("in.npy"), "<u4", [1, 1, 5], b"".join(value.to_bytes(4, "little") for value in (7, 2, 5, 9, 3)))
+    for dataset, options, given, method, values in [
+        ("labels", ["--encoding", "compressed_segmentation"], [], "mode", [2, 5, 3]),
+        ("images", [], [], "mean", [4, 7, 3]),
+        ("raw", [], ["--method", "mode", "--workers", "1"], "mode", [2, 5, 3]),
+    ]:
+        folder.does("put", "in.npy", dataset, "s", *options, "--resolution", "2.5,1,1")
+        want(folder.call("pyramid", dataset, "s"), (0, "s: no scale is left to make\n", ""), f"{dataset}: one chunk")
+        wanted = told(("s_2", "3x1x1", method, 1, 1))
+        want(folder.call("pyramid", dataset, "s", "--levels", "1", *given), (0, wanted, ""), f"{dataset}: one level")
+        folder.does("get", dataset, "s_2", "all", "out.npy")
+        want(load(folder.path("out.npy"))[3], b"".join(value.to_bytes(4, "little") for value in values), f"{dataset}: values")
+        wanted = told(("s_4", "2x1x1", method, 1, 1), ("s_8", "1x1x1", method, 1, 1))
+        want(folder.call("pyramid", dataset, "s", "--levels", "9", *given), (0, wanted, ""), f"{dataset}: nine levels")
+        scales = folder.info(dataset)["scales"]
+        want([scale["resolution"][0] for scale in scales], [2.5, 5, 10, 20], f"{dataset}: the lengths")
+
+
+def refuses_pyramids(folder):
+    """What can't be made is refused before anything is."""
+    save_cube(folder, "in.npy", 12, 1, 1)
+    folder.does("put", "in.npy", "d", "s", "--chunk", "4,4,4", "--offset=2,0,-4")
+    folder.does("put", "in.npy", "d", "odd", "--chunk", "4,4,4", "--offset=0,-3,0")
+    folder.trial.lay_out({"d/s_2/x": b"", "d/info.bak": folder.path("d/info").read_bytes()})
+    before = files_in(folder.path("d"))
+    for told_why, words in [
+        ("odd has the voxel_offset [0, -3, 0]", ["d", "odd"]), ("at most --levels 1", ["d", "s"]), ("no scale t", ["d", "t"]),
+        ("at most --levels 1", ["d", "s", "--levels", "2"]), ("remove this folder", ["d", "s", "--levels", "1"]), ("no e/info", ["e", "s"]),
+    ]:
+        folder.refuses(told_why, "pyramid", *words)
+    for levels in ("0", "41", "x"):
+        want(folder.call("pyramid", "d", "s", "--levels", levels)[:2], (2, ""), f"{levels} levels")
+    want(files_in(folder.path("d")), before, "what stands")
+    folder.path("d/s_2/x").unlink()
+    info = folder.info()
+    info["scales"].append({**info["scales"][0], "key": "s_2"})
+    folder.trial.lay_out({"d/info": json.dumps(info).encode()})
+    folder.refuses("a scale s_2 already", "pyramid", "d", "s", "--levels", "1")
+
+
+def keeps_scales(folder):
+    """A scale that is there stays, in its layout, also one that is to be filled anew."""
+    content = save_cube(folder, "in.npy", 12, 1, 1)
+    folder.does("put", "in.npy", "d", "s", "--chunk", "4,4,4")
+    folder.does("pyramid", "d", "s")
+    want(folder.objects("s_4"), {"0-3_0-3_0-3": means(means(content, 12), 6)}, "the coarsest")
+    folder.trial.lay_out({"d/s_2/0-4_0-4_0-4": bytes(64)})
+    shutil.rmtree(folder.path("d/s_4"))
+    info = folder.info()
+    info["scales"][2]["chunk_sizes"] = [[3, 3, 2]]
+    folder.trial.lay_out({"d/info": json.dumps(info).encode()})
+    wanted = told(("s_4", "3x3x3", "mean", 2, 2))
+    want(folder.call("pyramid", "d", "s", "--levels", "2"), (0, wanted, ""), "a scale that was removed")
+    halved = bytearray(means(content, 12))
+    for z, y in itertools.product(range(4), repeat=2):
+        halved[6 * (y + 6 * z) : 6 * (y + 6 * z) + 4] = bytes(4)
+    wanted = means(bytes(halved), 6)
+    want(folder.objects("s_4"), {"0-3_0-3_0-2": wanted[:18], "0-3_0-3_2-3": wanted[18:]}, "the coarsest again")
+    want(folder.info(), info, "the info")
+
+
+def puts_pyramids_back(folder):
+    """Where the program ends otherwise the info is put back; files that it left are told, and those of a run that was killed."""
+    save_cube(folder, "in.npy", 12, 1, 1)
+    folder.does("put", "in.npy", "d", "s", "--chunk", "4,4,4")
+    before = files_in(folder.path("d"))
+    status, out, _ = folder.call("pyramid", "d", "s", program=fails_at(folder, 0, 5))
+    want((status, out, files_in(folder.path("d"))), (5, "", before), "a first level that isn't made")
+    folder.path("count").unlink()
+    status, out, _ = folder.call("pyramid", "d", "s", program=fails_at(folder, 1, 5))
+    want((status, out), (5, told(("s_2", "6x6x6", "mean", 8, 8))), "a second level that isn't made")
+    want([scale["key"] for scale in folder.info()["scales"]], ["s", "s_2"], "the scales")
+    want(folder.path("d/s_4").exists(), False, "its folder")
+    folder.trial.lay_out({"d/s_2/4-6_4-6_4-6": b""})
+    status, out, errors = folder.call("pyramid", "d", "s")
+    want((status, out, errors), (4, "", "damaged 1,1,1: chunk length 0 wanted 8\n"), "a damaged level")
+    folder.trial.lay_out({"d/s_4/pyramid.part": b"", "d/s_4/0-3_0-3_0-3": bytes(27)})
+    folder.refuses("d/s_4 isn't whole", "pyramid", "d", "s")
+    shutil.rmtree(folder.path("d/s_2"))
+    shutil.rmtree(folder.path("d/s_4"))
+    wanted = told(("s_2", "6x6x6", "mean", 8, 8), ("s_4", "3x3x3", "mean", 1, 1))
+    want(folder.call("pyramid", "d", "s"), (0, wanted, ""), "both levels")
+
+
+def is_told_on_a_terminal(folder):
+    """How far a level is; the program's line follows where it is refused."""
+    save_cube(folder, "in.npy", 12, 1, 1)
+    folder.does("put", "in.npy", "d", "s", "--chunk", "4,4,4")
+    for damage, status, last in (({}, 0, "\r"), ({"d/s/0-4_0-4_0-4": b""}, 4, "damaged 0,0,0: chunk length 0 wanted 64\r\n")):
+        folder.trial.lay_out(damage)
+        ours, theirs = os.openpty()
+        done = subprocess.run(
+            [sys.executable, SCRIPT, "pyramid", "d", "s", "--levels", "1"], cwd=folder.trial.folder, stdin=subprocess.DEVNULL,
+            stdout=subprocess.PIPE, stderr=theirs, timeout=LIMIT, env={**os.environ, "VOL_TOOL": str(folder.trial.program)},
+        )
+        os.close(theirs)
+        text = os.read(ours, 4096).decode()
+        os.close(ours)
+        want((done.returncode, done.stdout), (status, told(("s_2", "6x6x6", "mean", 8, 8)).encode() if status == 0 else b""), "a level")
+        want_true("s_2, " in text and " of at most 8 files: " in text and text.endswith(last), f"on the terminal {text!r}")
+        shutil.rmtree(folder.path("d/s_2"), ignore_errors=True)
+
+
+def makes_pyramids_as_module(folder):
+    """The module gives the keys that it made, and raises what the program says."""
+    save_cube(folder, "in.npy", 12, 1, 1)
+    folder.does("put", "in.npy", "d", "s", "--chunk", "4,4,4")
+    code = """
+import volume
+print(volume.pyramid("d", "s", levels=1), volume.pyramid("d", "s", workers=2), volume.pyramid("d", "s"))
+open("d/s/0-4_0-4_0-4", "w").close()
+for words in ({"levels": 1, "method": "median"}, {"levels": 1, "method": "mode"}):
+    import shutil
+    shutil.rmtree("d/s_2", ignore_errors=True)
+    try:
+        volume.pyramid("d", "s", **words)
+    except (ValueError, volume.Ended) as why:
+        print(type(why).__name__, getattr(why, "status", None), why)
+"""
+    found = call([sys.executable, "-c", code], folder.trial.folder, VOL_TOOL=str(folder.trial.program), PYTHONPATH=str(SCRIPT.parent))
+    wanted = (
+        "['s_2'] ['s_4'] []\nValueError None method is one of mode, mean, and not median\n"
+        "Ended 4 damaged 0,0,0: chunk length 0 wanted 64\n"
+    )
+    want(found, (0, wanted, ""), "the module")
+
+
 # title, case
 CASES = [
+    ("pyramids", makes_pyramids),
+    ("methods and levels of a pyramid", picks_methods),
+    ("pyramids that can't be made", refuses_pyramids),
+    ("scales of a pyramid that are there", keeps_scales),
+    ("pyramids that are broken off", puts_pyramids_back),
+    ("a pyramid on a terminal", is_told_on_a_terminal),
+    ("a pyramid by the module", makes_pyramids_as_module),
     ("channels behind x", asks_for_axes),
     ("types that aren't stored", refuses_types),
     ("sizes past the limits", refuses_sizes),

@@ -10,12 +10,10 @@ import dataclasses
 import itertools
 import os
 import random
-import resource
-import signal
 import subprocess
 import tempfile
 
-from harness import FOLDER, LIMIT, main, memory_limit, open_closed_pipe, open_full, want, want_ending, want_files
+from harness import FOLDER, LIMIT, file_limit, main, memory_limit, open_closed_pipe, open_full, want, want_ending, want_files
 from model import MEMORY, OK, Values, Volume, box_in, infos_of, refused, stored, stream_of, voxels_in
 from model.chance import pick_box
 
@@ -85,16 +83,10 @@ def keeps_a_front(trial):
     want_files(trial.files(), {"d/s/0-1_0-1_0-1": b"\1"})
 
 
-def allow_one_byte():
-    """From now on no file of this process grows past one byte, as where a disk is full."""
-    signal.signal(signal.SIGXFSZ, signal.SIG_IGN)
-    resource.setrlimit(resource.RLIMIT_FSIZE, (1, 1))
-
-
 def leaves_no_half(trial):
     """The system takes a part of an object alone: nothing is left of it."""
     trial.lay_out(infos_of(SMALL))
-    trial.want("write d s", refused("store fault"), stream_of([ALL_FOUR]), prepare=allow_one_byte)
+    trial.want("write d s", refused("store fault"), stream_of([ALL_FOUR]), prepare=file_limit(1))
     want_files(trial.files(), {})
 
 

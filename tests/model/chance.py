@@ -35,6 +35,13 @@ def pick_layouts(chance, forms):
             return volumes
 
 
+def pick_scales(chance, forms):
+    """A scale, and the next one of its pyramid."""
+    source, target = pick_layouts(chance, forms)
+    size = [(side + 1) // 2 for side in source.size]
+    return dataclasses.replace(source, offset=tuple(2 * at for at in target.offset)), dataclasses.replace(target, size=size)
+
+
 def pick_volume(chance, is_raw, in_shards):
     return pick_layouts(chance, [(is_raw, in_shards)])[0]
 
@@ -56,7 +63,7 @@ def pick_labels(chance, volume, count):
     """The bytes of so many values of at most 300 labels: at random, in turn or in runs."""
     few = chance.choice([1, 2, 3, 4, 5, 16, 17, chance.randint(1, 300)])
     most = 300 if math.prod(volume.block) > 256 and chance.random() < 0.5 else few
-    bits = chance.choice([10, 8 * volume.width])
+    bits = chance.choice([min(10, 8 * volume.width), 8 * volume.width])
     labels = [chance.getrandbits(bits).to_bytes(volume.width, "little") for _ in range(most)]
     form = chance.choice(["at random", "in turn", "in runs"])
     if form == "at random":

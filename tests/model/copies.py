@@ -17,7 +17,7 @@ from .volumes import Values
 @dataclasses.dataclass(frozen=True)
 class Copy:
     """
-    What is read of the source's cells; its values; how many cells are copied; the paths of all files, in their order; those that may
+    What is read of the source's cells; the values; how many cells are copied; the paths of all files, in their order; those that may
     stand, with their bytes; and the first fault with its cell.
     """
 
@@ -44,18 +44,20 @@ def read_cells(volume, files):
     return {cell: read for cell, read in found.items() if read is not None}
 
 
-def copy_of(source, target, files):
-    """The copy of what files have of the source."""
-    there = read_cells(source, files)
-    sound = {cell: raw for cell, raw in there.items() if isinstance(raw, bytes)}
-    values = Values(source, [(source.box_of(cell), raw) for cell, raw in sound.items()])
-    # each cell that is copied, with the cells of the source that it meets, x fastest
+def values_of(volume, there):
+    """The values of what is read of a scale's cells; one with a fault counts as zeros."""
+    return Values(volume, [(volume.box_of(cell), raw) for cell, raw in there.items() if isinstance(raw, bytes)])
+
+
+def made_of(source, target, there, values, box_over=lambda box: box):
+    """The files with these values that are made of what is read of the source's cells, each under the box that `box_over` gives."""
+    # each cell that is made, with the cells of the source that it is made of, x fastest
     met = {}
     for cell in there:
-        for own in target.cells_in(source.box_of(cell)):
+        for own in target.cells_in(box_over(source.box_of(cell))):
             met.setdefault(own, []).append(cell)
     ordered = target.in_order(met)
-    faults = ((own, cell) for own in ordered for cell in met[own] if cell not in sound)
+    faults = ((own, cell) for own in ordered for cell in met[own] if not isinstance(there[cell], bytes))
     stopped, first = next(faults, (None, None))
     chunks = {}
     for own in ordered:
@@ -65,3 +67,9 @@ def copy_of(source, target, files):
     paths = list(dict.fromkeys(map(target.path_of, ordered)))
     fault = None if stopped is None else (first, there[first])
     return Copy(there, values, len(met), paths, target.files(chunks), fault)
+
+
+def copy_of(source, target, files):
+    """The copy of what files have of the source."""
+    there = read_cells(source, files)
+    return made_of(source, target, there, values_of(source, there))

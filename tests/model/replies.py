@@ -7,8 +7,9 @@ MOST_REQUESTS = 65536
 # How long the name of an object may be, with that of the data set and the `/` behind it.
 MOST_NAME = 512
 
-# How long a peer may be silent, in seconds.
+# How long a peer may take for a head, and for the first byte behind a reply, in seconds.
 SILENCE = 10
+PAUSE = 0.5
 
 
 def ask(line, *fields):

@@ -1,4 +1,6 @@
 """A small data set: d with the scale s of 4 x 2 x 1 voxels in two chunks. What is refused is tried with it, and with changes of it."""
+import json
+
 from .volumes import SEGMENTED, SHARDING, info_of
 
 INFO_PATH = "d/info"
@@ -26,6 +28,13 @@ def changed(*changes):
 
 def with_info(volume=None, **scale):
     return {INFO_PATH: info_of(**{"size": [4, 2, 1], "chunk": [2, 2, 1], "volume": volume, **scale})}
+
+
+def with_next(source=None, volume=None, **target):
+    """The info with the next scale t, in one chunk; each scale may have other members."""
+    info = json.loads(with_info(volume, **(source or {}))[INFO_PATH])
+    info["scales"] += json.loads(info_of(**{"size": [2, 1, 1], "chunk": [2, 1, 1], "key": "t", **target}))["scales"]
+    return {INFO_PATH: json.dumps(info).encode()}
 
 
 def shards(**sharding):

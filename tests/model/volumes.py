@@ -209,6 +209,12 @@ class Values:
     def all(self):
         return bytes(self.raw)
 
+    def at(self, voxel, channel):
+        """The value of a voxel, as a number."""
+        (begin,), width = self.places([(at, at + 1) for at in voxel], 1)
+        begin += width * self.count * channel
+        return int.from_bytes(self.raw[begin : begin + width], "little")
+
     def has_any(self, box):
         """Whether some voxel of a box was written."""
         length = box[0][1] - box[0][0]

@@ -1,0 +1,105 @@
+#!/bin/sh
+# Objects over 8 connections that are kept, from vol_serve with 4 workers, from the plain program beside this script with as
+# many threads, and where nginx is installed from one with as many workers: ranges of 64 KiB of an object of 64 MiB, and
+# whole objects of 256 KiB, with the files in the page cache. Each connection makes so many requests as RANGES says (20000),
+# or a quarter of these for whole objects; three tries in turn, and the best of each. Wanted: at least 0.9 of the plain
+# program, and 0.8 of nginx.
+#
+#     bench/serve_many.sh [PROGRAM [RANGES]]
+#
+# PROGRAM is the built vol_serve if it is left out. It wants rustc, and 100 MiB free where TMPDIR says.
+
+root=$(cd "$(dirname "$0")/.." && pwd) || exit
+ranges=${2:-20000}
+set -- plain_serve "${1:-$root/crates/vol_serve/out/vol_serve}"
+. "$root/bench/against.sh"
+
+connections=8 workers=4
+PATH=$PATH:/usr/sbin
+rustc --edition 2021 -O -o ask_many "$root/bench/ask_many.rs" || exit
+mkdir -p d/ranges d/wholes && head -c 67108864 /dev/urandom >d/ranges/x || exit
+for number in $(seq 64); do
+    head -c 262144 /dev/urandom >"d/wholes/$number" || exit
+done
+cat d/ranges/* d/wholes/* >/dev/null || exit
+
+cat >nginx.conf <<END
+daemon off;
+$([ "$(id -u)" != 0 ] || echo 'user root;')
+worker_processes $workers;
+pid nginx.pid;
+events { worker_connections 64; }
+http {
+    access_log off;
+    sendfile on;
+    tcp_nopush on;
+    keepalive_requests 1000000;
+    client_body_temp_path body;
+    proxy_temp_path proxy;
+    fastcgi_temp_path fastcgi;
+    uwsgi_temp_path uwsgi;
+    scgi_temp_path scgi;
+    server { listen 127.0.0.1:PORT reuseport; root DATASET; }
+}
+END
+
+# KIND LENGTH REQUESTS: how many requests are answered a second at the port in the file `port`.
+ask() {
+    ./ask_many "$(cut -d ' ' -f 2 port)" "d/$1" "$2" $connections "$3"
+}
+
+# KIND LENGTH REQUESTS WORD..: the same of a server that is begun by these words, and ends behind so many connections.
+rate_of() {
+    kind=$1 len=$2 requests=$3
+    shift 3
+    : >port
+    "$@" "d/$kind" --port=0 --connections=$connections --workers=$workers >>port &
+    server=$!
+    until grep -q '^listening ' port; do
+        kill -0 $server 2>/dev/null || exit 1
+        sleep 0.1
+    done
+    ask "$kind" "$len" "$requests" && wait $server
+}
+
+# KIND LENGTH REQUESTS: the same of nginx, or 0 where it isn't installed.
+rate_of_nginx() {
+    command -v nginx >/dev/null || { echo 0; return; }
+    free=$(python3 -c 'import socket; s = socket.create_server(("127.0.0.1", 0)); print(s.getsockname()[1])') || exit
+    echo "listening $free" >port
+    sed "s|PORT|$free|; s|DATASET|$work/d/$1|" nginx.conf >nginx_now.conf
+    nginx -p "$work" -e nginx.log -c nginx_now.conf &
+    server=$!
+    until [ -s nginx.pid ]; do
+        kill -0 $server 2>/dev/null || exit 1
+        sleep 0.1
+    done
+    sleep 0.2
+    ask "$1" "$2" "$3"
+    kill $server && wait $server
+}
+
+# KIND LENGTH REQUESTS
+compare() {
+    for _ in 1 2 3; do
+        ours=$(rate_of "$@" "$program") && plain=$(rate_of "$@" ./plain_serve serve) && other=$(rate_of_nginx "$@") || exit
+        echo "$ours $plain $other"
+    done | awk -v kind="$1" -v len="$2" '
+        function tell(name, rate) { printf "%-7s %-6s %6d requests/s  %5.0f MiB/s\n", kind, name, rate, rate * len / 1048576 }
+        {
+            ours = $1 > ours ? $1 : ours
+            plain = $2 > plain ? $2 : plain
+            other = $3 > other ? $3 : other
+        }
+        END {
+            if (NR < 3) exit 1
+            tell("ours", ours)
+            tell("plain", plain)
+            if (other) tell("nginx", other)
+            printf "%-7s ratio  %.2f to plain", kind, ours / plain
+            if (other) printf ", %.2f to nginx", ours / other
+            print "  (best of 3)"
+        }'
+}
+
+compare ranges 65536 "$ranges" && compare wholes 262144 $((ranges / 4))

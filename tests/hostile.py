@@ -1,0 +1,195 @@
+#!/usr/bin/env python3
+"""Gives the built vol_tool info documents, streams, stores and requests at random, most of them wrong: each is answered as is due.
+
+    tests/hostile.py [PROGRAM [COUNT]]
+
+What is due is worked out by plain models (model/infos.py, streams.py, answers.py, copies.py, updates.py and heads.py). COUNT is how many of
+each kind there are: documents; streams, of which each is written into an empty scale and then put over what it left; stores of every form,
+of which some files are damaged, and which every command reads; and streams of requests, which come in pieces. Runs that are refused change
+nothing, and the others leave the files of the models.
+"""
+import contextlib
+import dataclasses
+import itertools
+import math
+import random
+import socket
+import time
+
+from harness import main, want, want_files
+from model import copy_of, cutout, infos_of, printed, refused, sound, spell, stored, stream_of, verdict
+from model.chance import damage_some, pick_box, pick_chunks, pick_layouts, pick_writes
+from model.heads import replies_to
+from model.infos import Refused as BadInfo
+from model.infos import padded_voxels, scale_in
+from model.odd import pick_info, pick_pieces, pick_requests, pick_stream
+from model.segments import spell_loosely
+from model.streams import Refused as BadStream
+from model.streams import writes_in
+from peers import connect, serving
+
+NOWHERE = [(-(2**41), 1 - 2**41)] * 3
+FEW_CELLS = 4096
+MOST_CELLS = 2**22
+MOST_PADDED = 2**22
+
+
+# Documents
+
+
+def answers_of(volume):
+    """What some runs end with over a scale of which nothing is stored: they tell its box, its values, its cells and its limit."""
+    begin = [(first, first + 1) for first, _ in volume.whole]
+    cells, padded = math.prod(volume.grid), padded_voxels(volume)
+    rows_of = [
+        (volume.words("cutout", spell(NOWHERE)), refused(f"box {spell(NOWHERE)} outside {spell(volume.whole)}")),
+        (volume.words("cutout", spell(begin)), printed(bytes(volume.channels * volume.width))),
+        (volume.words("write"), stored(0, 0) if padded <= MOST_PADDED else refused(f"padded voxels {padded} over {MOST_PADDED}")),
+    ]
+    # each cell of a judgement is looked for
+    if cells <= FEW_CELLS:
+        rows_of.append((volume.words("verify"), sound(cells, 0)))
+    elif cells > MOST_CELLS:
+        rows_of.append((volume.words("verify"), refused(f"too many cells {cells}")))
+    return rows_of
+
+
+def judges_info(trial, seed):
+    content = pick_info(random.Random(f"info {seed}"))
+    trial.lay_out({"d/info": content})
+    try:
+        rows_of = answers_of(scale_in(content))
+    except BadInfo as fault:
+        told = refused(f"info of d: {fault}")
+        rows_of = [(["cutout", "d", "s", spell(NOWHERE)], told), (["write", "d", "s"], told)]
+    for words, wanted in rows_of:
+        trial.want(words, wanted, stream_of([]))
+    want_files(trial.files(), {})
+
+
+# Forms of scales: whether chunks are raw, and whether they are in shards.
+FORMS = list(itertools.product((True, False), (False, True)))
+
+
+def form_of(seed, step=1):
+    return FORMS[seed // step % len(FORMS)]
+
+
+# Streams
+
+
+def want_written(trial, volume, content):
+    """A stream that is written into an empty scale."""
+    try:
+        chunks = volume.chunks_after(writes_in(volume, content))
+        due = volume.files(chunks)
+        wanted = stored(len(due), len(chunks))
+    except BadStream as fault:
+        due, wanted = {}, refused(str(fault))
+    trial.want(volume.words("write"), wanted, content)
+    want_files(trial.files(), due)
+
+
+def want_updated(trial, volume, content):
+    """A stream that is put over what stands."""
+    try:
+        writes = writes_in(volume, content)
+    except BadStream as fault:
+        trial.want_unchanged(volume.words("update"), refused(str(fault)), content)
+    else:
+        trial.want_update(volume, writes)
+
+
+def judges_streams(trial, seed):
+    chance = random.Random(f"streams {seed}")
+    (volume,) = pick_layouts(chance, [form_of(seed)])
+    trial.lay_out(infos_of(volume))
+    want_written(trial, volume, pick_stream(chance, volume))
+    want_updated(trial, volume, pick_stream(chance, volume))
+
+
+# Stores
+
+
+def pick_stored(chance, volume):
+    """Chunks of a scale, of which some are absent, and those of segmentations spelled as another program may."""
+
+    def spell_some(cell, raw):
+        is_own = volume.block is None or chance.random() < 0.3
+        return volume.spell(cell, raw) if is_own else spell_loosely(chance, volume.shape(cell), raw)
+
+    return pick_chunks(chance, volume, spell_some)
+
+
+def pick_workers(chance):
+    return chance.choice([[], ["--workers=2"], ["--workers=3"], ["--workers=16"]])
+
+
+def judges_stores(trial, seed):
+    """A store of which some files are damaged, by each command."""
+    chance = random.Random(f"stores {seed}")
+    volume, other = pick_layouts(chance, [form_of(seed), form_of(seed, len(FORMS))])
+    target = dataclasses.replace(other, dataset="e", key="t")
+    files = volume.files(pick_stored(chance, volume))
+    trial.lay_out({**infos_of(volume), **infos_of(target), **files})
+    damaged = damage_some(chance, volume, files)
+    trial.lay_out(damaged)
+    files = {path: content for path, content in damaged.items() if content is not None}
+    for box in (volume.whole, pick_box(chance, volume), pick_box(chance, volume)):
+        trial.want(volume.words("cutout", spell(box)), cutout(volume, files, box))
+        trial.want(volume.words("verify", spell(box)), verdict(volume, files, box))
+    if files:
+        trial.want(volume.words("write"), refused("folder not empty"), stream_of([]))
+        trial.want(volume.words("generate", "1", "1"), refused("folder not empty"))
+    want_files(trial.files(), files)
+    words = ["reshard", volume.dataset, volume.key, target.dataset, target.key, *pick_workers(chance)]
+    trial.want_copy(words, copy_of(volume, target, files))
+    trial.want_update(volume, pick_writes(chance, volume, chance.randint(1, 3)), *pick_workers(chance))
+
+
+# Requests
+
+OBJECTS = {"d/s/x": b"0123456789", "d/s/empty": b"", "d/s/long": b"long" * 40_000, "d/s/...": b"dots", "d/info": b"{}"}
+
+# How many connections a server has here, and how long a peer waits between two pieces, in seconds.
+CONNECTIONS = 20
+PAUSE = 0.001
+
+
+def talk_in_pieces(port, pieces):
+    """All that a server sends to pieces that are sent apart."""
+    with connect(port) as peer:
+        peer.setsockopt(socket.IPPROTO_TCP, socket.TCP_NODELAY, 1)
+        # a server that closed takes no more
+        with contextlib.suppress(ConnectionError):
+            for piece in pieces:
+                peer.sendall(piece)
+                time.sleep(PAUSE)
+            peer.shutdown(socket.SHUT_WR)
+        with peer.makefile("rb") as received:
+            return received.read()
+
+
+def answers_requests(trial, seed):
+    """The connections of a server, each with a stream of requests."""
+    trial.lay_out({**OBJECTS, "d/s/x.part": b"unfinished"})
+    with serving(trial, CONNECTIONS) as port:
+        for number in range(CONNECTIONS):
+            chance = random.Random(f"requests {seed} {number}")
+            stream = pick_requests(chance)
+            wanted, _ = replies_to(stream, OBJECTS)
+            pieces = pick_pieces(chance, stream)
+            want(talk_in_pieces(port, pieces), wanted, f"to {pieces!r:.300}")
+
+
+def rows(count):
+    for seed in range(-(-count // CONNECTIONS)):
+        yield f"requests {seed}", answers_requests, seed
+    for seed in range(count):
+        yield f"an info {seed}", judges_info, seed
+        yield f"streams {seed}", judges_streams, seed
+        yield f"a store {seed}", judges_stores, seed
+
+
+if __name__ == "__main__":
+    main(rows, count=80)

@@ -1,0 +1,255 @@
+"""
+Servers that give the files of a folder by ranges: the proved ones; Python's, as it keeps connections, closes them, or knows no ranges; nginx,
+where it is there; and one of which a test says each reply.
+"""
+import contextlib
+import dataclasses
+import http.server
+import os
+import re
+import shutil
+import socket
+import socketserver
+import struct
+import subprocess
+import threading
+import time
+
+from harness import LIMIT, Wrong
+from peers import connect
+
+RANGE = re.compile(r"bytes=([0-9]+)-([0-9]+)")
+
+
+@contextlib.contextmanager
+def running(server):
+    """A server that runs beside a row, by its port."""
+    threading.Thread(target=server.serve_forever, kwargs={"poll_interval": 0.01}, daemon=True).start()
+    try:
+        yield server.server_address[1]
+    finally:
+        server.shutdown()
+        server.server_close()
+
+
+def read_file(path):
+    """The bytes of a file, or None."""
+    try:
+        return path.read_bytes()
+    except (OSError, ValueError):
+        return None
+
+
+@contextlib.contextmanager
+def own(trial, words="serve d"):
+    """A proved server of the data set d, for as many connections as it takes at most, by its port."""
+    with trial.start(f"{words} --port=0 --connections=65536", stdout=subprocess.PIPE) as child:
+        try:
+            yield int(child.stdout.readline().removeprefix(b"listening "))
+        finally:
+            child.kill()
+
+
+# Python's
+
+
+class Plain(http.server.BaseHTTPRequestHandler):
+    """A peer of `server`, which has a folder, and knows ranges or doesn't."""
+
+    protocol_version = "HTTP/1.1"
+    disable_nagle_algorithm = True
+
+    def log_message(self, *_):
+        pass
+
+    def reply(self, status, body, *fields):
+        self.send_response(status)
+        for name, value in [("Content-Length", str(len(body))), *fields]:
+            self.send_header(name, value)
+        self.end_headers()
+        if self.command == "GET":
+            self.wfile.write(body)
+
+    def do_GET(self):  # pylint: disable=invalid-name
+        content = read_file(self.server.folder / self.path[1:])
+        found = RANGE.fullmatch(self.headers.get("Range", "")) if self.server.knows_ranges else None
+        if content is None:
+            self.reply(404, b"no such file\n")
+        elif found is None or self.command == "HEAD":
+            self.reply(200, content)
+        else:
+            first, last = int(found[1]), min(int(found[2]), len(content) - 1)
+            if first >= len(content):
+                self.reply(416, b"", ("Content-Range", f"bytes */{len(content)}"))
+            else:
+                self.reply(206, content[first : last + 1], ("Content-Range", f"bytes {first}-{last}/{len(content)}"))
+
+    def do_HEAD(self):  # pylint: disable=invalid-name
+        self.do_GET()
+
+
+class Closing(Plain):
+    protocol_version = "HTTP/1.0"
+
+
+def python(folder, handler=Plain, knows_ranges=True):
+    """Python's server of a folder."""
+    server = http.server.ThreadingHTTPServer(("127.0.0.1", 0), handler)
+    server.folder, server.knows_ranges = folder, knows_ranges
+    return running(server)
+
+
+# nginx
+
+NGINX = """
+daemon off; master_process off; pid {own}/pid; error_log {own}/errors;
+events {{ worker_connections 64; }}
+http {{
+    access_log off; default_type application/octet-stream;
+    client_body_temp_path {own}/body; proxy_temp_path {own}/proxy; fastcgi_temp_path {own}/fastcgi;
+    uwsgi_temp_path {own}/uwsgi; scgi_temp_path {own}/scgi;
+    server {{ listen 127.0.0.1:{port}; root {folder}; }}
+}}
+"""
+
+
+def find_nginx():
+    return shutil.which("nginx") or shutil.which("nginx", path="/usr/sbin:/usr/local/sbin")
+
+
+def free_port():
+    with socket.create_server(("127.0.0.1", 0)) as door:
+        return door.getsockname()[1]
+
+
+def wait_for(port, child):
+    """Waits until a server listens."""
+    begin = time.monotonic()
+    while child.poll() is None and time.monotonic() < begin + LIMIT:
+        with contextlib.suppress(ConnectionRefusedError):
+            connect(port).close()
+            return
+        time.sleep(0.02)
+    raise Wrong("nginx doesn't listen")
+
+
+@contextlib.contextmanager
+def nginx(folder, own):
+    """nginx of a folder, by its port, with a folder of its own."""
+    own.mkdir()
+    port = free_port()
+    (own / "conf").write_text(NGINX.format(own=own, port=port, folder=folder))
+    os.chmod(own, 0o777)
+    command = [find_nginx(), "-p", str(own), "-e", str(own / "errors"), "-c", str(own / "conf")]
+    with subprocess.Popen(command, stdin=subprocess.DEVNULL, stdout=subprocess.DEVNULL, stderr=subprocess.DEVNULL) as child:
+        try:
+            wait_for(port, child)
+            yield port
+        finally:
+            child.kill()
+
+
+# A server of which a test says each reply
+
+KEEP, CLOSE, RESET, HOLD = "keep", "close", "reset", "hold"
+
+
+@dataclasses.dataclass(frozen=True)
+class Request:
+    """A request: which connection it came over, its number among all, its bytes, its method and target, and its range."""
+
+    connection: int
+    number: int
+    head: bytes
+
+    @property
+    def method(self):
+        return self.head.split(b" ")[0].decode()
+
+    @property
+    def target(self):
+        return self.head.split(b" ")[1].decode()
+
+    @property
+    def range(self):
+        """The first byte that is asked for, and the last, or None."""
+        found = RANGE.search(self.head.decode())
+        return found and (int(found[1]), int(found[2]))
+
+
+class Told(socketserver.ThreadingTCPServer):
+    """
+    `answer` says of each request in which pieces the reply comes, and what then is: KEEP waits for the next one, CLOSE ends what is
+    sent, RESET breaks the connection off, and HOLD says nothing more. All requests are noted.
+    """
+
+    daemon_threads = True
+    allow_reuse_address = True
+    request_queue_size = 64
+
+    def __init__(self, answer):
+        super().__init__(("127.0.0.1", 0), Peer)
+        self.answer = answer
+        self.lock = threading.Lock()
+        self.connections = 0
+        self.requests = []
+
+    @property
+    def port(self):
+        return self.server_address[1]
+
+
+class Peer(socketserver.StreamRequestHandler):
+    """A connection of a server that is told what to say."""
+
+    disable_nagle_algorithm = True
+    timeout = LIMIT
+
+    def read_request(self, connection):
+        """The next request, or None."""
+        head = b""
+        while not head.endswith(b"\r\n\r\n"):
+            line = self.rfile.readline()
+            if not line:
+                return None
+            head += line
+        with self.server.lock:
+            request = Request(connection, len(self.server.requests), head)
+            self.server.requests.append(request)
+        return request
+
+    def serve(self, connection):
+        while (request := self.read_request(connection)) is not None:
+            pieces, then = self.server.answer(request)
+            for number, piece in enumerate(pieces):
+                if number > 0:
+                    time.sleep(0.001)
+                self.request.sendall(piece)
+            if then == CLOSE:
+                self.request.shutdown(socket.SHUT_WR)
+            if then == RESET:
+                self.request.setsockopt(socket.SOL_SOCKET, socket.SO_LINGER, struct.pack("ii", 1, 0))
+                self.rfile.close()
+                self.request.close()
+                return
+            if then != KEEP:
+                # until the peer lets it go
+                while self.request.recv(65536):
+                    pass
+                return
+
+    def handle(self):
+        with self.server.lock:
+            self.server.connections += 1
+            connection = self.server.connections
+        # a peer that goes takes no more
+        with contextlib.suppress(OSError):
+            self.serve(connection)
+
+
+@contextlib.contextmanager
+def telling(answer):
+    """A server that is told what to say."""
+    server = Told(answer)
+    with running(server):
+        yield server
