@@ -7,6 +7,7 @@
     volume.py get DATASET KEY BOX OUT.npy [--axes AXES]
     volume.py add DATASET KEY KEY2 [--chunk X,Y,Z] [--encoding raw|compressed_segmentation] [--block X,Y,Z]
               [--sharding PRESHIFT,HASH,MINISHARD_BITS,SHARD_BITS]
+    volume.py pyramid DATASET KEY [--levels N] [--method mode|mean] [--workers N]
     volume.py view DATASET [KEY] [--port P]
 
 `put` writes a whole array into the scale KEY, whose folder has to be empty. It makes DATASET/info where there is none, and
@@ -14,15 +15,19 @@ adds the scale to one that has no such scale, for which it wants --resolution; t
 options say. An array of more than 1 GiB goes slab by slab along the borders of chunks; with --resume a `put` of the same array that
 was broken off goes on. With --at X,Y,Z the array is put over what the scale holds, its first voxel at X,Y,Z. `get` reads a
 box, as [x0:x1,y0:y1,z0:z1] or `all`. `add` adds to DATASET/info a scale KEY2 of the same voxels as KEY in another layout, and stores
-nothing: `vol_tool reshard DATASET KEY DATASET KEY2` fills it. `view` shows slices through the scales on a page of this machine alone,
-whose address it prints, until it is ended by Ctrl-C.
+nothing: `vol_tool reshard DATASET KEY DATASET KEY2` fills it. `pyramid` adds the coarser scales of KEY to DATASET/info and makes them by
+`vol_tool downsample`, each of half the size of the one before, with its layout: N of them, or as many as it takes until one has one chunk.
+A scale that is there already stays. Labels are taken by `mode` (the value that occurs most often), where the volume is a segmentation or
+the chunks are, and images by `mean`. `view` shows slices through the scales on a page of this machine alone, whose address it prints,
+until it is ended by Ctrl-C.
 
-As a module (its folder is named in PYTHONPATH) it has `read` and `write`, for arrays of numpy, where that is installed, or for files as
-numpy.save writes them:
+As a module (its folder is named in PYTHONPATH) it has `read`, `write` and `pyramid`; the first two are for arrays of numpy, where that is
+installed, or for files as numpy.save writes them:
 
     import volume
     volume.write("cells", "8_8_40", labels, resolution=(8, 8, 40), encoding="compressed_segmentation")
     box = volume.read("cells", "8_8_40", "[40:70,50:80,18:22]")
+    volume.pyramid("cells", "8_8_40")
 
 Arrays are of uint8, uint16, uint32 or uint64 and have the axes z, y, x, or channel, z, y, x (AXES is czyx); with `--axes xyzc`
 they have x, y, z, or x, y, z, channel, as CloudVolume's, and with `--axes zyxc` z, y, x, channel. `put` refuses an array that looks so
@@ -65,6 +70,7 @@ CODES = {1: "B", 2: "H", 4: "I", 8: "Q"}
 AXES = {"czyx": "czyx", "zyx": "czyx", "xyzc": "xyzc", "xyz": "xyzc", "zyxc": "zyxc"}
 ENCODINGS = ("raw", "compressed_segmentation")
 HASHES = {"identity": "identity", "murmur": "murmurhash3_x86_128"}
+METHODS = ("mode", "mean")
 
 # How many bytes are handed on at once.
 PIECE = 1 << 20
@@ -93,11 +99,15 @@ MOST_CHUNK = 1 << 40
 MOST_BLOCK = 1 << 24
 MOST_OFFSET = 1 << 40
 MOST_WORKERS = 16
+MOST_LEVELS = 40
 MOST_CONNECTIONS = 1 << 16
 
 # How many peers `view` has at once, and how long a silent one is waited for, in seconds.
 MOST_PEERS = 16
 PATIENCE = 10
+
+# How long it takes until a line of progress is told anew, in seconds.
+PAUSE = 0.5
 
 
 class Refused(Exception):
@@ -353,11 +363,16 @@ def width_of(path, volume):
     raise Refused(f"{path} has values of the type {volume['data_type']}, and only uint8, uint16, uint32 and uint64 are stored")
 
 
-def write_info(path, volume):
+def put_whole(path, content):
+    """Puts a file in one step: whoever reads it gets the old bytes or the new ones."""
     path.parent.mkdir(parents=True, exist_ok=True)
-    part = path.with_name("info.part")
-    part.write_text(json.dumps(volume, indent=1) + "\n")
+    part = path.with_name(f"{path.name}.part")
+    part.write_bytes(content)
     part.replace(path)
+
+
+def write_info(path, volume):
+    put_whole(path, (json.dumps(volume, indent=1) + "\n").encode())
 
 
 def find_scale(path, volume, key):
@@ -407,7 +422,7 @@ def put_back(path, before):
     if before is None:
         path.unlink()
     else:
-        path.write_bytes(before)
+        put_whole(path, before)
 
 
 def cut_span(begin, end, origin, step):
@@ -709,6 +724,176 @@ def add(words):
     return 0
 
 
+def three_of(scale, member):
+    """Three whole numbers of a scale; the first chunk size, where there are several."""
+    found = scale.get(member, [0, 0, 0]) if member == "voxel_offset" else scale[member]
+    found = found[0] if member == "chunk_sizes" and isinstance(found, list) and found else found
+    if not isinstance(found, list) or len(found) != 3 or not all(isinstance(number, int) for number in found):
+        raise Refused(f"the {member} of the scale {scale['key']} isn't three whole numbers")
+    return found
+
+
+def half_of(last, first, count):
+    """The scale that is half of the last one, as the one after so many from the first on; the first one's key may be its resolution."""
+    resolution = lengths_of(2 * length for length in last["resolution"])
+    is_named_so = first["key"] == "_".join(map(str, lengths_of(first["resolution"])))
+    return {
+        **last,
+        "key": "_".join(map(str, resolution)) if is_named_so else f"{first['key']}_{2 ** (count + 1)}",
+        "size": [(side + 1) // 2 for side in three_of(last, "size")],
+        "voxel_offset": [at // 2 for at in three_of(last, "voxel_offset")],
+        "chunk_sizes": [three_of(last, "chunk_sizes")],
+        "resolution": resolution,
+    }
+
+
+def known_as(volume, scale):
+    """A scale that is half of another, or that of its key in the info."""
+    for other in volume["scales"]:
+        if other["key"] == scale["key"]:
+            if any(three_of(other, member) != scale[member] for member in ("size", "voxel_offset")):
+                raise Refused(f"there is a scale {scale['key']} already, and not with {scale['size']} voxels from {scale['voxel_offset']} on")
+            return other
+    return scale
+
+
+def halves_of(volume, scale, count):
+    """So many coarser scales, each half of the one before, or as many as it takes until one has one chunk; at most until one is a voxel."""
+    found, last = [], scale
+    while max(size := three_of(last, "size")) > 1 and len(found) != count:
+        if count is None and all(side <= chunk for side, chunk in zip(size, three_of(last, "chunk_sizes"))):
+            break
+        begin = three_of(last, "voxel_offset")
+        if any(at % 2 for at in begin):
+            most = f": at most --levels {len(found)} can be made" if found else ""
+            raise Refused(f"the scale {last['key']} has the voxel_offset {begin}, and only even ones are halved{most}")
+        last = known_as(volume, half_of(last, scale, len(found)))
+        found.append(last)
+    return found
+
+
+def files_in(folder):
+    """The names of the files that are objects, in a scale's folder or deeper."""
+    return (name for _, _, names in os.walk(folder) for name in names if not name.endswith(".part"))
+
+
+class Level:
+    """
+    A coarser scale, which is made of the one before. A file in its folder that is no object says meanwhile that it isn't whole.
+    `is_there` is whether the scale is in the info, and `is_made` whether its folder has objects too.
+    """
+
+    def __init__(self, dataset, volume, before, scale):
+        self.dataset, self.before, self.scale, self.key = dataset, before, scale, scale["key"]
+        check_name(self.key)
+        self.info = pathlib.Path(dataset, "info")
+        self.folder = pathlib.Path(dataset, self.key)
+        self.note = self.folder / "pyramid.part"
+        if self.note.exists():
+            raise Refused(f"a pyramid was broken off, and {self.folder} isn't whole: remove this folder first")
+        self.is_there, self.is_made = scale in volume["scales"], any(files_in(self.folder))
+        if self.is_made and not self.is_there:
+            raise Refused(f"{self.folder} has files, and {self.info} has no such scale: remove this folder first")
+
+    def add(self):
+        """Adds the scale to the info, behind those whose voxels aren't larger."""
+        volume = read_info(self.info)
+        lengths_before = [math.prod(other["resolution"]) for other in volume["scales"]]
+        places = [place for place, length in enumerate(lengths_before) if length <= math.prod(self.scale["resolution"])]
+        volume["scales"].insert(max(places, default=-1) + 1, self.scale)
+        write_info(self.info, volume)
+
+    def make(self, method, workers, wait, errors=None):
+        """Makes the scale; gives the program's status, and its line. Where that isn't 0, or it is broken off, the info is put back."""
+        before = self.info.read_bytes()
+        self.folder.mkdir(parents=True, exist_ok=True)
+        self.note.touch()
+        is_whole = False
+        try:
+            if not self.is_there:
+                self.add()
+            words = ["downsample", self.dataset, self.before, self.key, f"--method={method}", f"--workers={workers}"]
+            tool = run_tool(words, stdin=subprocess.DEVNULL, stdout=subprocess.PIPE, stderr=errors)
+            with tool.stdout as stream:
+                wait(tool, self)
+                line = stream.read().decode().strip()
+            is_whole = tool.wait() == 0
+            return tool.returncode, line
+        finally:
+            if not is_whole and not self.is_there:
+                put_back(self.info, before)
+            if is_whole or not any(files_in(self.folder)):
+                self.note.unlink(missing_ok=True)
+                with contextlib.suppress(OSError):
+                    self.folder.rmdir()
+
+    def most_files(self):
+        cells = math.prod(-(-side // chunk) for side, chunk in zip(self.scale["size"], three_of(self.scale, "chunk_sizes")))
+        return min(cells, 1 << self.scale["sharding"]["shard_bits"]) if self.scale.get("sharding") else cells
+
+
+def tell(level, is_over=False):
+    """Says on a terminal how many files of a level there are, or takes that away; where the program is refused its line follows."""
+    if sys.stderr.isatty():
+        text = f"{level.key}, {sum(1 for _ in files_in(level.folder))} of at most {level.most_files()} files: "
+        print(f"\r{' ' * len(text)}\r" if is_over else f"\r{text}", end="", file=sys.stderr, flush=True)
+
+
+def wait_and_tell(tool, level):
+    """Waits for the program, and tells meanwhile how far it is."""
+    while tool.poll() is None:
+        try:
+            tool.wait(PAUSE)
+        except subprocess.TimeoutExpired:
+            tell(level)
+    if tool.returncode == 0:
+        tell(level, is_over=True)
+
+
+def open_pyramid(words):
+    """The method of a pyramid, and the levels that are left to make."""
+    check_name(words.dataset)
+    path = pathlib.Path(words.dataset) / "info"
+    volume = read_info(path)
+    scale = find_scale(path, volume, words.key)
+    scales = halves_of(volume, scale, words.levels)
+    levels = [Level(words.dataset, volume, before["key"], one) for before, one in zip([scale, *scales], scales)]
+    is_labels = volume.get("type") == "segmentation" or scale["encoding"] == "compressed_segmentation"
+    return words.method or ("mode" if is_labels else "mean"), [level for level in levels if not level.is_made]
+
+
+def make_pyramid(words):
+    method, levels = open_pyramid(words)
+    for level in levels:
+        tell(level)
+        status, line = level.make(method, words.workers, wait_and_tell)
+        if status != 0:
+            return status
+        print(f"{level.key} {'x'.join(map(str, level.scale['size']))} {method}: {line}", flush=True)
+    if not levels:
+        print(f"{words.key}: no scale is left to make")
+    return 0
+
+
+def pyramid(dataset, key, *, levels=None, method=None, workers=None):
+    """
+    Makes the coarser scales of one, as the command `pyramid` does, and gives the keys of those that it made. Refused and Ended are raised
+    as by `write`.
+    """
+    words = argparse.Namespace(
+        dataset=dataset,
+        key=key,
+        levels=None if levels is None else operator.index(levels),
+        method=None if method is None else check_choice("method", method, METHODS),
+    )
+    chosen, left = open_pyramid(words)
+    for level in left:
+        with tempfile.TemporaryFile() as errors:
+            status, _ = level.make(chosen, count_workers() if workers is None else workers, lambda tool, _: tool.wait(), errors)
+            check_end(status, errors)
+    return [level.key for level in left]
+
+
 class Served:
     """The program's server over a data set. It serves one connection after the other, so one is kept for all requests, which take
     turns; where it or the server has ended, it is begun anew, until it is over."""
@@ -900,7 +1085,7 @@ def add_layout(parser):
 
 def read_words():
     whole = argparse.ArgumentParser(description=__doc__, formatter_class=argparse.RawDescriptionHelpFormatter)
-    commands = whole.add_subparsers(required=True, metavar="put|get|add|view")
+    commands = whole.add_subparsers(required=True, metavar="put|get|add|pyramid|view")
     one = commands.add_parser("put", help="writes an array into a scale")
     one.add_argument("array")
     one.add_argument("dataset")
@@ -927,6 +1112,13 @@ def read_words():
     three.add_argument("to_key", metavar="key2")
     add_layout(three)
     three.set_defaults(job=add, axes="czyx")
+    five = commands.add_parser("pyramid", help="adds the coarser scales of one, and makes them")
+    five.add_argument("dataset")
+    five.add_argument("key")
+    five.add_argument("--levels", type=int, choices=range(1, MOST_LEVELS + 1), metavar="N", help="how many (until one has one chunk)")
+    five.add_argument("--method", choices=METHODS, help="what a voxel gets of the eight below (mode for labels, else mean)")
+    five.add_argument("--workers", type=int, choices=range(1, MOST_WORKERS + 1), default=count_workers(), metavar="N")
+    five.set_defaults(job=make_pyramid, axes=None)
     four = commands.add_parser("view", help="shows slices through the scales on a page of this machine")
     four.add_argument("dataset")
     four.add_argument("key", nargs="?")
