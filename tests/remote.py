@@ -340,8 +340,8 @@ def want_fault(trial, volume, ending, heads, kind, at):
         what = f"to request {at}"
         want_front(found, ending, what)
         want_true(spent < SILENCE - 2, f"{what}: it took {spent:.1f} s")
-        # an end that gave nothing is dialled anew once
-        again = heads[at : at + 1] if kind == "nothing" and at > 0 else []
+        # a kept end that ended or was reset before a byte of the reply is dialled anew once
+        again = heads[at : at + 1] if kind in ("nothing", "a reset") and at > 0 else []
         want(heads_of(server), heads[: at + 1] + again, f"{what}: what is asked")
 
 
