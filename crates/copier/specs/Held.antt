@@ -16,12 +16,15 @@ use Rattle.vol_spec.specs.Types.{Bytes, Cell, Name}
 use Rattle.vol_spec.specs.declared.scale.Scale.{Scale}
 use Rattle.chunk_laws.specs.Told.{is_listed}
 use Rattle.copy_laws.specs.Agreement.{AreApart}
+use Rattle.cutout.specs.Keeping.{KeepsShards}
+use Rattle.shard_reader.specs.declared.reader.ShardReader.{ShardReader}
 use Rattle.write_plan.specs.Jobs.{Work, cells_in, jobs_of, window_of}
 use Rattle.write_plan.specs.declared.jobs.Job.{Job}
 use Rattle.write_plan.specs.declared.chunks.PrepareFault.{PrepareFault}
 use Rattle.write_plan.specs.declared.chunks.PrepareFault.TheVariants.{StoreFault, Damaged}
 
--- where it reads and what it makes, which cells of the target, the first job that is prepared, how many are, and frames with their bytes
+-- where it reads and what it makes, which cells of the target, the first job that is prepared, how many are, frames with their bytes,
+-- and the reader of shards that keeps an index from call to call, where one does
 pub record Held : Type 0 where
   pub dataset : Name
   pub from : Scale
@@ -30,6 +33,7 @@ pub record Held : Type 0 where
   pub first : ℕ
   pub count : ℕ
   pub frames : List Bytes
+  pub shards : Option ShardReader
 
 -- what is held by its parts, with jobs in place of their cells and frames in place of their bytes
 abbrev pub holding : Name → Scale → Scale → List Job → ℕ → ℕ → List (Vec ℕ Global) → Held
@@ -41,7 +45,20 @@ holding dataset from to jobs first count frames = record {
   first = first;
   count = count;
   frames = map (λ f. f.items) frames;
+  shards = None;
 }
+
+-- and with a reader of shards
+abbrev pub keeping : Held → ShardReader → Held
+keeping h shards = record h { shards = Some shards }
+
+-- what is kept from call to call is what the objects say
+abbrev pub KeepsBy : Option ShardReader → Option Objects → Name → Scale → Type 0
+KeepsBy None objects dataset from = Unit {0}
+KeepsBy (Some shards) objects dataset from = KeepsShards objects dataset from shards
+
+abbrev pub Keeps : Held → Option Objects → Type 0
+Keeps h objects = KeepsBy h.shards objects h.dataset h.from
 
 -- the cells of the jobs: those of the target's grid that are held, in the order of their keys
 abbrev pub cells_of : Held → List Cell

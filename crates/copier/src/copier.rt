@@ -9,7 +9,7 @@ ghost use Rattle.vol_spec.specs.declared.scale.Scale.{Scale};
 ghost use Rattle.write_plan.specs.Jobs.{AreReady, Prepares, jobs_fault, window_of};
 ghost use Rattle.write_plan.specs.Pairs.{cell_count};
 ghost use Rattle.copier.specs.Held.{Holds, cells_of};
-ghost use Rattle.copier.specs.Sources.{window_cost};
+ghost use Rattle.copier.specs.Sources.{HasPrepared, window_cost};
 
 use crate::found::find_copied;
 use crate::reading::read_jobs;
@@ -48,12 +48,12 @@ pub struct Copier {
 }
 
 impl Model for Copier {
-    ghost use Rattle.copier.specs.Held.{Held, IsHeld, holding};
+    ghost use Rattle.copier.specs.Held.{Held, IsHeld, holding, keeping};
 
     ghost Value = { Held };
 
-    ghost view = { λ c. holding c.reader.opened.dataset c.reader.opened.scale c.to c.jobs c.first c.count
-        c.frames.items };
+    ghost view = { λ c. keeping (holding c.reader.opened.dataset c.reader.opened.scale c.to c.jobs c.first
+        c.count c.frames.items) c.reader.shards };
 
     ghost invariant = { λ c. IsHeld
         (holding c.reader.opened.dataset c.reader.opened.scale c.to c.jobs c.first c.count c.frames.items)
@@ -153,7 +153,7 @@ impl Copier {
 }
 
 impl Chunks for Copier {
-    ghost use Rattle.copier.specs.Held.{IsApart, ready_of, work_of};
+    ghost use Rattle.copier.specs.Held.{IsApart, Keeps, ready_of, work_of};
     ghost use Rattle.copier.specs.HeldLaws.{held_jobs, held_keeps, raw_fits, ready_fits};
 
     ghost work = { work_of };
@@ -163,6 +163,8 @@ impl Chunks for Copier {
     ghost sure = { λ c. ⊥ };
 
     ghost ready = { ready_of };
+
+    ghost keeps = { Keeps };
 
     ghost ordered = { held_jobs };
 
@@ -176,17 +178,24 @@ impl Chunks for Copier {
         &self.jobs
     }
 
+    /// Forgets the index that is kept.
+    fn forget(&mut self) {
+        self.reader.forget();
+    }
+
     /// Cuts the boxes of the jobs out of the source. It takes no memory.
     fn prepare<S: Store>(&mut self, store: &mut S, from: u64, to: u64) -> Result<(), PrepareFault>
         requires order { from ≤ to }
         requires within { to ≤ length (work_of self.old).cells }
         requires window { to - from ≤ window_of (work_of self.old).scale }
+        requires keeps { Keeps self.old (S.objects store.old) }
         ensures prepared { OnOk result ((job : ℕ) → from ≤ job → job < to →
             IsSome (ready_of self.new job)) }
         ensures ready { OnOk result (IfSome (S.objects store.old) (λ m.
             AreReady (ready_of self.new) ((work_of self.old).raw m) from to)) }
         ensures answer { IfSome (S.objects store.old) (λ m.
             Prepares result (jobs_fault (work_of self.old) m from (to - from))) }
+        ensures keeps { Keeps self.new (S.objects store.new) }
         ensures sure { ⊥ → IsOk result × ⊥ }
         ensures work { work_of self.new ≡ work_of self.old }
         ensures apart { (dataset : List ℕ) (s : Scale) → IsApart self.old dataset s →
@@ -198,6 +207,12 @@ impl Chunks for Copier {
         // In this call it asks for the rows of an index once, as long as each cell stands behind the one before it.
         ensures asked { IfSome (S.objects store.old) (λ m.
             S.asked store.new ≤ S.asked store.old + window_cost self.old m from (to - from)) }
+
+        // Call after call, while the objects stay the same, all of them together ask for no more than one would.
+        ensures more { IfSome (S.objects store.old) (λ m. (first count begin : ℕ) → first + count ≡ from →
+            HasPrepared self.old m first count begin (S.asked store.old) →
+            (S.asked store.new ≤ begin + window_cost self.old m first (count + (to - from))) ×
+            OnOk result (HasPrepared self.new m first (count + (to - from)) begin (S.asked store.new))) }
     {
         self.count = 0;
         let count = to - from;

@@ -7,7 +7,7 @@ ghost use Rattle.vol_spec.specs.Encodings.{raw_size};
 ghost use Rattle.vol_spec.specs.Grid.{IsCell};
 ghost use Rattle.write_plan.specs.Jobs.{cells_in};
 ghost use Rattle.cutout.specs.Kept.{KeepsIndex};
-ghost use Rattle.cutout.specs.Runs.{run_cost, RunsOn};
+ghost use Rattle.cutout.specs.Runs.{RunsOn};
 ghost use Rattle.copier.specs.Held.{AreFilled, Holds, IsFilled, ReadsJob, ReadsJobs};
 ghost use Rattle.copier.specs.Sources.{cells_under, sources};
 
@@ -127,8 +127,8 @@ fn read_frame<S: Source>(
     read_into(reader, store, to, cell, frame)
 }
 
-/// Reads so many jobs, one after the other from a number on, into frames, and fills up those that it uses. What
-/// the reader kept before is forgotten; an index that it reads here is kept from job to job.
+/// Reads so many jobs, one after the other from a number on, into frames, and fills up those that it uses. An
+/// index is kept from job to job, and behind the last one.
 pub(crate) fn read_jobs<S: Source>(
     reader: &mut KeepingReader,
     store: &mut S,
@@ -139,6 +139,7 @@ pub(crate) fn read_jobs<S: Source>(
     count: usize,
 ) -> Result<(), PrepareFault>
     requires volume { AreOfOneVolume reader.old.opened.scale to.now }
+    requires keeps { KeepsIndex (S.objects store.old) reader.old }
     requires cells { All (IsCell to.now) (cells_in jobs.now) }
     requires each { All (Holds to.now) frames.old }
     requires within { first + count ≤ length jobs.now }
@@ -151,14 +152,14 @@ pub(crate) fn read_jobs<S: Source>(
     ensures each { All (Holds to.now) frames.new }
     ensures frames { length frames.new ≡ length frames.old }
     ensures same { reader.new.opened ≡ reader.old.opened }
-    ensures asked { IfSome (S.objects store.old) (λ m. S.asked store.new ≤ S.asked store.old + run_cost m
-        reader.old.opened.dataset reader.old.opened.scale
-        (sources reader.old.opened.scale to.now (cells_in jobs.now) first count)) }
+    ensures keeps { KeepsIndex (S.objects store.old) reader.new }
+    ensures run { IfSome (S.objects store.old) (λ m. RunsOn (is_ok result) m reader.old.opened.dataset
+        reader.old.opened.scale (sources reader.old.opened.scale to.now (cells_in jobs.now) first count)
+        (S.asked store.old) (S.asked store.new) reader.old.shards reader.new.shards) }
     ensures kept { OnlyReads (S.objects store.old) (S.objects store.new) (S.draft store.old)
         (S.draft store.new) }
     ensures cause { HasCauseOf PrepareFault.StoreFault (S.faults store.old) (S.faults store.new) result }
 {
-    reader.forget();
     for k in 0..count {
         let cell = jobs.get(first + k as u64).cell;
         match read_frame(reader, store, to, cell, &mut frames[k]) {

@@ -89,6 +89,7 @@ fn reads_an_index_once_a_window(rt: HostRuntime) -> Result<(), Fail> {
     let mut copier = Copier::of(alloc, &mut store, &dataset, &scale, &scale)?;
     assert_eq!(rt; copier.jobs().len(), 300);
     assert_eq!(rt; window(&scale), 256);
+    copier.forget();
     let before = store.asked();
     assert_eq!(rt; copier.prepare(&mut store, 0, 256), Ok(()));
     let asked = store.asked().checked_sub(before);

@@ -54,6 +54,7 @@ fn run_three<R: Threads + Wait + Sync, C: Chunks + Sync>(
     requires size { 3 ≤ size_in bench.old }
     requires writable { IsWritable scale.now }
 {
+    chunks.forget();
     let Ok(()) = chunks.prepare(store, 0, 3) else {
         return Err("preparing doesn't fail".into());
     };

@@ -74,7 +74,7 @@ module _ (u : updater.Updates) where
 
   -- no job reads another's object
   keeps : u.held.from ≡ u.held.to → KeepsOthers u.held.dataset u.held.to (work_of u)
-  keeps same = subst (λ s. KeepsOthers u.held.dataset u.held.to (work_of (record { held = record { dataset = u.held.dataset; from = s; to = u.held.to; cells = u.held.cells; first = u.held.first; count = u.held.count; frames = u.held.frames }; writes = u.writes }))) (sym same)
+  keeps same = subst (λ s. KeepsOthers u.held.dataset u.held.to (work_of (record { held = record { dataset = u.held.dataset; from = s; to = u.held.to; cells = u.held.cells; first = u.held.first; count = u.held.count; frames = u.held.frames; shards = u.held.shards }; writes = u.writes }))) (sym same)
       (record {
         raws = λ m bytes i j before behind other.
             ap (overlaid u.held.to u.writes (cell_of (cells_of u.held) j)) (raw_own m u.held.dataset u.held.to (cell_of (cells_of u.held) i) bytes (cell_of (cells_of u.held) j) (cell_in j behind) other);

@@ -29,6 +29,10 @@ chosen : (b : Bool) (o : Option (List ℕ)) → b ≡ true → (if b then o else
 chosen true o e = refl
 chosen false o e = absurd (cc e)
 
+-- the bytes of the jobs that are prepared, by the jobs and the bytes that are read
+abbrev pub ready_from : Work → (ℕ → Option (List ℕ)) → Writes → ℕ → Option (List ℕ)
+ready_from work ready writes job = if nat_lt job (length work.cells) then option_map (overlaid work.scale writes (cell_of work.cells job)) (ready job) else None
+
 -- the bytes of a job are ready where those that are read are
 pub ready_over : (h : Held) (writes : Writes) (job : ℕ) → job < length (cells_of h) → ready_of (record { held = h; writes = writes }) job ≡ option_map (overlaid h.to writes (cell_of (cells_of h) job)) (held.ready_of h job)
 ready_over h writes job low =

@@ -6,7 +6,7 @@ ghost use Rattle.vol_spec.specs.StoredLists.{in_key_order};
 ghost use Rattle.vol_spec.specs.declared.scale.Scale.{Scale};
 ghost use Rattle.write_plan.specs.Jobs.{AreReady, Prepares, jobs_fault, window_of};
 ghost use Rattle.copier.specs.Held.{cells_of};
-ghost use Rattle.copier.specs.Sources.{window_cost};
+ghost use Rattle.copier.specs.Sources.{HasPrepared, window_cost};
 
 use copier::Copier;
 use std::alloc::Global;
@@ -64,7 +64,7 @@ impl Updater {
 }
 
 impl Chunks for Updater {
-    ghost use Rattle.updater.specs.Updates.{IsApart, ready_of, work_of};
+    ghost use Rattle.updater.specs.Updates.{IsApart, keeps_of, ready_of, work_of};
     ghost use Rattle.updater.specs.UpdateLaws.{ready_fits, updates_jobs, updates_keep, raw_fits};
 
     ghost work = { work_of };
@@ -74,6 +74,8 @@ impl Chunks for Updater {
     ghost sure = { λ u. ⊥ };
 
     ghost ready = { ready_of };
+
+    ghost keeps = { keeps_of };
 
     ghost ordered = { updates_jobs };
 
@@ -87,17 +89,24 @@ impl Chunks for Updater {
         self.copier.jobs()
     }
 
+    /// Forgets the index that is kept.
+    fn forget(&mut self) {
+        self.copier.forget();
+    }
+
     /// Reads what the scale holds in the boxes of the jobs. It takes no memory.
     fn prepare<S: Store>(&mut self, store: &mut S, from: u64, to: u64) -> Result<(), PrepareFault>
         requires order { from ≤ to }
         requires within { to ≤ length (work_of self.old).cells }
         requires window { to - from ≤ window_of (work_of self.old).scale }
+        requires keeps { keeps_of self.old (S.objects store.old) }
         ensures prepared { OnOk result ((job : ℕ) → from ≤ job → job < to →
             IsSome (ready_of self.new job)) }
         ensures ready { OnOk result (IfSome (S.objects store.old) (λ m.
             AreReady (ready_of self.new) ((work_of self.old).raw m) from to)) }
         ensures answer { IfSome (S.objects store.old) (λ m.
             Prepares result (jobs_fault (work_of self.old) m from (to - from))) }
+        ensures keeps { keeps_of self.new (S.objects store.new) }
         ensures sure { ⊥ → IsOk result × ⊥ }
         ensures work { work_of self.new ≡ work_of self.old }
         ensures apart { (dataset : List ℕ) (s : Scale) → IsApart self.old dataset s →
@@ -109,6 +118,12 @@ impl Chunks for Updater {
         // In this call it asks for the rows of an index once, as long as each cell stands behind the one before it.
         ensures asked { IfSome (S.objects store.old) (λ m.
             S.asked store.new ≤ S.asked store.old + window_cost self.old.held m from (to - from)) }
+
+        // Call after call, while the objects stay the same, all of them together ask for no more than one would.
+        ensures more { IfSome (S.objects store.old) (λ m. (first count begin : ℕ) → first + count ≡ from →
+            HasPrepared self.old.held m first count begin (S.asked store.old) →
+            (S.asked store.new ≤ begin + window_cost self.old.held m first (count + (to - from))) ×
+            OnOk result (HasPrepared self.new.held m first (count + (to - from)) begin (S.asked store.new))) }
     {
         self.copier.prepare(store, from, to)
     }

@@ -32,11 +32,23 @@ pub trait Chunks {
     /// The raw bytes of the jobs that are prepared.
     ghost ready: { Self → ℕ → Option (List ℕ) };
 
+    /// What is kept of the objects from call to call is what they say.
+    ghost keeps: { Self → Option Objects → Type 0 };
+
     /// The jobs.
     fn jobs(&self) -> &JobList
         ensures { result.now ≡ jobs_of (work self.now).scale (work self.now).cells };
 
-    /// Prepares the jobs from one number up to, not with, another, at most a window of them.
+    /// Forgets what is kept, as has to be done where the objects may have changed.
+    fn forget(&mut self)
+        ensures nothing { (objects : Option Objects) → keeps self.new objects }
+        ensures ready { ready self.new ≡ ready self.old }
+        ensures sure { sure self.old → sure self.new }
+        ensures work { work self.new ≡ work self.old }
+        ensures apart { (dataset : List ℕ) (s : Scale) → apart self.old dataset s → apart self.new dataset s };
+
+    /// Prepares the jobs from one number up to, not with, another, at most a window of them. What is kept must be
+    /// what the objects say, as it is after `forget`, and behind another call where the objects stayed the same.
     ///
     /// # Errors
     /// `StoreFault` only where the store failed; else `Damaged` exactly where one of these jobs has a
@@ -45,11 +57,13 @@ pub trait Chunks {
         requires order { from ≤ to }
         requires within { to ≤ length (work self.old).cells }
         requires window { to - from ≤ window_of (work self.old).scale }
+        requires keeps { keeps self.old (S.objects store.old) }
         ensures prepared { OnOk result ((job : ℕ) → from ≤ job → job < to → IsSome (ready self.new job)) }
         ensures ready { OnOk result (IfSome (S.objects store.old) (λ m.
             AreReady (ready self.new) ((work self.old).raw m) from to)) }
         ensures answer { IfSome (S.objects store.old) (λ m.
             Prepares result (jobs_fault (work self.old) m from (to - from))) }
+        ensures keeps { keeps self.new (S.objects store.new) }
         ensures sure { sure self.old → IsOk result × sure self.new }
         ensures work { work self.new ≡ work self.old }
         ensures apart { (dataset : List ℕ) (s : Scale) → apart self.old dataset s → apart self.new dataset s }

@@ -139,6 +139,8 @@ impl Chunks for Plan {
 
     ghost ready = { ready_of };
 
+    ghost keeps = { λ plan objects. Unit {0} };
+
     ghost ordered = { λ plan. met_jobs plan.scale plan.writes };
 
     ghost fits = { ready_fits };
@@ -150,6 +152,9 @@ impl Chunks for Plan {
     fn jobs(&self) -> &JobList {
         &self.jobs
     }
+
+    /// Does nothing: nothing is kept.
+    fn forget(&mut self) {}
 
     /// Does nothing: each job is prepared from the start.
     fn prepare<S: Store>(

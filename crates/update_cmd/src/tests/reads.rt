@@ -10,28 +10,37 @@ use std::test::Fail;
 use std::thread::Threads;
 use vol_base::MemoryFeed;
 
-// Forty voxels, each a cell, in one minishard.
-const FORTY: &str =
-    "{\"type\":\"image\",\"data_type\":\"uint8\",\"num_channels\":1,\"scales\":[{\"key\":\"s\",\"size\":[40,1,1],\"chunk_sizes\":[[1,1,1]],\"resolution\":[8,8,40],\"encoding\":\"raw\",\"sharding\":{\"@type\":\"neuroglancer_uint64_sharded_v1\",\"preshift_bits\":0,\"hash\":\"identity\",\"minishard_bits\":0,\"shard_bits\":0}}]}";
+// 4,000 voxels, each a cell, in one minishard.
+const ROW: &str =
+    "{\"type\":\"image\",\"data_type\":\"uint8\",\"num_channels\":1,\"scales\":[{\"key\":\"s\",\"size\":[4000,1,1],\"chunk_sizes\":[[1,1,1]],\"resolution\":[8,8,40],\"encoding\":\"raw\",\"sharding\":{\"@type\":\"neuroglancer_uint64_sharded_v1\",\"preshift_bits\":0,\"hash\":\"identity\",\"minishard_bits\":0,\"shard_bits\":0}}]}";
 
 // The last of them is written.
 const LAST: Row = Row {
-    info: FORTY,
-    writes: &[([39, 0, 0], [1, 1, 1], &[9])],
+    info: ROW,
+    writes: &[([3999, 0, 0], [1, 1, 1], &[9])],
     ..THREE
 };
 
-// An entry of 16 bytes, forty chunks of a byte, and the 960 bytes of their index: the steps of the ids, those of the starts, and
-// the sizes.
-fn forty_chunks(alloc: Global) -> Result<Vec<u8>, AllocError> {
-    let mut object = Vec::from_slice(alloc, &[40, 0, 0, 0, 0, 0, 0, 0])?;
-    object.extend_from_slice(&1000u64.to_le_bytes())?;
-    object.extend_from_slice(&[7; 40])?;
-    for (first, others) in [(0u64, 1u64), (0, 0), (1, 1)] {
-        for row in 0..40 {
-            let number = if row == 0 { first } else { others };
-            object.extend_from_slice(&number.to_le_bytes())?;
-        }
+// Puts a number in so many times.
+fn put_numbers(object: &mut Vec<u8>, number: u64, times: u32) -> Result<(), AllocError> {
+    for _ in 0..times {
+        object.extend_from_slice(&number.to_le_bytes())?;
+    }
+    Ok(())
+}
+
+// An entry of 16 bytes, 4,000 chunks of a byte, and the 96,000 bytes of their index: the steps of the ids, those of the starts,
+// and the sizes.
+fn chunks_of_a_row(alloc: Global) -> Result<Vec<u8>, AllocError> {
+    let mut object = Vec::new(alloc);
+    put_numbers(&mut object, 4000, 1)?;
+    put_numbers(&mut object, 100_000, 1)?;
+    for _ in 0..4000 {
+        object.push(7)?;
+    }
+    for (first, others) in [(0, 1), (0, 0), (1, 1)] {
+        put_numbers(&mut object, first, 1)?;
+        put_numbers(&mut object, others, 3999)?;
     }
     Ok(object)
 }
@@ -46,8 +55,8 @@ fn count_asked<R: Threads + Wait + Abort + Sync>(
     workers: u32,
 ) -> Result<u64, Fail> {
     let mut store = store_of(alloc, &[], &[])?;
-    put(alloc, &mut store, "d/info", FORTY.as_bytes())?;
-    put(alloc, &mut store, "d/s/0.shard", &forty_chunks(alloc)?)?;
+    put(alloc, &mut store, "d/info", ROW.as_bytes())?;
+    put(alloc, &mut store, "d/s/0.shard", &chunks_of_a_row(alloc)?)?;
     let mut feed = MemoryFeed::new(stream_of(alloc, &LAST)?, 255, Vec::new(alloc));
     let mut out = outlet_of(alloc, 255, &[])?;
     let mut err = outlet_of(alloc, 255, &[])?;
@@ -59,13 +68,13 @@ fn count_asked<R: Threads + Wait + Abort + Sync>(
 }
 
 // The document; the entry and the index where it is found what is kept; and the entry, the index and the chunks where they
-// are read. So it is with any number of workers.
+// are read. So it is with any number of workers, though the chunks are prepared 256 at a time.
 #[test]
 fn reads_an_index_once(rt: HostRuntime) -> Result<(), Fail> {
     let alloc = rt.alloc();
     for workers in [1, 2, 16] {
         let asked = count_asked(&rt, alloc, workers)?;
-        assert_eq!(rt; asked, DOCUMENT + 2 * (16 + 24 * 40) + 40);
+        assert_eq!(rt; asked, DOCUMENT + 2 * (16 + 24 * 4000) + 4000);
     }
     Ok(())
 }

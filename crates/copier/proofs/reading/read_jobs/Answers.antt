@@ -10,8 +10,7 @@ use Rattle.cutout.specs.Opened.{Opened}
 use Rattle.write_plan.specs.Jobs.{cells_in}
 use Rattle.copier.specs.Held.{AreFilled, AreRead, ReadsJob, copies_of}
 use Rattle.copier.proofs.FrameSteps.{filled_more, holds_set, read_failed, read_more, read_none}
-use Rattle.cutout.proofs.RunSteps.{begun}
-use Rattle.copier.proofs.AskedSteps.{asked_job, asked_jobs, asked_refused}
+use Rattle.copier.proofs.AskedSteps.{asked_job, asked_jobs, asked_none, asked_refused}
 use Rattle.copier.proofs.JobSteps.{job_cell_at}
 use Rattle.copier.proofs.reading.read_jobs.Goals as goal
 
@@ -47,7 +46,7 @@ loop-k-preserved g c =
       same = c.read_frame.ensures.same ∙ c.loop-k.invariant.same;
       run = λ m told.
           asked_job m c.loop-k.reader.opened c.args.reader.now.opened c.args.to.now (cells_in c.args.jobs.now) c.get.result.cell c.args.first c.loop-k.k (g.S.Source.asked c.args.store.now) (g.S.Source.asked c.loop-k.store) (g.S.Source.asked c.read_frame.new.store)
-          c.loop-k.reader c.read_frame.new.reader c.loop-k.invariant.same here (c.loop-k.invariant.run m told) (from_told _ _ m (c.loop-k.invariant.kept.same_objects ∙ told) c.in-Ok.ensures.run);
+          c.args.reader.now c.loop-k.reader c.read_frame.new.reader c.loop-k.invariant.same here (c.loop-k.invariant.run m told) (from_told _ _ m (c.loop-k.invariant.kept.same_objects ∙ told) c.in-Ok.ensures.run);
       keeps = subst (λ o. KeepsIndex o c.read_frame.new.reader) c.loop-k.invariant.kept.same_objects c.read_frame.ensures.keeps;
       kept = record {
         same_objects = c.read_frame.ensures.kept.same_objects ∙ c.loop-k.invariant.kept.same_objects;
@@ -62,9 +61,9 @@ loop-k-init g c = record {
   each = c.requires.each;
   frames = refl;
   read = λ m told. read_none (copies_of m c.args.reader.now.opened.dataset c.args.reader.now.opened.scale c.args.to.now) c.args.to.now (cells_in c.args.jobs.now) c.args.first _;
-  same = c.forget.ensures.same;
-  keeps = c.forget.ensures.nothing _;
-  run = λ m told. begun m c.args.reader.now.opened.dataset c.args.reader.now.opened.scale (g.S.Source.asked c.args.store.now) c.forget.new.self.shards;
+  same = refl;
+  keeps = c.requires.keeps;
+  run = λ m told. asked_none m c.args.reader.now.opened c.args.to.now (cells_in c.args.jobs.now) c.args.first (g.S.Source.asked c.args.store.now) c.args.reader.now;
   kept = record { same_objects = refl; same_draft = refl };
   later = omega arith;
 }
@@ -92,16 +91,22 @@ returns-clause-filled g c =
     let done : c.loop-k.k ≡ c.args.count = omega (arith, c.loop-k-test.false, c.loop-k.auto.k-end) in
     subst (λ n. AreFilled c.args.to.now n (map (λ f. f.items) c.loop-k.frames)) done c.loop-k.invariant.filled
 
-pub returns-in-Err-clause-asked : goal.returns-in-Err-clause-asked
-returns-in-Err-clause-asked g c =
+pub returns-in-Err-clause-run : goal.returns-in-Err-clause-run
+returns-in-Err-clause-run g c =
     let number : c.args.first + c.loop-k.k < length c.args.jobs.now = omega (arith, c.requires.within, c.loop-k-test.true) in
     let here : c.get.result.cell ≡ cell_of (cells_in c.args.jobs.now) (c.args.first + c.loop-k.k) = ap (λ job. job.cell) c.get.ensures ∙ job_cell_at c.args.jobs.now (c.args.first + c.loop-k.k) number in
     asked_refused (g.S.Source.objects c.args.store.now) (g.S.Source.objects c.loop-k.store) c.loop-k.reader.opened c.args.reader.now.opened c.args.to.now (cells_in c.args.jobs.now) c.get.result.cell c.args.first c.loop-k.k c.args.count
-    (g.S.Source.asked c.args.store.now) (g.S.Source.asked c.loop-k.store) (g.S.Source.asked c.read_frame.new.store) c.loop-k.reader c.read_frame.new.reader
+    (g.S.Source.asked c.args.store.now) (g.S.Source.asked c.loop-k.store) (g.S.Source.asked c.read_frame.new.store) c.args.reader.now c.loop-k.reader c.read_frame.new.reader
     c.loop-k.invariant.kept.same_objects c.loop-k.invariant.same here (omega (arith, c.loop-k-test.true)) c.loop-k.invariant.run c.in-Err.ensures.run
 
-pub returns-clause-asked : goal.returns-clause-asked
-returns-clause-asked g c =
+pub returns-clause-run : goal.returns-clause-run
+returns-clause-run g c =
     let done : c.loop-k.k ≡ c.args.count = omega (arith, c.loop-k-test.false, c.loop-k.auto.k-end) in
     asked_jobs (g.S.Source.objects c.args.store.now) c.args.reader.now.opened c.args.to.now (cells_in c.args.jobs.now) c.args.first c.loop-k.k c.args.count (g.S.Source.asked c.args.store.now) (g.S.Source.asked c.loop-k.store)
-    c.loop-k.reader done c.loop-k.invariant.run
+    c.args.reader.now c.loop-k.reader done c.loop-k.invariant.run
+
+pub returns-clause-keeps : goal.returns-clause-keeps
+returns-clause-keeps g c = c.loop-k.invariant.keeps
+
+pub returns-in-Err-clause-keeps : goal.returns-in-Err-clause-keeps
+returns-in-Err-clause-keeps g c = subst (λ o. KeepsIndex o c.read_frame.new.reader) c.loop-k.invariant.kept.same_objects c.read_frame.ensures.keeps

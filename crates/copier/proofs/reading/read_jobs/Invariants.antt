@@ -2,10 +2,9 @@ use Rattle.std.proofs.Common.{◌≡◌, length, map, Some}
 use Rattle.std.specs.Prelude.{All}
 use Rattle.vol_base.specs.Outside.{Objects, OnlyReads}
 use Rattle.cutout.specs.Kept.{KeepsIndex}
-use Rattle.cutout.specs.Runs.{HasRun}
 use Rattle.write_plan.specs.Jobs.{cells_in}
 use Rattle.copier.specs.Held.{AreFilled, AreRead, Holds, copies_of}
-use Rattle.copier.specs.Sources.{sources}
+use Rattle.copier.proofs.AskedSteps.{HasRunOn}
 use Rattle.copier.proofs.reading.read_jobs.Given as goal
 
 abbrev pub invariant-loop-k : goal.invariant-loop-k
@@ -16,7 +15,7 @@ invariant-loop-k g l = record {
   read : (m : Objects) → g.S.Source.objects l.fn.store ≡ Some m → AreRead (copies_of m l.fn.reader.opened.dataset l.fn.reader.opened.scale l.to) l.to (cells_in l.jobs) l.first l.k (map (λ f. f.items) l.frames);
   same : l.reader.opened ≡ l.fn.reader.opened;
   keeps : KeepsIndex (g.S.Source.objects l.fn.store) l.reader;
-  run : (m : Objects) → g.S.Source.objects l.fn.store ≡ Some m → HasRun m l.fn.reader.opened.dataset l.fn.reader.opened.scale (sources l.fn.reader.opened.scale l.to (cells_in l.jobs) l.first l.k) (g.S.Source.asked l.fn.store) (g.S.Source.asked l.store) l.reader.shards;
+  run : (m : Objects) → g.S.Source.objects l.fn.store ≡ Some m → HasRunOn m l.fn.reader.opened l.to (cells_in l.jobs) l.first l.k (g.S.Source.asked l.fn.store) (g.S.Source.asked l.store) l.fn.reader l.reader;
   kept : OnlyReads (g.S.Source.objects l.fn.store) (g.S.Source.objects l.store) (g.S.Source.draft l.fn.store) (g.S.Source.draft l.store);
   later : g.S.Source.faults l.store ≡ g.S.Source.faults l.fn.store;
 }

@@ -1,11 +1,15 @@
-use Rattle.std.proofs.Common.{◌≡◌, ◌≤◌, ◌<◌, ℕ, Some, IfSome, ◌-◌, ◌∙◌, ap, arith, sym, refl, length, map, subst, Ok, Err}
+use Rattle.std.proofs.Common.{◌≡◌, ◌≤◌, ◌<◌, ℕ, Some, IfSome, true, false, ◌+◌, ◌-◌, ◌∙◌, ap, arith, sym, refl, length, map, subst, Ok, Err}
 use Rattle.std.specs.Prelude.{All}
 use Rattle.std.specs.Vec.{with_items}
 use Rattle.std.proofs.lemmas.List.{length-map}
+use Rattle.vol_spec.proofs.Told.{from_told, in_told}
+use Rattle.cutout.specs.Kept.{KeepsIndex}
 use Rattle.cutout.specs.Opened.{Opened}
+use Rattle.cutout.specs.Runs.{HasRun}
 use Rattle.write_plan.specs.Jobs.{Prepares, cells_in, jobs_fault, window_of}
-use Rattle.copier.specs.Held.{Held, Holds, IsApart, IsHeld, cells_of, copies_of, holding, raw_of, ready_of, work_of}
-use Rattle.copier.proofs.AskedSteps.{asked_held}
+use Rattle.copier.specs.Held.{Held, Holds, IsApart, IsHeld, Keeps, cells_of, copies_of, holding, raw_of, ready_of, work_of}
+use Rattle.copier.specs.Sources.{sources}
+use Rattle.copier.proofs.AskedSteps.{asked_held, more_held}
 use Rattle.copier.proofs.HeldSteps.{all_cells, held_again, held_len, held_of, prepare_of, ready_held, ready_some, same_items}
 use Rattle.copier.proofs.copier.CopierChunks.prepare.Goals as goal
 
@@ -114,12 +118,42 @@ returns-in-Ok-clause-sure g c sure = absurd sure
 pub returns-in-Err-clause-sure : goal.returns-in-Err-clause-sure
 returns-in-Err-clause-sure g c sure = absurd sure
 
+pub read_jobs-requires-clause-keeps : goal.read_jobs-requires-clause-keeps
+read_jobs-requires-clause-keeps g c = subst (λ h. Keeps h (g.S.Source.objects c.args.store.now)) (sym c.self.view_is) c.requires.keeps
+
+pub returns-in-Ok-clause-keeps : goal.returns-in-Ok-clause-keeps
+returns-in-Ok-clause-keeps g c = subst (λ o. KeepsIndex o c.read_jobs.new.reader) (sym c.read_jobs.ensures.kept.same_objects) c.read_jobs.ensures.keeps
+
 pub returns-in-Ok-clause-asked : goal.returns-in-Ok-clause-asked
 returns-in-Ok-clause-asked g c =
     let h : Held = holding c.self.inside.reader.opened.dataset c.self.inside.reader.opened.scale c.self.inside.to c.self.inside.jobs c.self.inside.first c.self.inside.count c.self.inside.frames.items in
-    asked_held (g.S.Source.objects c.args.store.now) h c.args.self.now (cells_in c.self.inside.jobs) c.args.from (c.args.to - c.args.from) _ _ c.self.view_is (held_of h c.self.inside.jobs c.self.invariant.held.jobs_are) c.read_jobs.ensures.asked
+    asked_held (g.S.Source.objects c.args.store.now) true h c.args.self.now c.self.inside.reader.shards c.read_jobs.new.reader.shards (cells_in c.self.inside.jobs) c.args.from (c.args.to - c.args.from) _ _ c.self.view_is (held_of h c.self.inside.jobs c.self.invariant.held.jobs_are) c.in-Ok.ensures.run
+
+pub returns-in-Err-clause-keeps : goal.returns-in-Err-clause-keeps
+returns-in-Err-clause-keeps g c = subst (λ o. KeepsIndex o c.read_jobs.new.reader) (sym c.read_jobs.ensures.kept.same_objects) c.read_jobs.ensures.keeps
 
 pub returns-in-Err-clause-asked : goal.returns-in-Err-clause-asked
 returns-in-Err-clause-asked g c =
     let h : Held = holding c.self.inside.reader.opened.dataset c.self.inside.reader.opened.scale c.self.inside.to c.self.inside.jobs c.self.inside.first c.self.inside.count c.self.inside.frames.items in
-    asked_held (g.S.Source.objects c.args.store.now) h c.args.self.now (cells_in c.self.inside.jobs) c.args.from (c.args.to - c.args.from) _ _ c.self.view_is (held_of h c.self.inside.jobs c.self.invariant.held.jobs_are) c.read_jobs.ensures.asked
+    asked_held (g.S.Source.objects c.args.store.now) false h c.args.self.now c.self.inside.reader.shards c.read_jobs.new.reader.shards (cells_in c.self.inside.jobs) c.args.from (c.args.to - c.args.from) _ _ c.self.view_is (held_of h c.self.inside.jobs c.self.invariant.held.jobs_are) c.in-Err.ensures.run
+
+pub returns-in-Ok-clause-more : goal.returns-in-Ok-clause-more
+returns-in-Ok-clause-more g c =
+    let h : Held = holding c.self.inside.reader.opened.dataset c.self.inside.reader.opened.scale c.self.inside.to c.self.inside.jobs c.self.inside.first c.self.inside.count c.self.inside.frames.items in
+    in_told (g.S.Source.objects c.args.store.now) _ (λ m told first count begin at has.
+    let more =
+    more_held m true h c.args.self.now c.self.inside.reader.shards c.read_jobs.new.reader.shards (cells_in c.self.inside.jobs) c.args.from (c.args.to - c.args.from) (g.S.Source.asked c.args.store.now) (g.S.Source.asked c.read_jobs.new.store) first count begin
+    c.self.view_is (held_of h c.self.inside.jobs c.self.invariant.held.jobs_are) (from_told (g.S.Source.objects c.args.store.now) _ m told c.in-Ok.ensures.run) at has in (
+      more.0,
+      subst (λ (r : Opened). HasRun m r.dataset r.scale (sources r.scale c.self.inside.to (cells_of h) first (count + (c.args.to - c.args.from))) begin (g.S.Source.asked c.read_jobs.new.store) c.read_jobs.new.reader.shards)
+          (sym c.read_jobs.ensures.same) (more.1 refl),
+    ))
+
+pub returns-in-Err-clause-more : goal.returns-in-Err-clause-more
+returns-in-Err-clause-more g c =
+    let h : Held = holding c.self.inside.reader.opened.dataset c.self.inside.reader.opened.scale c.self.inside.to c.self.inside.jobs c.self.inside.first c.self.inside.count c.self.inside.frames.items in
+    in_told (g.S.Source.objects c.args.store.now) _ (λ m told first count begin at has.
+    let more =
+    more_held m false h c.args.self.now c.self.inside.reader.shards c.read_jobs.new.reader.shards (cells_in c.self.inside.jobs) c.args.from (c.args.to - c.args.from) (g.S.Source.asked c.args.store.now) (g.S.Source.asked c.read_jobs.new.store) first count begin
+    c.self.view_is (held_of h c.self.inside.jobs c.self.invariant.held.jobs_are) (from_told (g.S.Source.objects c.args.store.now) _ m told c.in-Err.ensures.run) at has in
+    (more.0, tt))
