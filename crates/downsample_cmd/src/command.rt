@@ -7,7 +7,7 @@ ghost use Rattle.shard_writer.specs.Writing.{Drops};
 ghost use Rattle.command_base.specs.Ending.{EndsWell, IsCaused};
 ghost use Rattle.command_base.specs.Outlets.{outlets_of};
 ghost use Rattle.command_base.specs.Scales.{stored_scale};
-ghost use Rattle.command_base.specs.Statuses.{puts};
+ghost use Rattle.command_base.specs.Statuses.{prints, puts};
 ghost use Rattle.reshard_cmd.specs.Copying.{DropsUnsharded};
 ghost use Rattle.reshard_cmd.specs.Refusals.{reshard_status};
 ghost use Rattle.downsample_cmd.specs.Answering.{CanDownsample, Downsampled, ReducedBack, ReducesScale, ReducesStored};
@@ -127,6 +127,7 @@ pub fn run_downsample<R: Threads + Wait + Sync, S: Store, O: Outlet, E: Outlet, 
         DropsUnsharded (stored_scale m dataset.now to_key.now) (S.draft store.old) (S.draft store.new)) }
     ensures kept { puts result ≡ false → OnlyReads (S.objects store.old) (S.objects store.new)
         (S.draft store.old) (S.draft store.new) }
+    ensures unprinted { prints result ≡ false → out.new ≡ out.old }
     ensures causes { IsCaused result (S.faults store.old) (S.faults store.new) (O.faults out.old)
         (O.faults out.new) (E.faults err.old) (E.faults err.new) }
 {

@@ -29,7 +29,7 @@ fn put_reduced<R: Threads + Wait + Sync, S: Store, G: Gate + Sync>(
     store: &mut S,
     dataset: &Name,
     scale: &Scale,
-    reducer: &mut Reducer,
+    reducer: &mut Reducer<R>,
 ) -> Result<Written, ReshardFault>
     requires dataset { length dataset.now ≤ 200 }
     requires writable { IsWritable scale.now }
@@ -88,7 +88,16 @@ fn write_reduced<R: Threads + Wait + Sync, S: Store, G: Gate + Sync>(
     ensures unsharded { to.now.sharding ≡ None → Drops (S.draft store.old) (S.draft store.new) }
     ensures cause { HasCauseOf ReshardFault.StoreFault (S.faults store.old) (S.faults store.new) result }
 {
-    match Reducer::of(crew.alloc, store, method, dataset, from, to) {
+    match Reducer::of(
+        crew.rt,
+        crew.alloc,
+        store,
+        method,
+        dataset,
+        from,
+        to,
+        crew.workers,
+    ) {
         Ok(mut reducer) => put_reduced(crew, store, dataset, to, &mut reducer),
         Err(StoreRefusal::Failed) => Err(ReshardFault::StoreFault),
         Err(StoreRefusal::OutOfMemory) => Err(ReshardFault::OutOfMemory),

@@ -1,5 +1,7 @@
 //! The command over small stores. What each reduction answers was worked out by hand.
 
+mod crew;
+
 use crate::run_downsample;
 use command_base::{Crew, Status};
 use memory_rows::{has_all, has_none, name_of, outlet_of, store_of};

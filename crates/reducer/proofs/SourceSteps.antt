@@ -73,10 +73,9 @@ module _ (from to : Scale) (cell : List ℕ) where
 pub room_of : {E : Type 0} (from to : Scale) (part : Box3) (len : ℕ) (made : Result (Vec ℕ Global) E) → part ≡ source_box from to first_cell → raw_len part from.channels from.width ≤ 2 ^ 30
     → len ≡ min (raw_len part from.channels from.width) (2 ^ 128 - 1) → IfOk made (λ buffer. vec_capacity buffer ≡ len) → IfOk made (HasRoom from to)
 room_of from to part len (Err fault) here short is h = tt
-room_of from to part len (Ok buffer) here short is h = λ cell own.
-    let most = source_most from to cell in
+room_of from to part len (Ok buffer) here short is h =
     let same : raw_len part from.channels from.width ≡ raw_len (source_box from to first_cell) from.channels from.width = ap (λ b. raw_len b from.channels from.width) here in
-    omega (arith, most, same, short, is, h)
+    record { fits = λ cell own. let most = source_most from to cell in omega (arith, most, same, short, is, h) }
 
 -- the target's positions over a cell of the source are in the target
 some_over : (g c : ℕ) → 0 < c → 0 < (g + c + 1) / 2 - g / 2

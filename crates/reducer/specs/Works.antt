@@ -1,5 +1,5 @@
 -- The jobs of a reduction (this project's).
-use Rattle.std.specs.Prelude.{ℕ, List, Option, Vec}
+use Rattle.std.specs.Prelude.{ℕ, List, Option, Vec, IfSome}
 use Rattle.std.specs.Global.{Global}
 use Rattle.vol_base.specs.Outside.{Objects}
 use Rattle.vol_base.specs.declared.faults.Fault.{Fault}
@@ -40,9 +40,11 @@ ready_of r job = held.ready_of r.held job
 abbrev pub IsApart : Reduction → Name → Scale → Type 0
 IsApart r dataset s = held.IsApart r.held dataset s
 
--- the target is the scale after the source, the jobs and the frames are those of the cells, and the buffer has room for each source box
+-- the target is the scale after the source, the jobs and the frames are those of the cells, and the buffer has room for each source box,
+-- as has the other one, where there is one
 pub record IsReduction (h : Held) (jobs : List Job) (frames : List (Vec ℕ Global)) (buffer : Vec ℕ Global)
-    : Type 0 where
+    (ahead : Option (Vec ℕ Global)) : Type 0 where
   pub next : IsNext h.from h.to
   pub held : HasFrames h jobs frames
   pub room : HasRoom h.from h.to buffer
+  pub room_ahead : IfSome ahead (HasRoom h.from h.to)

@@ -1,6 +1,7 @@
 //! The chunks of the next, coarser scale, reduced from the source.
 #![tactic(auto)]
 
+mod ahead;
 mod found;
 mod reading;
 mod reducer;

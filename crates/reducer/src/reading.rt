@@ -9,7 +9,7 @@ ghost use Rattle.write_plan.specs.Jobs.{cells_in};
 ghost use Rattle.cutout.specs.Kept.{KeepsIndex};
 ghost use Rattle.copier.specs.Held.{AreFilled, Holds, IsFilled};
 ghost use Rattle.reduce_laws.specs.Reduced.{IsNext, source_box as source_of};
-ghost use Rattle.reducer.specs.Reading.{CutsBox, HasRoom, ReadsReduced, ReadsReductions};
+ghost use Rattle.reducer.specs.Reading.{CutsBox, HasRoom, IsReducedOf, ReadsReduced, ReadsReductions};
 
 use crate::sources::source_box;
 use chunk_grid::{byte_len, cell_box};
@@ -49,44 +49,6 @@ fn cut_box<S: Source>(
     }
 }
 
-// Cuts the source box of a cell out and reduces it.
-fn reduce_into<S: Source>(
-    reader: &mut KeepingReader,
-    store: &mut S,
-    method: Method,
-    from: &Scale,
-    to: &Scale,
-    cell: [u64; 3],
-    part: &Box3,
-    raw: &mut [u8],
-    out: &mut [u8],
-) -> Result<(), PrepareFault>
-    requires source { reader.old.opened.scale ≡ from.now }
-    requires keeps { KeepsIndex (S.objects store.old) reader.old }
-    requires next { IsNext from.now to.now }
-    requires cell { IsCell to.now cell }
-    requires part { part.now ≡ source_of from.now to.now cell }
-    requires bytes { IfSome (S.objects store.old) HaveBytes }
-    requires raw { length raw.old ≡ raw_len part.now from.now.channels from.now.width }
-    requires limit { length raw.old ≤ 2 ^ 30 }
-    requires out { length out.old ≡ raw_size to.now cell }
-    ensures read { IfSome (S.objects store.old) (λ m.
-        ReadsReduced result method m reader.old.opened.dataset from.now to.now cell out.new) }
-    ensures keeps { KeepsIndex (S.objects store.old) reader.new }
-    ensures same { reader.new.opened ≡ reader.old.opened }
-    ensures kept { OnlyReads (S.objects store.old) (S.objects store.new) (S.draft store.old)
-        (S.draft store.new) }
-    ensures cause { HasCauseOf PrepareFault.StoreFault (S.faults store.old) (S.faults store.new) result }
-{
-    match cut_box(reader, store, part, raw) {
-        Ok(()) => {}
-        Err(fault) => return Err(fault),
-    }
-    let own = cell_box(to, cell);
-    reduce_box(method, raw, part, out, &own, to.channels, to.width);
-    Ok(())
-}
-
 // Makes a buffer that has the room so many bytes long.
 fn fit_buffer(buffer: &mut Vec<u8>, len: usize)
     requires { len ≤ vec_capacity buffer.old }
@@ -97,26 +59,24 @@ fn fit_buffer(buffer: &mut Vec<u8>, len: usize)
     prove!(fitted.is_ok());
 }
 
-// Reduces the source's values under a cell of the target, by way of a buffer that has room for them.
-fn reduce_job<S: Source>(
+/// Cuts the source box of a cell of the target out, into a buffer that has room for it.
+pub(crate) fn cut_source<S: Source>(
     reader: &mut KeepingReader,
     store: &mut S,
-    method: Method,
     from: &Scale,
     to: &Scale,
     cell: [u64; 3],
     buffer: &mut Vec<u8>,
-    out: &mut [u8],
 ) -> Result<(), PrepareFault>
     requires source { reader.old.opened.scale ≡ from.now }
     requires keeps { KeepsIndex (S.objects store.old) reader.old }
     requires next { IsNext from.now to.now }
     requires cell { IsCell to.now cell }
-    requires bytes { IfSome (S.objects store.old) HaveBytes }
     requires room { HasRoom from.now to.now buffer.old }
-    requires out { length out.old ≡ raw_size to.now cell }
-    ensures read { IfSome (S.objects store.old) (λ m.
-        ReadsReduced result method m reader.old.opened.dataset from.now to.now cell out.new) }
+    ensures cut { IfSome (S.objects store.old) (λ m. CutsBox result m reader.old.opened.dataset from.now
+        (source_of from.now to.now cell) buffer.new.items) }
+    ensures len { length buffer.new.items
+        ≡ raw_len (source_of from.now to.now cell) from.now.channels from.now.width }
     ensures room { HasRoom from.now to.now buffer.new }
     ensures keeps { KeepsIndex (S.objects store.old) reader.new }
     ensures same { reader.new.opened ≡ reader.old.opened }
@@ -126,49 +86,69 @@ fn reduce_job<S: Source>(
 {
     let part = source_box(from, to, cell);
     fit_buffer(buffer, byte_len(&part, from.channels, from.width) as usize);
-    reduce_into(reader, store, method, from, to, cell, &part, buffer, out)
+    cut_box(reader, store, &part, buffer)
 }
 
-// Reduces the source's values under a cell of the target into the front of a frame.
-fn reduce_front<S: Source>(
-    reader: &mut KeepingReader,
-    store: &mut S,
+// Reduces the values of the source box of a cell into those of the cell.
+fn reduce_values(
     method: Method,
     from: &Scale,
     to: &Scale,
     cell: [u64; 3],
-    buffer: &mut Vec<u8>,
-    frame: &mut [u8],
-) -> Result<(), PrepareFault>
-    requires source { reader.old.opened.scale ≡ from.now }
-    requires keeps { KeepsIndex (S.objects store.old) reader.old }
+    raw: &[u8],
+    out: &mut [u8],
+)
     requires next { IsNext from.now to.now }
     requires cell { IsCell to.now cell }
-    requires bytes { IfSome (S.objects store.old) HaveBytes }
-    requires room { HasRoom from.now to.now buffer.old }
+    requires raw { length raw.now ≡ raw_len (source_of from.now to.now cell) from.now.channels from.now.width }
+    requires out { length out.old ≡ raw_size to.now cell }
+    ensures { IsReducedOf method from.now to.now cell raw.now out.new }
+{
+    let part = source_box(from, to, cell);
+    let own = cell_box(to, cell);
+    reduce_box(method, raw, &part, out, &own, to.channels, to.width);
+}
+
+// Reduces the values of the source box of a cell into the front of a frame.
+fn reduce_front(
+    method: Method,
+    from: &Scale,
+    to: &Scale,
+    cell: [u64; 3],
+    raw: &[u8],
+    frame: &mut [u8],
+)
+    requires next { IsNext from.now to.now }
+    requires cell { IsCell to.now cell }
+    requires raw { length raw.now ≡ raw_len (source_of from.now to.now cell) from.now.channels from.now.width }
     requires len { raw_size to.now cell ≤ length frame.old }
-    ensures read { IfSome (S.objects store.old) (λ m.
-        ReadsReduced result method m reader.old.opened.dataset from.now to.now cell
-        (take (raw_size to.now cell) frame.new)) }
+    ensures reduced { IsReducedOf method from.now to.now cell raw.now (take (raw_size to.now cell) frame.new) }
     ensures len { length frame.new ≡ length frame.old }
-    ensures room { HasRoom from.now to.now buffer.new }
-    ensures keeps { KeepsIndex (S.objects store.old) reader.new }
-    ensures same { reader.new.opened ≡ reader.old.opened }
-    ensures kept { OnlyReads (S.objects store.old) (S.objects store.new) (S.draft store.old)
-        (S.draft store.new) }
-    ensures cause { HasCauseOf PrepareFault.StoreFault (S.faults store.old) (S.faults store.new) result }
 {
     let len = values_len(to, cell);
-    reduce_job(
-        reader,
-        store,
-        method,
-        from,
-        to,
-        cell,
-        buffer,
-        &mut frame[..len],
-    )
+    reduce_values(method, from, to, cell, raw, &mut frame[..len]);
+}
+
+/// Fills a frame up, and reduces the values of the source box of a cell into its front.
+pub(crate) fn reduce_source(
+    method: Method,
+    from: &Scale,
+    to: &Scale,
+    cell: [u64; 3],
+    raw: &[u8],
+    frame: &mut Vec<u8>,
+)
+    requires next { IsNext from.now to.now }
+    requires cell { IsCell to.now cell }
+    requires raw { length raw.now ≡ raw_len (source_of from.now to.now cell) from.now.channels from.now.width }
+    requires holds { Holds to.now frame.old }
+    ensures reduced { IsReducedOf method from.now to.now cell raw.now
+        (take (raw_size to.now cell) frame.new.items) }
+    ensures filled { IsFilled to.now frame.new.items }
+    ensures holds { Holds to.now frame.new }
+{
+    fill_up(to, frame);
+    reduce_front(method, from, to, cell, raw, frame);
 }
 
 // Fills a frame up, and reduces the source's values under a cell of the target into its front.
@@ -192,7 +172,7 @@ fn reduce_frame<S: Source>(
     ensures read { IfSome (S.objects store.old) (λ m.
         ReadsReduced result method m reader.old.opened.dataset from.now to.now cell
         (take (raw_size to.now cell) frame.new.items)) }
-    ensures filled { IsFilled to.now frame.new.items }
+    ensures filled { OnOk result (IsFilled to.now frame.new.items) }
     ensures holds { Holds to.now frame.new }
     ensures room { HasRoom from.now to.now buffer.new }
     ensures keeps { KeepsIndex (S.objects store.old) reader.new }
@@ -201,14 +181,18 @@ fn reduce_frame<S: Source>(
         (S.draft store.new) }
     ensures cause { HasCauseOf PrepareFault.StoreFault (S.faults store.old) (S.faults store.new) result }
 {
-    fill_up(to, frame);
-    reduce_front(reader, store, method, from, to, cell, buffer, frame)
+    match cut_source(reader, store, from, to, cell, buffer) {
+        Ok(()) => {}
+        Err(fault) => return Err(fault),
+    }
+    reduce_source(method, from, to, cell, buffer, frame);
+    Ok(())
 }
 
 /// Reduces so many jobs, one after the other from a number on, into frames, by way of a buffer, and fills up those
 /// frames that it uses. What the reader kept before is forgotten; an index that it reads here is kept from job to
 /// job. It takes no memory.
-pub(crate) fn reduce_jobs<S: Source>(
+pub(crate) fn reduce_in_turn<S: Source>(
     reader: &mut KeepingReader,
     store: &mut S,
     method: Method,

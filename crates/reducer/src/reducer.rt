@@ -10,8 +10,8 @@ ghost use Rattle.copier.specs.Held.{cells_of};
 ghost use Rattle.reduce_laws.specs.Reduced.{IsNext, reduced_cells};
 ghost use Rattle.reducer.specs.Reading.{HasRoom};
 
+use crate::ahead::reduce_jobs;
 use crate::found::find_reduced;
-use crate::reading::reduce_jobs;
 use crate::sources::source_box;
 use chunk_grid::{byte_len, find_folder};
 use copier::reserve_frames;
@@ -19,6 +19,7 @@ use cutout::{KeepingReader, Reader};
 use reduce_laws::Method;
 use std::alloc::{AllocError, Global};
 use std::marker::Model;
+use std::thread::Threads;
 use vol_base::{Name, Store, StoreRefusal};
 use vol_spec::Scale;
 use write_plan::{Chunks, JobList, PrepareFault, window};
@@ -34,10 +35,34 @@ fn reserve_buffer(alloc: Global, from: &Scale, to: &Scale) -> Result<Vec<u8>, Al
     Vec::with_capacity(alloc, len)
 }
 
+// Chunks whose values have fewer bytes are reduced in turn: to begin a thread takes longer.
+const SMALL: u64 = 1 << 13;
+
+// Another such buffer, where a job is reduced beside the reading of the next one: with more than one worker, but for
+// small chunks.
+fn reserve_ahead(
+    alloc: Global,
+    from: &Scale,
+    to: &Scale,
+    workers: u32,
+) -> Result<Option<Vec<u8>>, AllocError>
+    requires next { IsNext from.now to.now }
+    ensures room { IfOk result (λ ahead. IfSome ahead (HasRoom from.now to.now)) }
+{
+    if workers < 2 || to.raw_limit() < SMALL {
+        return Ok(None);
+    }
+    match reserve_buffer(alloc, from, to) {
+        Ok(buffer) => Ok(Some(buffer)),
+        Err(refusal) => Err(refusal),
+    }
+}
+
 /// What makes the chunks of the next, coarser scale: the values in the boxes of its cells, reduced from the
 /// source's. It is seen as the method, and what it holds.
 #[derive(Drop)]
-pub struct Reducer {
+pub struct Reducer<'a, R> {
+    rt: &'a R,
     reader: KeepingReader,
     folder: Name,
     method: Method,
@@ -48,9 +73,10 @@ pub struct Reducer {
     count: u64,
     frames: Vec<Vec<u8>>,
     buffer: Vec<u8>,
+    ahead: Option<Vec<u8>>,
 }
 
-impl Model for Reducer {
+impl<'a, R> Model for Reducer<'a, R> {
     ghost use Rattle.std.specs.Prelude.{◌≡◌};
     ghost use Rattle.copier.specs.Held.{holding};
     ghost use Rattle.reducer.specs.Works.{IsReduction, Reduction};
@@ -64,25 +90,28 @@ impl Model for Reducer {
 
     ghost invariant = { λ r. (r.reader.opened.scale ≡ r.from) × IsReduction
         (holding r.reader.opened.dataset r.from r.to r.jobs r.first r.count r.frames.items)
-        r.jobs r.frames.items r.buffer };
+        r.jobs r.frames.items r.buffer r.ahead };
 }
 
-impl Reducer {
+impl<'a, R: Threads> Reducer<'a, R> {
     /// A reducer of a scale of a data set into the next one, whose grid has at most 2^22 cells. It has a job for
     /// each cell with a position over that of a cell of the source, of which there is a chunk or a fault. All the
     /// memory that it needs is taken here: a frame for each cell that may be prepared at once, and room for one
-    /// job's values in the source, at most 2^30 bytes. Their bytes are first touched where they are used.
+    /// job's values in the source, at most 2^30 bytes, or with more than one worker for two jobs'. Their bytes are
+    /// first touched where they are used.
     ///
     /// # Errors
     /// `Failed` only where the store failed, and `OutOfMemory`.
     pub fn of<S: Store>(
+        rt: &'a R,
         alloc: Global,
         store: &mut S,
         method: Method,
         dataset: &Name,
         from: &Scale,
         to: &Scale,
-    ) -> Result<Reducer, StoreRefusal>
+        workers: u32,
+    ) -> Result<Reducer<'a, R>, StoreRefusal>
         requires dataset { length dataset.now ≤ 200 }
         requires next { IsNext from.now to.now }
         requires few { cell_count to.now ≤ 2 ^ 22 }
@@ -113,7 +142,11 @@ impl Reducer {
         let Ok(buffer) = reserve_buffer(alloc, from, to) else {
             return Err(StoreRefusal::OutOfMemory);
         };
+        let Ok(ahead) = reserve_ahead(alloc, from, to, workers) else {
+            return Err(StoreRefusal::OutOfMemory);
+        };
         Ok(Reducer {
+            rt,
             reader: reader.keeping(),
             folder: find_folder(dataset, from),
             method,
@@ -124,11 +157,12 @@ impl Reducer {
             count: 0,
             frames,
             buffer,
+            ahead,
         })
     }
 }
 
-impl Chunks for Reducer {
+impl<'a, R: Threads> Chunks for Reducer<'a, R> {
     ghost use Rattle.reducer.specs.Works.{IsApart, ready_of, work_of};
     ghost use Rattle.reducer.specs.WorkLaws.{raw_fits, ready_fits, work_jobs, work_keeps};
 
@@ -139,6 +173,8 @@ impl Chunks for Reducer {
     ghost sure = { λ r. ⊥ };
 
     ghost ready = { ready_of };
+
+    ghost keeps = { λ r objects. Unit {0} };
 
     ghost ordered = { work_jobs };
 
@@ -152,6 +188,9 @@ impl Chunks for Reducer {
         &self.jobs
     }
 
+    /// Does nothing: nothing is kept from call to call.
+    fn forget(&mut self) {}
+
     /// Reduces the source's values under the jobs. It takes no memory. That the objects are bytes, which the
     /// reduced values rest on, is what a store tells of itself at any question: one is asked first.
     fn prepare<S: Store>(&mut self, store: &mut S, from: u64, to: u64) -> Result<(), PrepareFault> {
@@ -161,6 +200,7 @@ impl Chunks for Reducer {
         self.count = 0;
         let count = to - from;
         match reduce_jobs(
+            self.rt,
             &mut self.reader,
             store,
             self.method,
@@ -168,6 +208,7 @@ impl Chunks for Reducer {
             &self.to,
             &self.jobs,
             &mut self.buffer,
+            &mut self.ahead,
             &mut self.frames,
             from,
             count as usize,

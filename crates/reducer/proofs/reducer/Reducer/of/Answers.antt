@@ -25,15 +25,16 @@ of-requires-clause-distinct g c = distinct_cells c.args.to.now c.in-Ok-find_redu
 pub invariant_of-result : goal.invariant_of-result
 invariant_of-result g c = (
   ap (λ (r : Opened). r.scale) (c.keeping.ensures ∙ c.find_reduced.ensures.same) ∙ c.in-Ok.ensures.scale ∙ sym c.duplicate.ensures,
-  subst (λ (d : List ℕ). IsReduction (holding d c.duplicate.result c.duplicate-2.result c.in-Ok-of.jobs 0 0 c.in-Ok-reserve_frames.frames.items) c.in-Ok-of.jobs c.in-Ok-reserve_frames.frames.items c.in-Ok-reserve_buffer.buffer)
+  subst (λ (d : List ℕ). IsReduction (holding d c.duplicate.result c.duplicate-2.result c.in-Ok-of.jobs 0 0 c.in-Ok-reserve_frames.frames.items) c.in-Ok-of.jobs c.in-Ok-reserve_frames.frames.items c.in-Ok-reserve_buffer.buffer c.in-Ok-reserve_ahead.ahead)
       (sym (ap (λ (r : Opened). r.dataset) (c.keeping.ensures ∙ c.find_reduced.ensures.same)))
-      (subst (λ (s : Scale). IsReduction (holding c.in-Ok.reader.dataset s c.duplicate-2.result c.in-Ok-of.jobs 0 0 c.in-Ok-reserve_frames.frames.items) c.in-Ok-of.jobs c.in-Ok-reserve_frames.frames.items c.in-Ok-reserve_buffer.buffer) (sym c.duplicate.ensures)
-      (subst (λ (s : Scale). IsReduction (holding c.in-Ok.reader.dataset c.args.from.now s c.in-Ok-of.jobs 0 0 c.in-Ok-reserve_frames.frames.items) c.in-Ok-of.jobs c.in-Ok-reserve_frames.frames.items c.in-Ok-reserve_buffer.buffer) (sym c.duplicate-2.ensures)
+      (subst (λ (s : Scale). IsReduction (holding c.in-Ok.reader.dataset s c.duplicate-2.result c.in-Ok-of.jobs 0 0 c.in-Ok-reserve_frames.frames.items) c.in-Ok-of.jobs c.in-Ok-reserve_frames.frames.items c.in-Ok-reserve_buffer.buffer c.in-Ok-reserve_ahead.ahead) (sym c.duplicate.ensures)
+      (subst (λ (s : Scale). IsReduction (holding c.in-Ok.reader.dataset c.args.from.now s c.in-Ok-of.jobs 0 0 c.in-Ok-reserve_frames.frames.items) c.in-Ok-of.jobs c.in-Ok-reserve_frames.frames.items c.in-Ok-reserve_buffer.buffer c.in-Ok-reserve_ahead.ahead) (sym c.duplicate-2.ensures)
       (record {
         next = c.requires.next;
         held = held_new c.in-Ok.reader.dataset c.args.from.now c.args.to.now c.in-Ok-find_reduced.cells.items c.in-Ok-of.jobs c.in-Ok-reserve_frames.frames.items c.in-Ok-find_reduced.ensures.order.each c.in-Ok-of.ensures.jobs
             (omega (arith, c.in-Ok-reserve_frames.ensures.count, c.min.ensures, c.window.ensures, c.len.ensures)) c.in-Ok-reserve_frames.ensures.each;
         room = c.in-Ok-reserve_buffer.ensures.room;
+        room_ahead = c.in-Ok-reserve_ahead.ensures.room;
       }))),
 )
 

@@ -9,7 +9,7 @@ use Rattle.copier.proofs.HeldSteps.{frame_long, ready_facts, ready_is}
 use Rattle.reducer.proofs.reducer.ReducerChunks.fill.Goals as goal
 
 pub index-frame-requires : goal.index-frame-requires
-index-frame-requires c =
+index-frame-requires g c =
     let h : Held = holding c.self.inside.reader.opened.dataset c.self.inside.from c.self.inside.to c.self.inside.jobs c.self.inside.first c.self.inside.count c.self.inside.frames.items in
     let some : IsSomeAnd (ready_of h c.args.job) (λ b. length b ≡ length c.args.raw.now) = subst (λ (x : Reduction). IsSomeAnd (ready_of x.held c.args.job) (λ b. length b ≡ length c.args.raw.now)) (sym c.self.view_is) c.requires in
     let facts : (h.first ≤ c.args.job) × (c.args.job < h.first + h.count) × (raw_size h.to (cell_of (cells_of h) c.args.job) ≡ length c.args.raw.now) = ready_facts h c.args.job (length c.args.raw.now) some in
@@ -21,7 +21,7 @@ index-frame-requires c =
     omega (arith, low, high, ok, within, all)
 
 pub slice_bounds-copy_from_slice-end : goal.slice_bounds-copy_from_slice-end
-slice_bounds-copy_from_slice-end c =
+slice_bounds-copy_from_slice-end g c =
     let h : Held = holding c.self.inside.reader.opened.dataset c.self.inside.from c.self.inside.to c.self.inside.jobs c.self.inside.first c.self.inside.count c.self.inside.frames.items in
     let some : IsSomeAnd (ready_of h c.args.job) (λ b. length b ≡ length c.args.raw.now) = subst (λ (x : Reduction). IsSomeAnd (ready_of x.held c.args.job) (λ b. length b ≡ length c.args.raw.now)) (sym c.self.view_is) c.requires in
     let facts : (h.first ≤ c.args.job) × (c.args.job < h.first + h.count) × (raw_size h.to (cell_of (cells_of h) c.args.job) ≡ length c.args.raw.now) = ready_facts h c.args.job (length c.args.raw.now) some in
@@ -35,7 +35,7 @@ slice_bounds-copy_from_slice-end c =
     omega (arith, long, length-take (length c.args.raw.now) c.deref.result.now)
 
 pub copy_from_slice-requires : goal.copy_from_slice-requires
-copy_from_slice-requires c =
+copy_from_slice-requires g c =
     let h : Held = holding c.self.inside.reader.opened.dataset c.self.inside.from c.self.inside.to c.self.inside.jobs c.self.inside.first c.self.inside.count c.self.inside.frames.items in
     let some : IsSomeAnd (ready_of h c.args.job) (λ b. length b ≡ length c.args.raw.now) = subst (λ (x : Reduction). IsSomeAnd (ready_of x.held c.args.job) (λ b. length b ≡ length c.args.raw.now)) (sym c.self.view_is) c.requires in
     let facts : (h.first ≤ c.args.job) × (c.args.job < h.first + h.count) × (raw_size h.to (cell_of (cells_of h) c.args.job) ≡ length c.args.raw.now) = ready_facts h c.args.job (length c.args.raw.now) some in
@@ -49,7 +49,7 @@ copy_from_slice-requires c =
     omega (arith, long, length-take (length c.args.raw.now) c.deref.result.now)
 
 pub returns : goal.returns
-returns c =
+returns g c =
     let h : Held = holding c.self.inside.reader.opened.dataset c.self.inside.from c.self.inside.to c.self.inside.jobs c.self.inside.first c.self.inside.count c.self.inside.frames.items in
     let some : IsSomeAnd (ready_of h c.args.job) (λ b. length b ≡ length c.args.raw.now) = subst (λ (x : Reduction). IsSomeAnd (ready_of x.held c.args.job) (λ b. length b ≡ length c.args.raw.now)) (sym c.self.view_is) c.requires in
     let facts : (h.first ≤ c.args.job) × (c.args.job < h.first + h.count) × (raw_size h.to (cell_of (cells_of h) c.args.job) ≡ length c.args.raw.now) = ready_facts h c.args.job (length c.args.raw.now) some in

@@ -51,7 +51,7 @@ invariant_of-self g c =
     let all = length-map c.self.inside.frames.items (λ f. f.items) in (
       ap (λ (r : Opened). r.scale) c.reduce_jobs.ensures.same ∙ c.self.invariant.0,
       subst (λ (d : List ℕ). IsReduction (holding d c.self.inside.from c.self.inside.to c.self.inside.jobs c.args.from (c.args.to - c.args.from) (with_items c.self.inside.frames c.reduce_jobs.new.frames).items) c.self.inside.jobs
-          (with_items c.self.inside.frames c.reduce_jobs.new.frames).items c.reduce_jobs.new.buffer)
+          (with_items c.self.inside.frames c.reduce_jobs.new.frames).items c.reduce_jobs.new.buffer c.reduce_jobs.new.ahead)
           (sym (ap (λ (r : Opened). r.dataset) c.reduce_jobs.ensures.same))
           (record {
             next = c.self.invariant.1.next;
@@ -60,6 +60,7 @@ invariant_of-self g c =
                 (c.reduce_jobs.ensures.frames ∙ ap length c.deref_mut.ensures.value)
                 (omega (arith, view, window, room, all, c.requires.within, c.requires.window)) c.in-Ok.ensures.filled c.reduce_jobs.ensures.each;
             room = c.reduce_jobs.ensures.room;
+            room_ahead = c.reduce_jobs.ensures.ahead;
           }),
     )
 
@@ -68,7 +69,7 @@ invariant_of-self-in-Err g c =
     let h : Held = holding c.self.inside.reader.opened.dataset c.self.inside.from c.self.inside.to c.self.inside.jobs c.self.inside.first c.self.inside.count c.self.inside.frames.items in (
       ap (λ (r : Opened). r.scale) c.reduce_jobs.ensures.same ∙ c.self.invariant.0,
       subst (λ (d : List ℕ). IsReduction (holding d c.self.inside.from c.self.inside.to c.self.inside.jobs c.self.inside.first 0 (with_items c.self.inside.frames c.reduce_jobs.new.frames).items) c.self.inside.jobs
-          (with_items c.self.inside.frames c.reduce_jobs.new.frames).items c.reduce_jobs.new.buffer)
+          (with_items c.self.inside.frames c.reduce_jobs.new.frames).items c.reduce_jobs.new.buffer c.reduce_jobs.new.ahead)
           (sym (ap (λ (r : Opened). r.dataset) c.reduce_jobs.ensures.same))
           (record {
             next = c.self.invariant.1.next;
@@ -76,6 +77,7 @@ invariant_of-self-in-Err g c =
                 held_again h c.self.inside.jobs c.self.inside.first 0 c.self.inside.frames.items c.self.inside.frames c.reduce_jobs.new.frames c.self.invariant.1.held refl
                 (c.reduce_jobs.ensures.frames ∙ ap length c.deref_mut.ensures.value) (omega arith) (λ k l. absurd (omega (arith, l))) c.reduce_jobs.ensures.each;
             room = c.reduce_jobs.ensures.room;
+            room_ahead = c.reduce_jobs.ensures.ahead;
           }),
     )
 

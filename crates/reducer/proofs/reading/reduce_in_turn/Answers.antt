@@ -12,7 +12,7 @@ use Rattle.copier.specs.Held.{AreFilled, AreRead}
 use Rattle.reducer.specs.Reading.{ReadsReduced, reductions_of}
 use Rattle.copier.proofs.FrameSteps.{filled_more, holds_set, read_failed, read_more, read_none}
 use Rattle.copier.proofs.JobSteps.{job_cell_at}
-use Rattle.reducer.proofs.reading.reduce_jobs.Goals as goal
+use Rattle.reducer.proofs.reading.reduce_in_turn.Goals as goal
 
 pub reduce_frame-requires-clause-source : goal.reduce_frame-requires-clause-source
 reduce_frame-requires-clause-source g c = ap (λ (r : Opened). r.scale) c.loop-k.invariant.same ∙ c.requires.source
@@ -39,7 +39,7 @@ loop-k-preserved g c =
     let number : c.args.first + c.loop-k.k < length c.args.jobs.now = omega (arith, c.requires.within, c.loop-k-test.true) in
     let here : c.get.result.cell ≡ cell_of (cells_in c.args.jobs.now) (c.args.first + c.loop-k.k) = ap (λ job. job.cell) c.get.ensures ∙ job_cell_at c.args.jobs.now (c.args.first + c.loop-k.k) number in
     record {
-      filled = filled_more c.args.to.now c.loop-k.frames c.loop-k.k _ inside c.loop-k.invariant.filled c.reduce_frame.ensures.filled;
+      filled = filled_more c.args.to.now c.loop-k.frames c.loop-k.k _ inside c.loop-k.invariant.filled c.in-Ok.ensures.filled;
       each = holds_set c.args.to.now c.loop-k.frames c.loop-k.k _ c.loop-k.invariant.each c.reduce_frame.ensures.holds;
       room = c.reduce_frame.ensures.room;
       frames = length-set c.loop-k.frames c.loop-k.k _ ∙ c.loop-k.invariant.frames;
