@@ -1,27 +1,29 @@
 -- How serving ends.
-use Rattle.std.proofs.Common.{◌≡◌, ◌≢◌, ◌<◌, ◌≤◌, ◌+◌, ◌-◌, ℕ, List, [], Bool, true, false, inl, inr, refl, sym, ap, subst, arith, rules}
-use Rattle.std.specs.Prelude.{Option, Some, None, IfSome, All, sum, nat_lt, if◌then◌else◌}
+use Rattle.std.proofs.Common.{◌≡◌, ◌<◌, ◌≤◌, ◌+◌, ◌-◌, ℕ, List, [], Bool, true, false, inr, refl, sym, ap, subst, arith, rules}
+use Rattle.std.specs.Prelude.{Option, Some, None, IfSome, sum, nat_lt, if◌then◌else◌}
 use Rattle.vol_base.specs.Causes.{Rose}
 use Rattle.vol_base.specs.Outside.{Objects}
-use Rattle.range_server.specs.Serving.{AtMostBroken}
 use Rattle.hall.specs.declared.outcome.HallEnd.TheVariants as ended
-use Rattle.hall.specs.Halls.{Accepts, EachServed, FewBroken, HasExactly, IsServed, Numbered, PaidBy, WhereAllTell, end_by, ends_of, numbers_of}
-use Rattle.hall.proofs.Sums.{broken_le}
+use Rattle.hall.specs.Halls.{Accepts, AllSoundBut, EachServed, HasExactly, Numbered, PaidBy, WhereAllTell, end_by, ends_of, is_short, numbers_of}
 
 pub accepts : (ran failed : Bool) (n accepted given now : ℕ) → now ≡ accepted + given → given ≤ n → (failed ≡ true → given < n) → (failed ≡ false → given ≡ n) → Accepts (end_by ran failed) n (now - accepted)
 accepts true failed n accepted given now is most fewer all = omega (arith, is, most)
 accepts false true n accepted given now is most fewer all = omega (arith, is, fewer refl)
 accepts false false n accepted given now is most fewer all = omega (arith, is, all refl)
 
-pub few_broken : (ran failed : Bool) (told : List (Option Objects)) (dataset : List ℕ) (served : Option (List Numbered)) (before now : List ℕ) (k : ℕ) → end_by ran failed ≢ ended.OutOfMemory → PaidBy before now k
-    → (ran ≡ false → WhereAllTell told (λ m. IfSome served (λ list. AtMostBroken m dataset (ends_of list) k))) → FewBroken told dataset served before now
-few_broken true failed told dataset served before now k other paid few = absurd (other refl)
-few_broken false failed told dataset served before now k other (inl full) few = inl full
-few_broken false failed told dataset served before now k other (inr sums) few = inr (λ m all. by m served (few refl m all))
+pub short_by : (ran failed : Bool) → is_short (end_by ran failed) ≡ ran
+short_by true failed = refl
+short_by false true = refl
+short_by false false = refl
+
+pub each_by : (ran failed : Bool) (told : List (Option Objects)) (dataset : List ℕ) (served : Option (List Numbered)) (before now : List ℕ) (k : ℕ) → PaidBy before now k
+    → WhereAllTell told (λ m. IfSome served (λ list. AllSoundBut m dataset ran (ends_of list) k)) → EachServed told dataset (is_short (end_by ran failed)) served before now
+each_by ran failed told dataset served before now k paid each = λ m all. by m served (each m all)
   where
-    by : (m : Objects) (noted : Option (List Numbered)) → IfSome noted (λ list. AtMostBroken m dataset (ends_of list) k) → IfSome noted (λ list. AtMostBroken m dataset (ends_of list) (sum now - sum before))
+    by : (m : Objects) (noted : Option (List Numbered)) → IfSome noted (λ list. AllSoundBut m dataset ran (ends_of list) k)
+        → IfSome noted (λ list. (k : ℕ) × PaidBy before now k × AllSoundBut m dataset (is_short (end_by ran failed)) (ends_of list) k)
     by m None h = tt
-    by m (Some list) h = broken_le m dataset (ends_of list) k (sum now - sum before) (omega (arith, sums)) h
+    by m (Some list) h = (k, paid, subst (λ short. AllSoundBut m dataset short (ends_of list) k) (sym (short_by ran failed)) h)
 
 pub rose_by : (ran failed : Bool) (before now : ℕ) → (failed ≡ true → Rose before now) → end_by ran failed ≡ ended.DoorFault → Rose before now
 rose_by true failed before now rose is = absurd (cc is)
@@ -41,6 +43,7 @@ pub exactly_none : (served : Option (List Numbered)) (k : ℕ) → IfSome served
 exactly_none None k none is = tt
 exactly_none (Some list) k none is = subst (λ xs. HasExactly k (numbers_of xs)) (sym none) (subst (λ n. HasExactly n []) (sym is) (λ number. let no : nat_lt number 0 ≡ false = search (rules, none_below number) in sym (ap (λ (b : Bool). if b then 1 else 0) no)))
 
-pub each_none : (told : List (Option Objects)) (dataset : List ℕ) (served : Option (List Numbered)) → IfSome served (λ list. list ≡ []) → EachServed told dataset served
-each_none told dataset None none m all = tt
-each_none told dataset (Some list) none m all = subst (λ xs. All (λ end. IsServed m dataset end) (ends_of xs)) (sym none) (λ k d l. absurd (omega (arith, l)))
+pub each_none : (told : List (Option Objects)) (dataset : List ℕ) (short : Bool) (served : Option (List Numbered)) (before now : List ℕ) → IfSome served (λ list. list ≡ []) → now ≡ before → EachServed told dataset short served before now
+each_none told dataset short None before now none same m all = tt
+each_none told dataset short (Some list) before now none same m all =
+    (0, inr (omega (arith, ap sum same)), subst (λ xs. AllSoundBut m dataset short (ends_of xs) 0) (sym none) tt)

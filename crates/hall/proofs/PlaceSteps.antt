@@ -84,6 +84,7 @@ pub rested_none : (told : List (Option Objects)) (counts : List ℕ) (i number :
 rested_none told counts i number job kept o now parts amount idle = record {
   out = ap some_count idle.out ∙ sym (ap kept_count idle.back);
   store = idle.store;
+  later = omega (arith, idle.stands);
   paid = inr (omega (arith, idle.stands, idle.none, ap kept_weight idle.back));
   part = idle.part;
 }

@@ -1,14 +1,12 @@
 -- Counts of stores and of entries that were cut, added up.
-use Rattle.std.proofs.Common.{take, ◌≡◌, ◌<◌, ◌≤◌, ◌+◌, ◌-◌, ℕ, List, [], ◌∷◌, ◌++◌, length, get_or, map, inl, inr, refl, sym, ap, ◌∙◌, subst, arith}
+use Rattle.std.proofs.Common.{take, ◌≡◌, ◌<◌, ◌≤◌, ◌+◌, ℕ, List, [], ◌∷◌, ◌++◌, length, get_or, map, inl, inr, refl, sym, ap, ◌∙◌, subst, arith}
 use Rattle.std.specs.Prelude.{Contains, sum}
 use Rattle.std.proofs.lemmas.Bool.{cases_lt}
 use Rattle.std.proofs.lemmas.List.{get_or_append_left, length-append, map-append, take_more}
 use Rattle.std.proofs.lemmas.List.Sums.{sum_by-append}
 use Rattle.vol_base.specs.Causes.{most_count}
-use Rattle.vol_base.specs.Outside.{Ended, Objects}
-use Rattle.range_server.specs.Serving.{AtMostBroken}
 use Rattle.hall.specs.declared.outcome.Outcome.{Outcome}
-use Rattle.hall.specs.Halls.{Paid, PaidBy, cut_weight, owed}
+use Rattle.hall.specs.Halls.{NoneFell, Paid, PaidBy, cut_weight, owed}
 
 pub owed-push : (outcomes : List Outcome) (outcome : Outcome) → owed (outcomes ++ outcome ∷ []) ≡ owed outcomes + cut_weight outcome
 owed-push [] outcome = omega arith
@@ -57,9 +55,27 @@ paid_last before now was n k c most (inl has) (inr paid) = elim (cases_lt has.0 
       inl (contains_last now n most_count (omega (arith, most, paid, full)))
 ]
 
-module _ (m : Objects) (dataset : List ℕ) where
-  -- at most so many are at most more
-  pub broken_le : (ends : List Ended) (k n : ℕ) → k ≤ n → AtMostBroken m dataset ends k → AtMostBroken m dataset ends n
-  broken_le [] k n most few = tt
-  broken_le (x ∷ xs) k n most (inl h) = inl (h.0, broken_le xs k n most h.1)
-  broken_le (x ∷ xs) k n most (inr h) = inr (n - 1, omega (arith, most, h.1), broken_le xs h.0 (n - 1) (omega (arith, most, h.1)) h.2)
+-- one count more, which didn't fall
+none_more : (before now : List ℕ) (b n : ℕ) → NoneFell before now → b ≤ n → NoneFell (before ++ b ∷ []) (now ++ n ∷ [])
+none_more [] [] b n none le = (le, tt)
+none_more [] (y ∷ ys) b n none le = absurd none
+none_more (x ∷ xs) [] b n none le = absurd none
+none_more (x ∷ xs) (y ∷ ys) b n none le = (none.0, none_more xs ys b n none.1 le)
+
+-- the same of the stores before a place
+pub none_step : (counts before now : List ℕ) (i n : ℕ) → i < length counts → NoneFell (take i counts) before → get_or counts i 0 ≤ n → now ≡ before ++ n ∷ [] → NoneFell (take (i + 1) counts) now
+none_step counts before now i n below none le is =
+    subst (NoneFell (take (i + 1) counts)) (sym is)
+    (subst (λ cs. NoneFell cs (before ++ n ∷ [])) (sym (take_more counts i 0 below)) (none_more (take i counts) before (get_or counts i 0) n none le))
+
+-- the last one rose further
+pub none_last : (before now : List ℕ) (was n : ℕ) → NoneFell before (now ++ was ∷ []) → was ≤ n → NoneFell before (now ++ n ∷ [])
+none_last [] [] was n none le = absurd none
+none_last [] (y ∷ ys) was n none le = absurd none
+none_last (x ∷ xs) [] was n none le = (omega (arith, none.0, le), none.1)
+none_last (x ∷ xs) (y ∷ ys) was n none le = (none.0, none_last xs ys was n none.1 le)
+
+-- counts that stand
+pub none_stands : (counts : List ℕ) → NoneFell counts counts
+none_stands [] = tt
+none_stands (x ∷ xs) = (omega arith, none_stands xs)

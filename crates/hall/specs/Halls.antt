@@ -1,13 +1,13 @@
 -- Connections that are served several at once (this project's).
-use Rattle.std.specs.Prelude.{Result, Ok, Err, ◌≡◌, ◌<◌, ◌≤◌, ◌+◌, ◌-◌, ◌⊎◌, ℕ, Bool, true, false, List, [], ◌∷◌, ◌++◌, All, Contains, map, sum, Option, Some, None, IfSome, IsSome, if◌then◌else◌, nat_lt, slice_index_or}
+use Rattle.std.specs.Prelude.{Result, Ok, Err, ◌≡◌, ◌<◌, ◌≤◌, ◌+◌, ◌⊎◌, ℕ, Bool, true, false, List, [], ◌∷◌, ◌++◌, All, Contains, map, sum, Option, Some, None, IfSome, IsSome, if◌then◌else◌, nat_lt, slice_index_or}
 use Rattle.job_log.specs.Onces.{one_if}
 use Rattle.job_log.specs.Replay.{some_count}
 use Rattle.vol_base.specs.Causes.{Rose, most_count}
 use Rattle.vol_base.specs.Outside.{Ended, Objects}
 use Rattle.job_log.specs.declared.stages.Event.{Event}
 use Rattle.job_log.specs.declared.stages.Event.TheVariants.{Claim, Deposit}
-use Rattle.range_server.specs.Replies.{Stopped}
-use Rattle.range_server.specs.Serving.{AtMostBroken, EndServed, IsWhole}
+use Rattle.range_server.specs.Replies.{ServedIn, Stopped}
+use Rattle.range_server.specs.Serving.{IsWhole}
 use Rattle.range_server.specs.declared.fault.ServeFault.{ServeFault}
 use Rattle.range_server.specs.declared.fault.ServeFault.TheVariants.{LinkFault, OutOfMemory, StoreFault}
 use Rattle.range_server.specs.declared.reply.Ending.{Ending}
@@ -53,17 +53,33 @@ Closes served number stream sent faults noted =
     × (stream ≡ Some s) × (sent ≡ Some o) × (now ≡ list ++ (number, (s, o, faults)) ∷ []))
 
 module _ (m : Objects) (dataset : List ℕ) where
-  -- an end that was served while some store's count went from one number to another: whole, or cut by its link, the store or want
-  -- of memory
-  abbrev pub IsServed : Ended → Type 0
-  IsServed end = (before : ℕ) × (now : ℕ) ×
-      (EndServed m dataset before now end ⊎ Stopped m dataset before now OutOfMemory end.0 end.1)
+  -- an end that got its replies; or its own link failed, and it got a front of them
+  abbrev pub IsSound : Ended → Type 0
+  IsSound end = IsWhole m dataset end ⊎ ((0 < end.2) × Stopped m dataset 0 0 LinkFault end.0 end.1)
+
+  -- an end whose store failed: it got whole first replies, and then that the store failed, or a front of this where its own link
+  -- failed too; or the whole head of the next reply, and not all of its body
+  abbrev pub IsFailed : Ended → Type 0
+  IsFailed end = ServedIn m dataset ending.Failed end.0 end.1
+      ⊎ ((0 < end.2) × Stopped m dataset 0 1 LinkFault end.0 end.1)
+      ⊎ Stopped m dataset 0 0 StoreFault end.0 end.1
+
+  -- an end amid which memory ran out: it got whole first replies
+  abbrev pub RanShort : Ended → Type 0
+  RanShort end = Stopped m dataset 0 0 OutOfMemory end.0 end.1
 
   -- what an end's outcome says of it
   abbrev pub FitsOutcome : Outcome → Ended → Type 0
-  FitsOutcome Whole end = IsServed end × (IsWhole m dataset end ⊎ (0 < end.2))
-  FitsOutcome StoreCut end = IsServed end
-  FitsOutcome MemoryCut end = Stopped m dataset 0 0 OutOfMemory end.0 end.1
+  FitsOutcome Whole end = IsSound end
+  FitsOutcome StoreCut end = IsFailed end
+  FitsOutcome MemoryCut end = RanShort end
+
+  -- each end is sound, or, where memory ran out amid some, ran short of it; but for at most so many, whose store failed
+  abbrev pub AllSoundBut : Bool → List Ended → ℕ → Type 0
+  AllSoundBut short [] k = Unit {0}
+  AllSoundBut short (end ∷ ends) k =
+      ((IsSound end ⊎ ((short ≡ true) × RanShort end)) × AllSoundBut short ends k)
+      ⊎ (IsFailed end × (j : ℕ) × (j + 1 ≡ k) × AllSoundBut short ends j)
 
 -- the same of an end that may not be told
 abbrev pub Fits : List (Option Objects) → List ℕ → Outcome → Option (List ℕ) → Option (List ℕ) → ℕ → Type 0
@@ -71,13 +87,15 @@ Fits told dataset outcome stream sent faults =
     WhereAllTell told (λ m. (s o : List ℕ) → stream ≡ Some s → sent ≡ Some o →
     FitsOutcome m dataset outcome (s, o, faults))
 
--- the outcome of a connection, by how it was served: one that its own link cut is none of the store's
-abbrev pub outcome_of : Result Ending ServeFault → Outcome
-outcome_of (Ok ending.Whole) = Whole
-outcome_of (Ok ending.Failed) = StoreCut
-outcome_of (Err LinkFault) = Whole
-outcome_of (Err StoreFault) = StoreCut
-outcome_of (Err OutOfMemory) = MemoryCut
+-- the outcome of a connection, by how it was served and whether the reply was begun that says that the store failed: one that its own
+-- link cut is none of the store's, but amid that reply
+abbrev pub outcome_of : Result Ending ServeFault → Bool → Outcome
+outcome_of (Ok ending.Whole) failing = Whole
+outcome_of (Ok ending.Failed) failing = StoreCut
+outcome_of (Err LinkFault) false = Whole
+outcome_of (Err LinkFault) true = StoreCut
+outcome_of (Err StoreFault) failing = StoreCut
+outcome_of (Err OutOfMemory) failing = MemoryCut
 
 abbrev pub cut_weight : Outcome → ℕ
 cut_weight Whole = 0
@@ -95,14 +113,12 @@ pub record View : Type 0 where
   pub served : Option (List Numbered)
   pub ran_out : Bool
 
--- what was noted has exactly the numbers that are done, in the log's order; each end was served; and where memory was there, at
--- most so many are broken though their links didn't fail
+-- what was noted has exactly the numbers that are done, in the log's order; and of the ends at most so many met a fault of their
+-- store, while the others are sound, or where the flag says so ran short of memory
 pub record IsHall (told : List (Option Objects)) (dataset : List ℕ) (view : View) (cuts : ℕ) : Type 0 where
   pub numbers : IfSome view.served (λ list. numbers_of list ≡ deposited view.log)
   pub each : WhereAllTell told (λ m.
-      IfSome view.served (λ list. All (λ end. IsServed m dataset end) (ends_of list)))
-  pub few : view.ran_out ≡ false → WhereAllTell told (λ m.
-      IfSome view.served (λ list. AtMostBroken m dataset (ends_of list) cuts))
+      IfSome view.served (λ list. AllSoundBut m dataset view.ran_out (ends_of list) cuts))
 
 -- what an entrance is seen as: how many ends it gave since it listened, whether an accept failed, and its count of faults
 pub record Gone : Type 0 where
@@ -132,6 +148,13 @@ Paid before now cuts = (most_count ≤ now) ⊎ (before + cuts ≤ now)
 abbrev pub PaidBy : List ℕ → List ℕ → ℕ → Type 0
 PaidBy before now cuts = Contains now most_count ⊎ (sum before + cuts ≤ sum now)
 
+-- counts in their places: none of them fell
+abbrev pub NoneFell : List ℕ → List ℕ → Type 0
+NoneFell [] [] = Unit {0}
+NoneFell [] (n ∷ now) = ⊥
+NoneFell (b ∷ before) [] = ⊥
+NoneFell (b ∷ before) (n ∷ now) = (b ≤ n) × NoneFell before now
+
 -- what serving one end leaves of the end and of the store's count
 pub record Turned (told : List (Option Objects)) (dataset : List ℕ) (outcome : Outcome) (stream sent : Option (List ℕ)) (faults before now : ℕ) : Type 0 where
   pub fits : Fits told dataset outcome stream sent faults
@@ -147,7 +170,7 @@ abbrev pub kept_weight : Option Outcome → ℕ
 kept_weight None = 0
 kept_weight (Some outcome) = cut_weight outcome
 
--- of ends that came back, how many were cut by their store alone
+-- of ends that came back, how many met a fault of their store
 abbrev pub owed : List Outcome → ℕ
 owed [] = 0
 owed (outcome ∷ outcomes) = cut_weight outcome + owed outcomes
@@ -169,6 +192,7 @@ pub record IsIdle (told : List (Option Objects)) (counts : List ℕ) (i number :
 pub record IsRested (told : List (Option Objects)) (counts : List ℕ) (i : ℕ) (job : Option ℕ) (kept : Option Outcome) (objects : Option Objects) (faults parts amount : ℕ) : Type 0 where
   pub out : some_count job ≡ kept_count kept
   pub store : objects ≡ slice_index_or told i None
+  pub later : slice_index_or counts i 0 ≤ faults
   pub paid : Paid (slice_index_or counts i 0) faults (amount + kept_weight kept)
   pub part : parts ≡ 1
 
@@ -193,13 +217,15 @@ Accepts ended.All n accepted = accepted ≡ n
 Accepts ended.DoorFault n accepted = accepted < n
 Accepts ended.OutOfMemory n accepted = accepted ≤ n
 
--- where all stores tell the same objects, each end that an exit noted was served from these
-abbrev pub EachServed : List (Option Objects) → List ℕ → Option (List Numbered) → Type 0
-EachServed told dataset served = WhereAllTell told (λ m.
-    IfSome served (λ list. All (λ end. IsServed m dataset end) (ends_of list)))
+-- memory ran out, for the hall or amid some connection
+abbrev pub is_short : HallEnd → Bool
+is_short ended.All = false
+is_short ended.DoorFault = false
+is_short ended.OutOfMemory = true
 
--- of the ends that an exit noted, no more are broken though their links didn't fail than the counts of the stores rose by together; or
--- some store's count is at its end
-abbrev pub FewBroken : List (Option Objects) → List ℕ → Option (List Numbered) → List ℕ → List ℕ → Type 0
-FewBroken told dataset served before now = Contains now most_count ⊎ WhereAllTell told (λ m.
-    IfSome served (λ list. AtMostBroken m dataset (ends_of list) (sum now - sum before)))
+-- where all stores tell the same objects: each end that an exit noted got its replies from these, or a front of them where its own
+-- link failed, or whole first ones where memory ran out amid it, if it did; but for at most so many, whose store failed, as the counts
+-- of the stores rose by together, or one of these is at its end
+abbrev pub EachServed : List (Option Objects) → List ℕ → Bool → Option (List Numbered) → List ℕ → List ℕ → Type 0
+EachServed told dataset short served before now = WhereAllTell told (λ m. IfSome served (λ list.
+    (k : ℕ) × PaidBy before now k × AllSoundBut m dataset short (ends_of list) k))

@@ -1,5 +1,5 @@
 //! Several connections at once: seats that accept and serve ends under two locks, an exit that notes them, and counts that tell
-//! how many were cut by a store alone.
+//! how many met a fault of their store.
 #![tactic(auto)]
 
 mod host;

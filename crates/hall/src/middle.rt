@@ -1,8 +1,7 @@
 //! What the seats of a hall share under a lock.
-ghost use Rattle.std.specs.Prelude.{◌≡◌, ◌≢◌, ◌<◌, ◌≤◌, ◌+◌, ◌++◌, ◌∷◌, ◌||◌, [], ℕ, Some, None, All, IfSome, IfNone, false, length};
+ghost use Rattle.std.specs.Prelude.{◌≡◌, ◌≢◌, ◌<◌, ◌≤◌, ◌+◌, ◌++◌, ◌∷◌, ◌||◌, [], ℕ, Some, None, IfSome, IfNone, false, length};
 ghost use Rattle.job_log.specs.Replay.{claim_of, claims_in, deposit_of, out_at, stage_in};
-ghost use Rattle.range_server.specs.Serving.{AtMostBroken};
-ghost use Rattle.hall.specs.Halls.{Fits, HasExactly, IsServed, WhereAllTell, cut_weight, ends_of, numbers_of, sets_flag};
+ghost use Rattle.hall.specs.Halls.{AllSoundBut, Fits, HasExactly, WhereAllTell, cut_weight, ends_of, numbers_of, sets_flag};
 
 use crate::names::{Cuts, Hall, Nexts};
 use crate::outcome::Outcome;
@@ -193,8 +192,8 @@ impl<N: Hall, E: Link, X: Exit<E> + Drop> Middle<N, E, X> {
     }
 
     /// With all seats taken in and nothing out: the exit, and whether some connection met want of memory. What was noted has
-    /// exactly the numbers below those that were given, each once; each end was served; and where memory was there, at most as many
-    /// are broken, though their links didn't fail, as the shares of all seats have together.
+    /// exactly the numbers below those that were given, each once; and at most as many ends met a fault of their store as the shares
+    /// of all seats have together, while the others are sound, or ran short of memory where some connection did.
     pub(crate) fn close(
         self,
         host: &mut Host<N>,
@@ -207,9 +206,7 @@ impl<N: Hall, E: Link, X: Exit<E> + Drop> Middle<N, E, X> {
         requires nexts { nexts.old.parts ≡ 1 }
         ensures exact { IfSome (X.served result.0) (λ list. HasExactly nexts.old.amount (numbers_of list)) }
         ensures each { WhereAllTell N.told (λ m. IfSome (X.served result.0) (λ list.
-            All (λ end. IsServed m N.dataset end) (ends_of list))) }
-        ensures few { result.1 ≡ false → WhereAllTell N.told (λ m. IfSome (X.served result.0) (λ list.
-            AtMostBroken m N.dataset (ends_of list) cuts.old.amount)) }
+            AllSoundBut m N.dataset result.1 (ends_of list) cuts.old.amount)) }
     {
         let Middle {
             mut jobs,

@@ -45,7 +45,7 @@ impl Hall for Brand {
     ghost nexts_name = { 0 };
 }
 
-/// The ledger of a name that counts the ends that were cut by the store alone.
+/// The ledger of a name that counts the ends whose store failed.
 pub struct Cuts<N: Hall> {
     of: PhantomData<N>,
 }

@@ -1,6 +1,6 @@
 //! How connections end, and how serving them does.
 
-/// How a connection ended: whole or by its own link, by the store alone, or by want of memory.
+/// How a connection ended: whole or by its own link, by its store, or by want of memory.
 #[derive(Clone, Copy, Debug, PartialEq, Eq)]
 pub enum Outcome {
     Whole,

@@ -1,6 +1,6 @@
 //! Seats in places of fixed number, each with a store.
 ghost use Rattle.std.specs.Prelude.{◌≡◌, ◌<◌, ◌≤◌, ◌+◌, ◌++◌, ◌∷◌, [], ℕ, List, All, length, map, Some, None, IfSome, IsSome, option_map, slice_index_or, vec_capacity};
-ghost use Rattle.hall.specs.Halls.{Fits, IsIdle, IsRested, PaidBy, TellsAs, kept_count, kept_weight, owed};
+ghost use Rattle.hall.specs.Halls.{Fits, IsIdle, IsRested, NoneFell, PaidBy, TellsAs, kept_count, kept_weight, owed};
 
 use crate::middle::Middle;
 use crate::names::{Cuts, Hall, Order};
@@ -227,8 +227,8 @@ fn take_place<N: Hall, E: Link + Drop, S: Source + Drop>(
     put_kept(host, left, kept);
 }
 
-// Takes all places in. Each store comes back to its place in the list, and together their counts rose by as many as the
-// shares and the ends that came back stand for.
+// Takes all places in. Each store comes back to its place in the list, with a count that didn't fall, and together they rose by
+// as many as the shares and the ends that came back stand for.
 fn take_all<N: Hall, E: Link + Drop, S: Source + Drop>(
     host: &mut Host<N>,
     all: &mut Share<Cuts<N>>,
@@ -256,6 +256,7 @@ fn take_all<N: Hall, E: Link + Drop, S: Source + Drop>(
     ensures told { map S.objects stores.new.items ≡ N.told }
     ensures paid { PaidBy N.counts (map S.faults stores.new.items)
         (all.new.amount + owed (map (λ k. k.outcome) left.new.items)) }
+    ensures later { NoneFell N.counts (map S.faults stores.new.items) }
     ensures room { vec_capacity stores.old ≤ vec_capacity stores.new }
     ensures left { All (λ k. Fits N.told N.dataset k.outcome (E.stream k.end) (E.sent k.end) (E.faults k.end))
         left.new.items }
@@ -355,6 +356,7 @@ where
     ensures told { map S.objects stores.new.items ≡ N.told }
     ensures paid { PaidBy N.counts (map S.faults stores.new.items)
         (all.new.amount + owed (map (λ k. k.outcome) left.new.items)) }
+    ensures later { NoneFell N.counts (map S.faults stores.new.items) }
     ensures left { All (λ k. Fits N.told N.dataset k.outcome (D.End.stream k.end) (D.End.sent k.end)
         (D.End.faults k.end)) left.new.items }
 {

@@ -1,7 +1,7 @@
 //! A hall from its first accept to its last close.
-ghost use Rattle.std.specs.Prelude.{◌≡◌, ◌≢◌, ◌<◌, ◌≤◌, ◌+◌, ◌-◌, [], ℕ, List, All, IfOk, IfSome, IsSome, Some, None, false, true, length, map, sum, vec_capacity};
+ghost use Rattle.std.specs.Prelude.{◌≡◌, ◌<◌, ◌≤◌, ◌+◌, ◌-◌, [], ℕ, List, All, IfOk, IfSome, IsSome, Some, None, false, true, length, map, sum, vec_capacity};
 ghost use Rattle.vol_base.specs.Causes.{Rose};
-ghost use Rattle.hall.specs.Halls.{Accepts, EachServed, FewBroken, HasExactly, PaidBy, end_by, numbers_of};
+ghost use Rattle.hall.specs.Halls.{Accepts, EachServed, HasExactly, NoneFell, PaidBy, end_by, is_short, numbers_of};
 
 use crate::middle::Middle;
 use crate::names::{Cuts, Hall, Nexts, Order};
@@ -117,11 +117,13 @@ fn run_alone<N: Hall, D: Entrance + Drop, X: Exit<D::End> + Drop, S: Source + Dr
     requires cuts { all.old.parts ≡ 17 }
     requires told { map S.objects stores.old.items ≡ N.told }
     requires paid { PaidBy N.counts (map S.faults stores.old.items) all.old.amount }
+    requires later { NoneFell N.counts (map S.faults stores.old.items) }
     ensures parts { host.new.parts ≡ 17 }
     ensures outs { host.new.outs ≡ 0 }
     ensures cuts { all.new.parts ≡ 17 }
     ensures told { map S.objects stores.new.items ≡ N.told }
     ensures paid { PaidBy N.counts (map S.faults stores.new.items) all.new.amount }
+    ensures later { NoneFell N.counts (map S.faults stores.new.items) }
     ensures over { porch.new.failed ≡ false → porch.new.given ≡ N.jobs }
 {
     let Some(mut store) = stores.pop() else {
@@ -150,15 +152,16 @@ fn close_hall<N: Hall, D: Entrance + Drop, X: Exit<D::End> + Drop, S: Source + D
     requires cuts { all.old.parts ≡ N.parts }
     requires told { map S.objects stores.items ≡ N.told }
     requires paid { PaidBy N.counts (map S.faults stores.items) all.old.amount }
+    requires later { NoneFell N.counts (map S.faults stores.items) }
     requires over { porch.failed ≡ false → porch.given ≡ N.jobs }
     ensures bound { D.bound result.entrance ≡ N.bound }
     ensures exact { IfSome (X.served result.exit) (λ list.
         HasExactly (D.accepted result.entrance - N.accepted) (numbers_of list)) }
     ensures given { Accepts result.end N.jobs (D.accepted result.entrance - N.accepted) }
     ensures more { N.accepted ≤ D.accepted result.entrance }
-    ensures each { EachServed N.told N.dataset (X.served result.exit) }
-    ensures few { result.end ≢ HallEnd.OutOfMemory →
-        FewBroken N.told N.dataset (X.served result.exit) N.counts (map S.faults result.stores.items) }
+    ensures each { EachServed N.told N.dataset (is_short result.end) (X.served result.exit) N.counts
+        (map S.faults result.stores.items) }
+    ensures stores_later { NoneFell N.counts (map S.faults result.stores.items) }
     ensures told { map S.objects result.stores.items ≡ N.told }
     ensures later { N.count ≤ D.faults result.entrance }
     ensures rose { result.end ≡ HallEnd.DoorFault → Rose N.count (D.faults result.entrance) }
@@ -214,9 +217,9 @@ where
         HasExactly (D.accepted result.entrance - N.accepted) (numbers_of list)) }
     ensures given { Accepts result.end N.jobs (D.accepted result.entrance - N.accepted) }
     ensures more { N.accepted ≤ D.accepted result.entrance }
-    ensures each { EachServed N.told N.dataset (X.served result.exit) }
-    ensures few { result.end ≢ HallEnd.OutOfMemory →
-        FewBroken N.told N.dataset (X.served result.exit) N.counts (map S.faults result.stores.items) }
+    ensures each { EachServed N.told N.dataset (is_short result.end) (X.served result.exit) N.counts
+        (map S.faults result.stores.items) }
+    ensures stores_later { NoneFell N.counts (map S.faults result.stores.items) }
     ensures told { map S.objects result.stores.items ≡ N.told }
     ensures later { N.count ≤ D.faults result.entrance }
     ensures rose { result.end ≡ HallEnd.DoorFault → Rose N.count (D.faults result.entrance) }
@@ -304,9 +307,9 @@ where
         HasExactly (D.accepted result.entrance - N.accepted) (numbers_of list)) }
     ensures given { Accepts result.end N.jobs (D.accepted result.entrance - N.accepted) }
     ensures more { N.accepted ≤ D.accepted result.entrance }
-    ensures each { EachServed N.told N.dataset (X.served result.exit) }
-    ensures few { result.end ≢ HallEnd.OutOfMemory →
-        FewBroken N.told N.dataset (X.served result.exit) N.counts (map S.faults result.stores.items) }
+    ensures each { EachServed N.told N.dataset (is_short result.end) (X.served result.exit) N.counts
+        (map S.faults result.stores.items) }
+    ensures stores_later { NoneFell N.counts (map S.faults result.stores.items) }
     ensures told { map S.objects result.stores.items ≡ N.told }
     ensures later { N.count ≤ D.faults result.entrance }
     ensures rose { result.end ≡ HallEnd.DoorFault → Rose N.count (D.faults result.entrance) }
@@ -353,7 +356,8 @@ where
 }
 
 /// Serves the objects of a data set to so many ends of an entrance that listens, from 16 stores, by so many seats at once, each in
-/// a thread of its own where one can be made. Each end that was accepted goes to the exit, with its number.
+/// a thread of its own where one can be made. Each end that was accepted goes to the exit, with its number. Where one didn't get
+/// all its replies, its own link failed, or its store, whose count then rose for it alone, or memory ran out amid it.
 pub fn run_hall<
     R,
     D: Entrance + Drop + Send,
@@ -384,9 +388,9 @@ where
         HasExactly (D.accepted result.entrance - D.accepted entrance) (numbers_of list)) }
     ensures given { Accepts result.end total (D.accepted result.entrance - D.accepted entrance) }
     ensures more { D.accepted entrance ≤ D.accepted result.entrance }
-    ensures each { EachServed (map S.objects stores.items) dataset.now (X.served result.exit) }
-    ensures few { result.end ≢ HallEnd.OutOfMemory → FewBroken (map S.objects stores.items) dataset.now
+    ensures each { EachServed (map S.objects stores.items) dataset.now (is_short result.end)
         (X.served result.exit) (map S.faults stores.items) (map S.faults result.stores.items) }
+    ensures stores_later { NoneFell (map S.faults stores.items) (map S.faults result.stores.items) }
     ensures kept { map S.objects result.stores.items ≡ map S.objects stores.items }
     ensures later { D.faults entrance ≤ D.faults result.entrance }
     ensures rose { result.end ≡ HallEnd.DoorFault → Rose (D.faults entrance) (D.faults result.entrance) }

@@ -111,6 +111,7 @@ pub(crate) fn finish_alone<N: Hall, D: Entrance + Drop, X: Exit<D::End> + Drop, 
     ensures part { cuts.new.parts ≡ 1 }
     ensures over { porch.new.failed ≡ false → porch.new.given ≡ N.jobs }
     ensures paid { Paid (S.faults store.old) (S.faults store.new) cuts.new.amount }
+    ensures later { S.faults store.old ≤ S.faults store.new }
     ensures objects { S.objects store.new ≡ S.objects store.old }
 {
     while let Some(guest) = porch.enter_alone(middle, seat, order.total) {

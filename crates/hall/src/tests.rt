@@ -26,6 +26,7 @@ const FRONT: &[u8] = b"HTTP/1.1 206 Partial Content\r\nContent-Length: 3\r\nCont
 
 // The numbers of the calls that fail of the entrance, of the first peer's link, of the second's and of each store; then how
 // serving ends, how many ends are closed, how many of them got the whole reply, and what the others got.
+#[derive(Clone, Copy)]
 struct Row<'a> {
     door: &'a [u64],
     first: &'a [u64],
@@ -218,4 +219,156 @@ fn check_all<R: Threads + Wait + Sync + Abort>(
 #[test]
 fn serves_two_peers(rt: HostRuntime) -> Result<(), Fail> {
     check_all(&rt, rt.alloc(), ROWS)
+}
+
+// What was sent to the peer with a number.
+fn sent_to(exit: &MemoryExit, number: u64) -> Option<&[u8]> {
+    for end in exit.served() {
+        if end.0 == number {
+            return Some(end.1.sent());
+        }
+    }
+    None
+}
+
+// More than the calls that are made of an entrance, of a link, or of a store by all peers.
+const MOST_CALLS: u64 = 8;
+
+// What is sent of some bytes where the k-th call of a link fails: the first one receives, and each other one sends 64.
+fn front_of(bytes: &'static [u8], k: u64) -> &'static [u8] {
+    let len = k.saturating_sub(1).saturating_mul(64);
+    &bytes[..len.min(bytes.len() as u64) as usize]
+}
+
+// The k-th call of one peer's link fails: it gets a front of its reply, and the other one the whole.
+fn check_link<R: Threads + Wait + Sync + Abort>(
+    rt: &R,
+    alloc: Global,
+    k: u64,
+    workers: u32,
+) -> Result<(), Fail>
+    requires some { 0 < workers }
+    requires few { workers ≤ 16 }
+{
+    let first = serve(
+        rt,
+        alloc,
+        &Row {
+            first: &[k],
+            ..BOTH
+        },
+        workers,
+    )?;
+    assert!(rt; first.end == HallEnd::All);
+    assert_eq!(rt; sent_to(&first.exit, 0), Some(front_of(PART_REPLY, k)));
+    assert_eq!(rt; sent_to(&first.exit, 1), Some(PART_REPLY));
+    let second = serve(
+        rt,
+        alloc,
+        &Row {
+            second: &[k],
+            ..BOTH
+        },
+        workers,
+    )?;
+    assert!(rt; second.end == HallEnd::All);
+    assert_eq!(rt; sent_to(&second.exit, 0), Some(PART_REPLY));
+    assert_eq!(rt; sent_to(&second.exit, 1), Some(front_of(PART_REPLY, k)));
+    Ok(())
+}
+
+// The same where the stores fail too: the peer gets a front of the reply that says so.
+fn check_link_of_a_failed_store<R: Threads + Wait + Sync + Abort>(
+    rt: &R,
+    alloc: Global,
+    k: u64,
+    workers: u32,
+) -> Result<(), Fail>
+    requires some { 0 < workers }
+    requires few { workers ≤ 16 }
+{
+    let row = Row {
+        first: &[k],
+        store: &[0, 1, 2, 3, 4, 5, 6, 7],
+        ..BOTH
+    };
+    let finish = serve(rt, alloc, &row, workers)?;
+    assert!(rt; finish.end == HallEnd::All);
+    assert_eq!(rt; sent_to(&finish.exit, 0), Some(front_of(FAILED_REPLY, k)));
+    assert_eq!(rt; sent_to(&finish.exit, 1), Some(FAILED_REPLY));
+    Ok(())
+}
+
+// The k-th call of the entrance fails: the first binds its port, and each other one accepts.
+fn check_entrance<R: Threads + Wait + Sync + Abort>(
+    rt: &R,
+    alloc: Global,
+    k: u64,
+    workers: u32,
+) -> Result<(), Fail>
+    requires some { 0 < workers }
+    requires few { workers ≤ 16 }
+{
+    let finish = serve(rt, alloc, &Row { door: &[k], ..BOTH }, workers)?;
+    assert_eq!(rt; finish.end == HallEnd::All, k > 2);
+    assert_eq!(rt; finish.end == HallEnd::DoorFault, k <= 2);
+    check_closed(rt, &finish.exit, k.saturating_sub(1).min(2) as usize);
+    check_sent(rt, &finish.exit, k.saturating_sub(1).min(2) as usize, &[]);
+    Ok(())
+}
+
+// The k-th call of each store fails, of which each request makes two: a peer gets the whole reply, or that the store failed.
+fn check_store<R: Threads + Wait + Sync + Abort>(
+    rt: &R,
+    alloc: Global,
+    k: u64,
+    workers: u32,
+) -> Result<(), Fail>
+    requires some { 0 < workers }
+    requires few { workers ≤ 16 }
+{
+    let finish = serve(
+        rt,
+        alloc,
+        &Row {
+            store: &[k],
+            ..BOTH
+        },
+        workers,
+    )?;
+    assert!(rt; finish.end == HallEnd::All);
+    check_closed(rt, &finish.exit, 2);
+    let first = sent_to(&finish.exit, 0);
+    let second = sent_to(&finish.exit, 1);
+    assert!(rt; first == Some(PART_REPLY) || first == Some(FAILED_REPLY));
+    assert!(rt; second == Some(PART_REPLY) || second == Some(FAILED_REPLY));
+    let failed = (first == Some(FAILED_REPLY), second == Some(FAILED_REPLY));
+    if workers == 1 {
+        assert_eq!(rt; failed, (k < 2, k == 2 || k == 3));
+    } else {
+        assert!(rt; k < 4 || failed == (false, false));
+    }
+    Ok(())
+}
+
+#[test]
+fn goes_on_behind_each_failing_call(rt: HostRuntime) -> Result<(), Fail> {
+    for k in 0..MOST_CALLS {
+        for workers in 1..4u32 {
+            check_link(&rt, rt.alloc(), k, workers)?;
+            check_link_of_a_failed_store(&rt, rt.alloc(), k, workers)?;
+            check_store(&rt, rt.alloc(), k, workers)?;
+        }
+    }
+    Ok(())
+}
+
+#[test]
+fn ends_at_each_failing_accept(rt: HostRuntime) -> Result<(), Fail> {
+    for k in 1..MOST_CALLS {
+        for workers in 1..4u32 {
+            check_entrance(&rt, rt.alloc(), k, workers)?;
+        }
+    }
+    Ok(())
 }

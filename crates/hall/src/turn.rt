@@ -3,17 +3,20 @@ ghost use Rattle.std.specs.Prelude.{◌≡◌, ◌∷◌, [], List, option_map};
 ghost use Rattle.hall.specs.Halls.{Turned, outcome_of};
 
 use crate::outcome::Outcome;
-use range_server::{Ending, ServeFault, serve_to_end};
+use range_server::{Ending, ServeFault, Service, serve_to_end};
 use std::alloc::Global;
 use vol_base::{Link, Name, Source};
 
 // What is noted of a connection, by how it was served.
-fn judge(served: &Result<Ending, ServeFault>) -> Outcome
-    ensures { result ≡ outcome_of served.now }
+fn judge(served: &Service) -> Outcome
+    ensures { result ≡ outcome_of served.now.ended served.now.failing }
 {
-    match served {
-        Ok(Ending::Whole) | Err(ServeFault::LinkFault) => Outcome::Whole,
-        Ok(Ending::Failed) | Err(ServeFault::StoreFault) => Outcome::StoreCut,
+    match &served.ended {
+        Ok(Ending::Whole) => Outcome::Whole,
+        Err(ServeFault::LinkFault) if !served.failing => Outcome::Whole,
+        Ok(Ending::Failed) | Err(ServeFault::LinkFault) | Err(ServeFault::StoreFault) => {
+            Outcome::StoreCut
+        }
         Err(ServeFault::OutOfMemory) => Outcome::MemoryCut,
     }
 }

@@ -83,6 +83,16 @@ module _ (m : Objects) (dataset stream : List ℕ) where
   served_front before mid now n fault waiting old now_sent new le h step =
       reached_end (Stops m dataset before now fault) n waiting old now_sent new h (λ rest e. let s = step rest e in (s.0, stops_later before mid now n fault rest s.0 le s.1, s.2))
 
+  -- what a store's fault left, by the counts of another
+  stops_by : (before now was is n : ℕ) (fault : ServeFault) (rest out : List ℕ) → (Rose before now → Rose was is) → Stops m dataset before now fault n rest out → Stops m dataset was is fault n rest out
+  stops_by before now was is n LinkFault rest out rose (inl h) = inl h
+  stops_by before now was is n LinkFault rest out rose (inr h) = inr (rose h.0, h.1)
+  stops_by before now was is n OutOfMemory rest out rose h = h
+  stops_by before now was is n StoreFault rest out rose h = h
+
+  pub stopped_by : (before now was is : ℕ) (fault : ServeFault) (out : List ℕ) → (Rose before now → Rose was is) → Stopped m dataset before now fault stream out → Stopped m dataset was is fault stream out
+  stopped_by before now was is fault out rose h = (h.0, h.1, h.2, h.3, h.4, stops_by before now was is (length h.0) fault h.1 h.3 rose h.5, h.6)
+
   -- nothing was sent
   pub stopped_none : (before now : ℕ) (old : Option (List ℕ)) → Gained (Stopped m dataset before now OutOfMemory stream) old old
   stopped_none before now old = ([], ([], stream, [], [], (refl, refl), refl, refl), gains_nothing old old refl)

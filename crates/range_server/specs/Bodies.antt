@@ -1,5 +1,5 @@
 -- The bytes of a reply over the objects (RFC 9112, section 6), and what a link gains (this project's).
-use Rattle.std.specs.Prelude.{◌≡◌, ◌≢◌, ◌⊎◌, ◌<◌, ◌≤◌, IsTrue, IsErrOf, Result, ℕ, List, [], ◌++◌, length, take, Option, Some, None, if◌then◌else◌}
+use Rattle.std.specs.Prelude.{◌≡◌, ◌≢◌, ◌⊎◌, ◌<◌, ◌≤◌, IsTrue, IsErrOf, Result, ℕ, Bool, true, false, List, [], ◌++◌, length, take, Option, Some, None, if◌then◌else◌}
 use Rattle.std.specs.FinMap as map
 use Rattle.vol_base.specs.Outside.{Objects, part}
 use Rattle.vol_base.specs.Causes.{Rose}
@@ -58,6 +58,11 @@ abbrev pub CutsPart : List ℕ → ℕ → ℕ → Option (List ℕ) → Option 
 CutsPart object from n old new fault =
     length (part object from n) ≡ n → (k : ℕ) × (k ≤ n) × (fault ≡ StoreFault → k < n) ×
     Gains old new (take k (part object from n))
+
+-- how often the store failed, as far as that was told: once or never
+abbrev pub failures : Bool → ℕ
+failures false = 0
+failures true = 1
 
 -- the counts of faults of a link and a store don't fall, and a fault comes only where its count rose
 pub record HasServeCause {T : Type 0} (link link_now store store_now : ℕ)

@@ -1,10 +1,10 @@
 //! One request, answered.
-ghost use Rattle.std.specs.Prelude.{◌≡◌, ◌≤◌, ℕ, List, length, IfErr, IfOk, IsSome};
+ghost use Rattle.std.specs.Prelude.{◌≡◌, ◌≤◌, ℕ, List, true, false, length, IfErr, IfOk, IsSome};
 ghost use Rattle.httparse.specs.Grammar.{ReadsRequest, RequestHead};
 ghost use Rattle.httparse.specs.Spans.{IsRequestOf, IsRequestWithin};
 ghost use Rattle.vol_base.specs.Causes.{Rose};
 ghost use Rattle.vol_base.specs.Outside.{OnlyReads};
-ghost use Rattle.range_server.specs.Bodies.{Cuts, HasServeCause, WhereTold};
+ghost use Rattle.range_server.specs.Bodies.{Cuts, HasServeCause, WhereTold, failures};
 ghost use Rattle.range_server.specs.Replies.{Answered, planned_at};
 
 use crate::fault::ServeFault;
@@ -38,6 +38,7 @@ pub(crate) fn answer_head<L: Link, S: Source>(
     requires few { length found.spans.now ≤ 4096 }
     requires short { length found.received.now ≤ 8192 }
     requires room { 512 ≤ length writer.old.piece.items }
+    requires calm { writer.old.failing ≡ false }
     ensures answered { IfOk result (λ ending. WhereTold (S.objects store.old) (λ m.
         (head : RequestHead) (rest : List ℕ) → ReadsRequest found.entry.received.now head rest
         → Answered m dataset.now number head (L.sent link.old) (L.sent link.new) ending)) }
@@ -45,8 +46,10 @@ pub(crate) fn answer_head<L: Link, S: Source>(
     ensures last { IfOk result (λ ending. number ≡ 65535 → IsSome ending) }
     ensures cut { IfErr result (λ fault. WhereTold (S.objects store.old) (λ m.
         (head : RequestHead) (rest : List ℕ) → ReadsRequest found.entry.received.now head rest
-        → Cuts m (planned_at m dataset.now number head) (S.faults store.old) (S.faults store.new)
+        → Cuts m (planned_at m dataset.now number head) 0 (failures writer.new.failing)
         (L.sent link.old) (L.sent link.new) fault)) }
+    ensures calm { result ≡ Ok None → writer.new.failing ≡ false }
+    ensures failing { writer.new.failing ≡ true → Rose (S.faults store.old) (S.faults store.new) }
     ensures room { length writer.new.piece.items ≡ length writer.old.piece.items }
     ensures left { L.left link.new ≡ L.left link.old }
     ensures stream { L.stream link.new ≡ L.stream link.old }
@@ -70,10 +73,13 @@ pub(crate) fn answer_head<L: Link, S: Source>(
             Ok(Sent::Broken) => Ok(Some(Ending::Failed)),
             Err(fault) => Err(fault),
         },
-        Err(StoreRefusal::Failed) => match send_failed(link, &mut writer.text) {
-            Ok(()) => Ok(Some(Ending::Failed)),
-            Err(fault) => Err(fault),
-        },
+        Err(StoreRefusal::Failed) => {
+            writer.failing = true;
+            match send_failed(link, &mut writer.text) {
+                Ok(()) => Ok(Some(Ending::Failed)),
+                Err(fault) => Err(fault),
+            }
+        }
         Err(StoreRefusal::OutOfMemory) => Err(ServeFault::OutOfMemory),
     }
 }

@@ -1,10 +1,10 @@
 //! A connection.
-ghost use Rattle.std.specs.Prelude.{◌≡◌, ◌≢◌, ◌-◌, ◌≤◌, ◌<◌, length, take, drop, IfErr, IfOk, IfSome};
+ghost use Rattle.std.specs.Prelude.{◌≡◌, ◌≢◌, ◌-◌, ◌≤◌, ◌<◌, true, false, length, take, drop, IfErr, IfOk, IfSome};
 ghost use Rattle.vol_base.specs.Outside.{OnlyReads};
 ghost use Rattle.request_heads.specs.Heads.{pending};
 ghost use Rattle.request_heads.specs.Answers.{HasParts, IsNext};
 ghost use Rattle.vol_base.specs.Causes.{HasCause, Rose};
-ghost use Rattle.range_server.specs.Bodies.{HasServeCause, WhereTold};
+ghost use Rattle.range_server.specs.Bodies.{HasServeCause, WhereTold, failures};
 ghost use Rattle.range_server.specs.Desks.{IsReady};
 ghost use Rattle.range_server.specs.Replies.{EndsIn, Gained, GoesOn, ServedIn, Stopped, Stops};
 ghost use Rattle.range_server.specs.Turns.{IfEnd, IfNext};
@@ -50,6 +50,7 @@ fn drop_head(desk: &mut Desk, there: usize, len: usize)
     ensures ready { IsReady desk.new }
     ensures rest { take (there - len) desk.new.received.items
         ≡ drop len (take there desk.old.received.items) }
+    ensures failing { desk.new.writer.failing ≡ desk.old.writer.failing }
 {
     consume(desk.received.as_mut_slice(), there, len);
 }
@@ -65,6 +66,7 @@ fn wait_head<L: Link>(link: &mut L, len: usize, desk: &mut Desk) -> Result<(Next
     ensures parts { IfOk result (λ r. HasParts (take r.1 desk.new.received.items) desk.new.spans.items r.0) }
     ensures pending { IfOk result (λ r. pending desk.new.received.items r.1 (L.left link.new)
         ≡ pending desk.old.received.items len (L.left link.old)) }
+    ensures failing { desk.new.writer.failing ≡ desk.old.writer.failing }
     ensures sent { L.sent link.new ≡ L.sent link.old }
     ensures stream { L.stream link.new ≡ L.stream link.old }
     ensures cause { HasCause (L.faults link.old) (L.faults link.new) result }
@@ -84,6 +86,7 @@ fn serve_one<L: Link, S: Source>(
     desk: &mut Desk,
 ) -> Result<Turn, ServeFault>
     requires ready { IsReady desk.old }
+    requires calm { desk.old.writer.failing ≡ false }
     requires within { len ≤ 8192 }
     ensures ready { IsReady desk.new }
     ensures within { IfOk result (λ turn. IfNext turn (λ more. more ≤ 8192)) }
@@ -100,8 +103,10 @@ fn serve_one<L: Link, S: Source>(
     ensures failed { result ≡ Ok (Turn.End Ending.Failed) → Rose (S.faults store.old) (S.faults store.new) }
     ensures stops { IfErr result (λ fault. WhereTold (S.objects store.old) (λ m.
         WhereTold (pending desk.old.received.items len (L.left link.old))
-        (λ rest. Gained (Stops m dataset.now (S.faults store.old) (S.faults store.new) fault number rest)
+        (λ rest. Gained (Stops m dataset.now 0 (failures desk.new.writer.failing) fault number rest)
         (L.sent link.old) (L.sent link.new)))) }
+    ensures calm { IfOk result (λ turn. IfNext turn (λ _. desk.new.writer.failing ≡ false)) }
+    ensures failing { desk.new.writer.failing ≡ true → Rose (S.faults store.old) (S.faults store.new) }
     ensures stream { L.stream link.new ≡ L.stream link.old }
     ensures kept { OnlyReads (S.objects store.old) (S.objects store.new) (S.draft store.old)
         (S.draft store.new) }
@@ -137,7 +142,8 @@ fn serve_one<L: Link, S: Source>(
     }
 }
 
-/// Serves the requests of a peer, one after the other, and tells how that ended.
+/// Serves the requests of a peer, one after the other, and tells how that ended. The desk then says whether the reply was begun
+/// that says that the store failed.
 pub(crate) fn serve_link<L: Link, S: Source>(
     alloc: Global,
     link: &mut L,
@@ -146,12 +152,14 @@ pub(crate) fn serve_link<L: Link, S: Source>(
     desk: &mut Desk,
 ) -> Result<Ending, ServeFault>
     requires ready { IsReady desk.old }
+    requires calm { desk.old.writer.failing ≡ false }
     ensures ended { IfOk result (λ ending. WhereTold (S.objects store.old) (λ m. WhereTold (L.left link.old)
         (λ stream. Gained (ServedIn m dataset.now ending stream) (L.sent link.old) (L.sent link.new)))) }
     ensures failed { result ≡ Ok Ending.Failed → Rose (S.faults store.old) (S.faults store.new) }
     ensures stopped { IfErr result (λ fault. WhereTold (S.objects store.old) (λ m. WhereTold (L.left link.old)
-        (λ stream. Gained (Stopped m dataset.now (S.faults store.old) (S.faults store.new) fault stream)
+        (λ stream. Gained (Stopped m dataset.now 0 (failures desk.new.writer.failing) fault stream)
         (L.sent link.old) (L.sent link.new)))) }
+    ensures failing { desk.new.writer.failing ≡ true → Rose (S.faults store.old) (S.faults store.new) }
     ensures stream { L.stream link.new ≡ L.stream link.old }
     ensures kept { OnlyReads (S.objects store.old) (S.objects store.new) (S.draft store.old)
         (S.draft store.new) }

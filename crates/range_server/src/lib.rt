@@ -21,4 +21,4 @@ pub use fault::{DoorRefusal, ServeFault};
 pub use plan::plan_reply;
 pub use range::{RangeAnswer, range_of};
 pub use reply::{Ending, Reply};
-pub use serve::{serve_conn, serve_to_end, tell_replies};
+pub use serve::{Service, serve_conn, serve_to_end, tell_replies};

@@ -1,7 +1,7 @@
 //! A connection, served.
-ghost use Rattle.std.specs.Prelude.{◌≡◌, ◌≤◌, ◌⊎◌, ◌-◌, ℕ, List, length, IfErr, IfOk, OnOk};
+ghost use Rattle.std.specs.Prelude.{◌≡◌, ◌≤◌, ◌⊎◌, ◌-◌, ℕ, List, true, false, length, IfErr, IfOk, OnOk};
 ghost use Rattle.vol_base.specs.Outside.{Ended, Objects, OnlyReads};
-ghost use Rattle.range_server.specs.Bodies.{HasServeCause, WhereTold};
+ghost use Rattle.range_server.specs.Bodies.{HasServeCause, WhereTold, failures};
 ghost use Rattle.range_server.specs.Desks.{IsReady};
 ghost use Rattle.range_server.specs.Replies.{AreReplies, Gained, Served, ServedIn, Stopped};
 ghost use Rattle.range_server.specs.Serving.{AtMostBroken, EndsServed};
@@ -30,7 +30,8 @@ fn reserve_bytes(alloc: Global, len: usize) -> Result<Vec<u8>, OutOfMemory>
 
 // Room for a connection.
 fn open_desk(alloc: Global) -> Result<Desk, OutOfMemory>
-    ensures { IfOk result IsReady }
+    ensures ready { IfOk result IsReady }
+    ensures calm { IfOk result (λ desk. desk.writer.failing ≡ false) }
 {
     let received = reserve_bytes(alloc, 8192)?;
     let spans = reserve_spans(alloc, 4096)?;
@@ -41,8 +42,19 @@ fn open_desk(alloc: Global) -> Result<Desk, OutOfMemory>
     Ok(Desk {
         received,
         spans,
-        writer: Writer { text, piece },
+        writer: Writer {
+            text,
+            piece,
+            failing: false,
+        },
     })
+}
+
+/// How serving a connection ended, and whether the store failed so that the reply was begun that says so.
+#[derive(Clone, Copy, Debug, PartialEq, Eq)]
+pub struct Service {
+    pub ended: Result<Ending, ServeFault>,
+    pub failing: bool,
 }
 
 /// Serves the requests of a peer for the objects of a data set, until their stream ends or a reply closes the
@@ -52,32 +64,42 @@ fn open_desk(alloc: Global) -> Result<Desk, OutOfMemory>
 ///
 /// # Errors
 /// `LinkFault` and `StoreFault` only where the link or the store failed, and `OutOfMemory`. What was sent is then a
-/// front of the replies; after `StoreFault` it ends amid a body.
+/// front of the replies, or where `failing` is set whole first ones and a front of the one that says that the store
+/// failed; after `StoreFault` it ends amid a body.
 pub fn serve_to_end<L: Link, S: Source>(
     alloc: Global,
     link: &mut L,
     store: &mut S,
     dataset: &Name,
-) -> Result<Ending, ServeFault>
-    ensures ended { IfOk result (λ ending. WhereTold (S.objects store.old) (λ m. WhereTold (L.left link.old)
-        (λ stream. Gained (ServedIn m dataset.now ending stream) (L.sent link.old) (L.sent link.new)))) }
-    ensures failed { result ≡ Ok Ending.Failed → Rose (S.faults store.old) (S.faults store.new) }
-    ensures stopped { IfErr result (λ fault. WhereTold (S.objects store.old) (λ m. WhereTold (L.left link.old)
-        (λ stream. Gained (Stopped m dataset.now (S.faults store.old) (S.faults store.new) fault stream)
+) -> Service
+    ensures ended { IfOk result.ended (λ ending. WhereTold (S.objects store.old) (λ m.
+        WhereTold (L.left link.old) (λ stream.
+        Gained (ServedIn m dataset.now ending stream) (L.sent link.old) (L.sent link.new)))) }
+    ensures failed { result.ended ≡ Ok Ending.Failed → Rose (S.faults store.old) (S.faults store.new) }
+    ensures stopped { IfErr result.ended (λ fault. WhereTold (S.objects store.old) (λ m.
+        WhereTold (L.left link.old) (λ stream.
+        Gained (Stopped m dataset.now 0 (failures result.failing) fault stream)
         (L.sent link.old) (L.sent link.new)))) }
+    ensures failing { result.failing ≡ true → Rose (S.faults store.old) (S.faults store.new) }
     ensures stream { L.stream link.new ≡ L.stream link.old }
     ensures kept { OnlyReads (S.objects store.old) (S.objects store.new) (S.draft store.old)
         (S.draft store.new) }
     ensures cause { HasServeCause (L.faults link.old) (L.faults link.new) (S.faults store.old)
-        (S.faults store.new) result }
+        (S.faults store.new) result.ended }
 {
     let mut desk = match open_desk(alloc) {
         Ok(desk) => desk,
-        Err(OutOfMemory) => return Err(ServeFault::OutOfMemory),
+        Err(OutOfMemory) => {
+            return Service {
+                ended: Err(ServeFault::OutOfMemory),
+                failing: false,
+            };
+        }
     };
-    match serve_link(alloc, link, store, dataset, &mut desk) {
-        Ok(ending) => Ok(ending),
-        Err(fault) => Err(fault),
+    let ended = serve_link(alloc, link, store, dataset, &mut desk);
+    Service {
+        ended,
+        failing: desk.writer.failing,
     }
 }
 
@@ -105,7 +127,8 @@ pub fn serve_conn<L: Link, S: Source>(
     ensures cause { HasServeCause (L.faults link.old) (L.faults link.new) (S.faults store.old)
         (S.faults store.new) result }
 {
-    match serve_to_end(alloc, link, store, dataset) {
+    let served = serve_to_end(alloc, link, store, dataset);
+    match served.ended {
         Ok(_) => Ok(()),
         Err(fault) => Err(fault),
     }

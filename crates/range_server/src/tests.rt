@@ -2,6 +2,8 @@
 ghost use Rattle.std.specs.Prelude.{◌≡◌, IfOk, None};
 ghost use Rattle.vol_base.specs.Peers.{IsFresh};
 
+mod receives;
+
 use crate::{DoorRefusal, Ending, RangeAnswer, ServeFault, range_of, serve_ends, serve_to_end};
 use std::alloc::Global;
 use std::process::Abort;
@@ -60,7 +62,7 @@ fn serve(
 ) -> Result<(Vec<u8>, Result<Ending, ServeFault>), Fail> {
     let mut link = link_of(alloc, bytes, piece, link_failing)?;
     let mut store = store_of(alloc, store_failing)?;
-    let served = serve_to_end(alloc, &mut link, &mut store, &name(b"d")?);
+    let served = serve_to_end(alloc, &mut link, &mut store, &name(b"d")?).ended;
     Ok((Vec::from_slice(alloc, link.sent())?, served))
 }
 

@@ -1,9 +1,9 @@
 //! Replies to a peer.
-ghost use Rattle.std.specs.Prelude.{◌≡◌, ◌≢◌, ◌+◌, ◌<◌, ◌≤◌, ◌++◌, ℕ, List, [], length, take, IfErr, IfOk, IsErrOf, OnOk};
+ghost use Rattle.std.specs.Prelude.{◌≡◌, ◌≢◌, ◌+◌, ◌<◌, ◌≤◌, ◌++◌, ℕ, List, [], true, false, length, take, IfErr, IfOk, IsErrOf, OnOk};
 ghost use Rattle.vol_base.specs.Causes.{HasCause, Rose};
 ghost use Rattle.vol_base.specs.Outside.{OnlyReads};
 ghost use Rattle.vol_base.specs.Gains.{Gains};
-ghost use Rattle.range_server.specs.Bodies.{bad_bytes, Cuts, CutsReply, HasBody, HasServeCause, IsLead, Sends, WhereTold, body_in, failed_bytes};
+ghost use Rattle.range_server.specs.Bodies.{bad_bytes, Cuts, CutsReply, HasBody, HasServeCause, IsLead, Sends, WhereTold, body_in, failed_bytes, failures};
 ghost use Rattle.range_server.specs.Plans.{IsSound};
 ghost use Rattle.range_server.specs.declared.reply.Sent.TheVariants.{Broken};
 ghost use Rattle.range_server.specs.declared.fault.ServeFault.TheVariants.{LinkFault, OutOfMemory, StoreFault};
@@ -15,11 +15,13 @@ use crate::send::{read_piece, send_all, send_rest};
 use crate::text::write_head;
 use vol_base::{Failed, Link, OutOfMemory, Source};
 
-/// Where replies are made: the text of a head, and a piece with the head and the first bytes behind it.
+/// Where replies are made: the text of a head, and a piece with the head and the first bytes behind it; and whether the
+/// store failed, so that the reply that says so was begun.
 #[derive(Drop)]
 pub(crate) struct Writer {
     pub text: String,
     pub piece: Vec<u8>,
+    pub failing: bool,
 }
 
 // Puts some bytes in front.
@@ -136,13 +138,15 @@ pub(crate) fn send_reply<L: Link, S: Source>(
     writer: &mut Writer,
 ) -> Result<Sent, ServeFault>
     requires room { 512 ≤ length writer.old.piece.items }
+    requires calm { writer.old.failing ≡ false }
     requires fits { reply.now.from + reply.now.count ≤ reply.now.total }
     ensures sent { IfOk result (λ sent. WhereTold (S.objects store.old) (λ m. HasBody m reply.now →
         Sends m reply.now (L.sent link.old) (L.sent link.new) sent)) }
     ensures broken { IfOk result (λ sent. sent ≡ Broken → Rose (S.faults store.old) (S.faults store.new)) }
     ensures cut { IfErr result (λ fault. WhereTold (S.objects store.old) (λ m. HasBody m reply.now →
-        Cuts m reply.now (S.faults store.old) (S.faults store.new) (L.sent link.old)
-        (L.sent link.new) fault)) }
+        Cuts m reply.now 0 (failures writer.new.failing) (L.sent link.old) (L.sent link.new) fault)) }
+    ensures calm { result ≡ Ok Sent.Whole → writer.new.failing ≡ false }
+    ensures failing { writer.new.failing ≡ true → Rose (S.faults store.old) (S.faults store.new) }
     ensures room { length writer.new.piece.items ≡ length writer.old.piece.items }
     ensures left { L.left link.new ≡ L.left link.old }
     ensures stream { L.stream link.new ≡ L.stream link.old }
@@ -160,10 +164,13 @@ pub(crate) fn send_reply<L: Link, S: Source>(
             Ok(()) => Ok(Sent::Whole),
             Err(fault) => Err(fault),
         },
-        Err(Failed) => match send_failed(link, &mut writer.text) {
-            Ok(()) => Ok(Sent::Broken),
-            Err(fault) => Err(fault),
-        },
+        Err(Failed) => {
+            writer.failing = true;
+            match send_failed(link, &mut writer.text) {
+                Ok(()) => Ok(Sent::Broken),
+                Err(fault) => Err(fault),
+            }
+        }
     }
 }
 

@@ -1,11 +1,11 @@
 -- What `vol_serve` leaves, by how it ends.
-use Rattle.std.proofs.Common.{◌≢◌, inl, inr}
+use Rattle.std.proofs.Common.{◌≡◌, refl}
 use Rattle.hall.specs.declared.outcome.HallEnd.{HallEnd}
 use Rattle.hall.specs.declared.outcome.HallEnd.TheVariants as ended
-use Rattle.vol_serve.specs.Statuses.{HadMemory, ended_by}
+use Rattle.hall.specs.Halls.{is_short}
+use Rattle.vol_serve.specs.Statuses.{ended_by, lacks_memory}
 
-pub had_memory : (end : HallEnd) → HadMemory (ended_by end) → end ≢ ended.OutOfMemory
-had_memory ended.All had = λ e. absurd (cc e)
-had_memory ended.DoorFault had = λ e. absurd (cc e)
-had_memory ended.OutOfMemory (inl e) = absurd (cc e)
-had_memory ended.OutOfMemory (inr e) = absurd (cc e)
+pub lacks_by : (end : HallEnd) → lacks_memory (ended_by end) ≡ is_short end
+lacks_by ended.All = refl
+lacks_by ended.DoorFault = refl
+lacks_by ended.OutOfMemory = refl

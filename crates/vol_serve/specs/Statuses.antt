@@ -1,5 +1,5 @@
 -- How `vol_serve` ends, and what stands then (this project's).
-use Rattle.std.specs.Prelude.{◌≡◌, ◌⊎◌, ℕ, Option, Some, IfSome}
+use Rattle.std.specs.Prelude.{◌≡◌, ℕ, Bool, true, false, Option, Some, IfSome}
 use Rattle.vol_spec.specs.Types.{Bytes}
 use Rattle.command_base.specs.declared.status.Status.{Status}
 use Rattle.command_base.specs.declared.status.Status.TheVariants as status
@@ -30,9 +30,13 @@ ended_by ended.All = Ok
 ended_by ended.DoorFault = DoorFault
 ended_by ended.OutOfMemory = NoMemory
 
--- no connection met want of memory
-abbrev pub HadMemory : HallStatus → Type 0
-HadMemory status = (status ≡ Ok) ⊎ (status ≡ DoorFault)
+-- memory ran out, for the whole or amid some connection
+abbrev pub lacks_memory : HallStatus → Bool
+lacks_memory Ok = false
+lacks_memory Usage = false
+lacks_memory OutFault = false
+lacks_memory NoMemory = true
+lacks_memory DoorFault = false
 
 -- no end is given before the port is told: none where the output gained nothing
 abbrev pub GivesLater : Option Bytes → Option Bytes → ℕ → ℕ → Type 0

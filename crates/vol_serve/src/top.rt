@@ -3,9 +3,9 @@ ghost use Rattle.std.specs.Prelude.{◌≡◌, ◌≢◌, ◌↔◌, ◌-◌, �
 ghost use Rattle.vol_base.specs.Causes.{Rose};
 ghost use Rattle.command_base.specs.Outlets.{outlets_of};
 ghost use Rattle.command_base.specs.Statuses.{fixed_line};
-ghost use Rattle.hall.specs.Halls.{EachServed, FewBroken, HasExactly, numbers_of};
+ghost use Rattle.hall.specs.Halls.{EachServed, HasExactly, NoneFell, numbers_of};
 ghost use Rattle.serve_cmd.specs.Servings.{GivesEnds, IsBoundTo, PortTold, SaysFixed};
-ghost use Rattle.vol_serve.specs.Statuses.{GivesLater, HadMemory, as_status, ended_by, refused_by};
+ghost use Rattle.vol_serve.specs.Statuses.{GivesLater, as_status, ended_by, lacks_memory, refused_by};
 ghost use Rattle.vol_serve.specs.Words.{KeepsLimits, hall_line};
 
 use crate::announce::announce;
@@ -81,9 +81,9 @@ where
     ensures more { D.accepted entrance ≤ D.accepted result.entrance }
     ensures exact { IfSome (X.served result.exit) (λ list.
         HasExactly (D.accepted result.entrance - D.accepted entrance) (numbers_of list)) }
-    ensures each { EachServed (map S.objects stores.items) serving.now.dataset (X.served result.exit) }
-    ensures few { HadMemory result.status → FewBroken (map S.objects stores.items) serving.now.dataset
+    ensures each { EachServed (map S.objects stores.items) serving.now.dataset (lacks_memory result.status)
         (X.served result.exit) (map S.faults stores.items) (map S.faults result.stores.items) }
+    ensures stores_later { NoneFell (map S.faults stores.items) (map S.faults result.stores.items) }
     ensures told { PortTold (as_status result.status) (D.bound result.entrance) (O.written out.old)
         (O.written out.new) }
     ensures first { GivesLater (O.written out.old) (O.written out.new) (D.accepted entrance)
@@ -168,10 +168,9 @@ where
     ensures exact { IfSome (X.served result.exit) (λ list.
         HasExactly (D.accepted result.entrance - D.accepted entrance) (numbers_of list)) }
     ensures each { IfSome (hall_line (map string_bytes words.now)) (λ serving.
-        EachServed (map S.objects stores.items) serving.dataset (X.served result.exit)) }
-    ensures few { IfSome (hall_line (map string_bytes words.now)) (λ serving. HadMemory result.status →
-        FewBroken (map S.objects stores.items) serving.dataset (X.served result.exit)
-        (map S.faults stores.items) (map S.faults result.stores.items)) }
+        EachServed (map S.objects stores.items) serving.dataset (lacks_memory result.status)
+        (X.served result.exit) (map S.faults stores.items) (map S.faults result.stores.items)) }
+    ensures stores_later { NoneFell (map S.faults stores.items) (map S.faults result.stores.items) }
     ensures told { IfSome (hall_line (map string_bytes words.now)) (λ _.
         PortTold (as_status result.status) (D.bound result.entrance) (O.written out.old) (O.written out.new)) }
     ensures first { GivesLater (O.written out.old) (O.written out.new) (D.accepted entrance)

@@ -1,8 +1,8 @@
 use Rattle.std.proofs.Common.{◌<◌, ◌≤◌, ◌+◌, ◌∷◌, [], ◌∙◌, None, IfSome, IsSome, length, map, option_map, ap, subst, sym, arith, rules}
 use Rattle.std.proofs.lemmas.List.{length-append, map-append, take_all}
-use Rattle.hall.specs.Halls.{Fits, IsRested, PaidBy, kept_weight, owed}
+use Rattle.hall.specs.Halls.{Fits, IsRested, NoneFell, PaidBy, kept_weight, owed}
 use Rattle.hall.proofs.PlaceSteps.{after_take, at_place, told_more}
-use Rattle.hall.proofs.Sums.{paid_step}
+use Rattle.hall.proofs.Sums.{none_step, paid_step}
 use Rattle.hall.proofs.places.take_all.Goals as goal
 
 pub take_place-requires-clause-rested : goal.take_place-requires-clause-rested
@@ -46,9 +46,15 @@ loop-i-preserved g c =
       t.left,
       after_take c.loop-i.places i c.take.new.self (λ i o. IsSome o × IfSome o (λ p. IsRested g.N.Hall.told g.N.Hall.counts i p.seat.job (option_map (λ k. k.outcome) p.kept) (g.S.Source.objects p.store) (g.S.Source.faults p.store) p.cuts.parts p.cuts.amount)) inv.10,
       after_take c.loop-i.places i c.take.new.self (λ i o. IfSome o (λ p. IfSome p.kept (λ k. Fits g.N.Hall.told g.N.Hall.dataset k.outcome (g.E.Link.stream k.end) (g.E.Link.sent k.end) (g.E.Link.faults k.end)))) inv.11,
+      none_step g.N.Hall.counts (map faults stores) (map faults c.take_place.new.stores.items) i (faults place.store) counts inv.12 rested.later (ap (map faults) t.stores ∙ map-append faults stores (place.store ∷ [])),
     )
 
 pub returns-clause-paid : goal.returns-clause-paid
 returns-clause-paid g c =
     let all : length g.N.Hall.counts ≤ c.loop-i.i = omega (arith, c.requires.counts) in
     subst (λ cs. PaidBy cs (map g.S.Source.faults c.loop-i.stores.items) (c.loop-i.all.amount + owed (map (λ k. k.outcome) c.loop-i.left.items))) (take_all c.loop-i.i g.N.Hall.counts all) c.loop-i.invariant.6
+
+pub returns-clause-later : goal.returns-clause-later
+returns-clause-later g c =
+    let all : length g.N.Hall.counts ≤ c.loop-i.i = omega (arith, c.requires.counts) in
+    subst (λ cs. NoneFell cs (map g.S.Source.faults c.loop-i.stores.items)) (take_all c.loop-i.i g.N.Hall.counts all) c.loop-i.invariant.12

@@ -1,5 +1,5 @@
 use Rattle.std.proofs.Common.{◌≡◌, ◌<◌, ◌≤◌, ◌+◌, ℕ, All, length, map, take, IfSome, IsSome, option_map, slice_index_or, vec_capacity}
-use Rattle.hall.specs.Halls.{Fits, IsRested, PaidBy, owed}
+use Rattle.hall.specs.Halls.{Fits, IsRested, NoneFell, PaidBy, owed}
 use Rattle.hall.proofs.places.take_all.Given as goal
 
 abbrev pub invariant-loop-i : goal.invariant-loop-i
@@ -11,3 +11,4 @@ invariant-loop-i g l = (l.host.parts ≡ l.initial.host.parts + l.i) × (l.host.
     × ((i : ℕ) (d : _) → l.i ≤ i → i < length l.places → IsSome (slice_index_or l.places i d)
     × IfSome (slice_index_or l.places i d) (λ p. IsRested g.N.Hall.told g.N.Hall.counts i p.seat.job (option_map (λ k. k.outcome) p.kept) (g.S.Source.objects p.store) (g.S.Source.faults p.store) p.cuts.parts p.cuts.amount))
     × ((i : ℕ) (d : _) → l.i ≤ i → i < length l.places → IfSome (slice_index_or l.places i d) (λ p. IfSome p.kept (λ k. Fits g.N.Hall.told g.N.Hall.dataset k.outcome (g.E.Link.stream k.end) (g.E.Link.sent k.end) (g.E.Link.faults k.end))))
+    × NoneFell (take l.i g.N.Hall.counts) (map g.S.Source.faults l.stores.items)

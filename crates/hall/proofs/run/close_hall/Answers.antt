@@ -1,7 +1,7 @@
 use Rattle.std.proofs.Common.{◌≡◌, ◌-◌, ◌∙◌, map, subst, sym, arith}
 use Rattle.std.specs.Prelude.{IfSome}
-use Rattle.hall.specs.Halls.{Accepts, HasExactly, numbers_of}
-use Rattle.hall.proofs.EndSteps.{accepts, few_broken, rose_by, stands_by}
+use Rattle.hall.specs.Halls.{Accepts, EachServed, HasExactly, is_short, numbers_of}
+use Rattle.hall.proofs.EndSteps.{accepts, each_by, rose_by, stands_by}
 use Rattle.hall.proofs.run.close_hall.Goals as goal
 
 pub returns-clause-exact : goal.returns-clause-exact
@@ -15,10 +15,11 @@ returns-clause-given g c =
     (accepts c.close-exit.result.1 c.close-entrance.result.2 g.N.Naming.jobs g.N.Hall.accepted c.args.porch.given (g.D.Entrance.accepted c.close-entrance.result.0) c.close-entrance.ensures.accepted c.close-entrance.ensures.most
     (λ e. c.close-entrance.ensures.fewer (sym c.close-entrance.ensures.failed ∙ e)) (λ e. c.requires.over (sym c.close-entrance.ensures.failed ∙ e)))
 
-pub returns-clause-few : goal.returns-clause-few
-returns-clause-few g c = λ other.
-    few_broken c.close-exit.result.1 c.close-entrance.result.2 g.N.Hall.told g.N.Hall.dataset (g.X.Exit.served c.close-exit.result.0) g.N.Hall.counts (map g.S.Source.faults c.args.stores.items) c.args.all.now.amount
-    (λ e. other (c.end_of.ensures ∙ e)) c.requires.paid c.close-exit.ensures.few
+pub returns-clause-each : goal.returns-clause-each
+returns-clause-each g c =
+    subst (λ e. EachServed g.N.Hall.told g.N.Hall.dataset (is_short e) (g.X.Exit.served c.close-exit.result.0) g.N.Hall.counts (map g.S.Source.faults c.args.stores.items)) (sym c.end_of.ensures)
+    (each_by c.close-exit.result.1 c.close-entrance.result.2 g.N.Hall.told g.N.Hall.dataset (g.X.Exit.served c.close-exit.result.0) g.N.Hall.counts (map g.S.Source.faults c.args.stores.items) c.args.all.now.amount
+    c.requires.paid c.close-exit.ensures.each)
 
 pub returns-clause-rose : goal.returns-clause-rose
 returns-clause-rose g c = λ e.

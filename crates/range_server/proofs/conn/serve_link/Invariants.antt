@@ -1,4 +1,4 @@
-use Rattle.std.proofs.Common.{◌≡◌, ◌≤◌, ◌<◌}
+use Rattle.std.proofs.Common.{◌≡◌, ◌≤◌, ◌<◌, false}
 use Rattle.vol_base.specs.Outside.{OnlyReads}
 use Rattle.request_heads.specs.Heads.{pending}
 use Rattle.range_server.specs.Bodies.{WhereTold}
@@ -9,6 +9,7 @@ use Rattle.range_server.proofs.conn.serve_link.Given as goal
 abbrev pub invariant-loop-number : goal.invariant-loop-number
 invariant-loop-number g l = record {
   ready : IsReady l.desk;
+  calm : l.desk.writer.failing ≡ false;
   within : l.len ≤ 8192;
   alive : l.number < 65536;
   reached : WhereTold (g.S.Source.objects l.fn.store) (λ m. WhereTold (g.L.Link.left l.fn.link)

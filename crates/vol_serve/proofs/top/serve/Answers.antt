@@ -1,11 +1,24 @@
-use Rattle.std.proofs.Common.{None, subst}
+use Rattle.std.proofs.Common.{◌∙◌, None, ap, map, refl, subst, sym}
+use Rattle.hall.specs.Halls.{EachServed}
+use Rattle.hall.proofs.EndSteps.{each_none}
+use Rattle.hall.proofs.Sums.{none_stands}
 use Rattle.serve_cmd.proofs.ServeSteps.{told_first}
-use Rattle.vol_serve.specs.Statuses.{HadMemory}
-use Rattle.vol_serve.proofs.Closings.{had_memory}
+use Rattle.vol_serve.specs.Statuses.{lacks_memory}
+use Rattle.vol_serve.proofs.Closings.{lacks_by}
 use Rattle.vol_serve.proofs.top.serve.Goals as goal
 
-pub returns-in-Ok-clause-few : goal.returns-in-Ok-clause-few
-returns-in-Ok-clause-few g c = λ had. c.run_hall-end.ensures.few (had_memory c.run_hall-end.result.end (subst HadMemory c.ended.ensures had))
+pub returns-in-Ok-clause-each : goal.returns-in-Ok-clause-each
+returns-in-Ok-clause-each g c =
+    let end = c.run_hall-end.result.end in
+    subst (λ short. EachServed (map g.S.Source.objects c.args.stores.items) c.args.serving.now.dataset short (g.X.Exit.served c.run_hall-end.result.exit) (map g.S.Source.faults c.args.stores.items) (map g.S.Source.faults c.run_hall-end.result.stores.items))
+    (sym (ap lacks_memory c.ended.ensures ∙ lacks_by end)) c.run_hall-end.ensures.each
+
+pub returns-in-Err-clause-each : goal.returns-in-Err-clause-each
+returns-in-Err-clause-each g c =
+    each_none (map g.S.Source.objects c.args.stores.items) c.args.serving.now.dataset (lacks_memory c.refused.result) (g.X.Exit.served c.args.exit) (map g.S.Source.faults c.args.stores.items) (map g.S.Source.faults c.args.stores.items) c.requires.noted refl
+
+pub returns-in-Err-clause-stores_later : goal.returns-in-Err-clause-stores_later
+returns-in-Err-clause-stores_later g c = none_stands (map g.S.Source.faults c.args.stores.items)
 
 pub returns-in-Ok-clause-first : goal.returns-in-Ok-clause-first
 returns-in-Ok-clause-first g c =
