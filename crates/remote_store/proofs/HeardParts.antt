@@ -1,12 +1,12 @@
 -- Whether what came of a reply with a body fits.
 use Rattle.std.proofs.Common.{◌≡◌, ◌∙◌, ℕ, ◌+◌, ◌-◌, ◌<◌, ◌≤◌, ◌^◌, min, Bool, true, false, ◌&&◌, ◌==◌, nat_le, codes, if◌then◌else◌, append-nil, List, [], ◌++◌, length, length-append, length-drop, take, drop, IfOk, Result, Ok, Err, Option, Some, None, IfSome, inl, inr, ap, sym, refl, subst, arith}
 use Rattle.std.proofs.lemmas.List.{drop-append-le, nil_from_length}
-use Rattle.httparse.specs.Grammar.{ReadsResponse, ResponseHead, print_response, status_code}
+use Rattle.httparse.specs.Grammar.{HasNoResponse, ReadsResponse, ResponseHead, print_response, status_code}
 use Rattle.httparse.specs.Spans.{IsResponseOf}
 use Rattle.httparse.specs.declared.spans.HeaderSpan.{HeaderSpan}
 use Rattle.httparse.specs.declared.spans.ResponseSpans.{ResponseSpans}
 use Rattle.httparse.proofs.GrammarLemmas.{ReadsResponse-append, response_prefix_free, response_unique}
-use Rattle.remote_store.specs.Bodies.{Ended, Finished, HasRoom, IsBegun, IsHeard, Passed, Said}
+use Rattle.remote_store.specs.Bodies.{Ended, Finished, HasHead, HasRoom, IsBegun, IsCounted, IsHeard, Passed, Said}
 use Rattle.remote_store.specs.Dials.{Line}
 use Rattle.remote_store.specs.Placed.{placed}
 use Rattle.remote_store.specs.Fits.{Fits, NeverFits, Place, bytes_said, ends_behind, following, is_place, judged, kind_of, length_told, only, place_in, promised}
@@ -19,6 +19,7 @@ use Rattle.std.proofs.Math.Seq.{take-add, take-append_seam}
 use Rattle.remote_store.proofs.Bodies.{cancel}
 use Rattle.remote_store.proofs.Received.{take_join}
 use Rattle.remote_store.specs.Talks.{DoesNotFit, Unfit}
+use Rattle.remote_store.specs.Waits.{NeverBegins}
 use Rattle.remote_store.specs.declared.wanted.Begun.{Begun}
 use Rattle.remote_store.specs.declared.wanted.Promise.{Promise}
 use Rattle.remote_store.specs.declared.wanted.Wanted.{Wanted}
@@ -171,7 +172,7 @@ less_of a n off le = elim (cases_lt a n) [
 pub finished_of : {E : Type 0} {from count got : ℕ} {first old new : List ℕ} {b : Begun} {r0 r1 left0 left1 : Option (List ℕ)} {line0 line1 : Option Line} {ends0 ends1 : ℕ} {r : Result Bool E} (more : List ℕ)
     → IsBegun (Part from count) first b → length first ≤ 8192 → Said b.promise.kind b.promise.len from got (drop b.head first ++ more) old new r → length old ≡ count
     → Passed (b.promise.len - length (drop b.head first)) more r0 r1 left0 left1 line0 line1 ends0 ends1 r
-    → Finished from count first more b old new r0 r1 left0 left1 line0 line1 ends0 ends1 r
+    → Finished from count first more b old new got r0 r1 left0 left1 line0 line1 ends0 ends1 r
 finished_of {E = E} {from = from} {count = count} {got = got} {first = first} {old = old} {new = new} {b = b} {left0 = left0} {ends0 = ends0} {ends1 = ends1} {r = r} more begun few said long passed =
     let most : length (drop b.head first) + length more ≤ b.promise.len = omega (arith, passed.within, begun.heard.most) in
     let split : drop b.head (first ++ more) ≡ drop b.head first ++ more = drop-append-le b.head first more begun.heard.within in
@@ -181,6 +182,7 @@ finished_of {E = E} {from = from} {count = count} {got = got} {first = first} {o
       received = passed.received;
       came = passed.came;
       heard = heard_more more begun.heard most;
+      long = longs;
       fits = fits_by r split longs said.whole said.bytes;
       cut = cut_by r split longs most said.whole passed.ended;
       later = passed.later;
@@ -205,7 +207,33 @@ finished_of {E = E} {from = from} {count = count} {got = got} {first = first} {o
 pub finished_front : {E : Type 0} {from count got : ℕ} {first old new : List ℕ} {b : Begun} {r0 r1 left0 left1 : Option (List ℕ)} {line0 line1 : Option Line} {ends0 ends1 : ℕ} {r : Result Bool E} (more front : List ℕ)
     → front ≡ drop b.head first → IsBegun (Part from count) first b → length first ≤ 8192 → Said b.promise.kind b.promise.len from got (front ++ more) old new r → length old ≡ count
     → Passed (b.promise.len - length front) more r0 r1 left0 left1 line0 line1 ends0 ends1 r
-    → Finished from count first more b old new r0 r1 left0 left1 line0 line1 ends0 ends1 r
+    → Finished from count first more b old new got r0 r1 left0 left1 line0 line1 ends0 ends1 r
 finished_front {from = from} {got = got} {old = old} {new = new} {b = b} {r0 = r0} {r1 = r1} {left0 = left0} {left1 = left1} {line0 = line0} {line1 = line1} {ends0 = ends0} {ends1 = ends1} {r = r} more front fr begun few said long passed =
     finished_of more begun few (subst (λ f. Said b.promise.kind b.promise.len from got (f ++ more) old new r) fr said) long
     (subst (λ f. Passed (b.promise.len - length f) more r0 r1 left0 left1 line0 line1 ends0 ends1 r) fr passed)
+
+-- how many bytes stand behind a head
+pub counted_head : (wanted : Wanted) (g : List ℕ) (spans : List HeaderSpan) (parts : ResponseSpans) (body : ℕ) → IsResponseOf g spans parts → length g ≤ 8192 → body ≡ length g - parts.len → IsCounted wanted g body
+counted_head wanted g spans parts body of few is = record {
+  behind = λ head rest x. omega (arith, is, length-drop parts.len g, ap length (response_unique g of.0 head (drop parts.len g) rest of.1.reads x.0).1);
+  none = λ f. absurd (f of.0 (drop parts.len g) (of.1.reads, omega (arith, few, ap length of.1.reads.1, length-append (print_response of.0) (drop parts.len g))));
+  most = λ many. absurd (omega (arith, many, few));
+}
+
+pub counted_none : (wanted : Wanted) (g : List ℕ) → length g ≤ 8192 → ((head : ResponseHead) (rest : List ℕ) → ¬ (HasHead g head rest)) → IsCounted wanted g 0
+counted_none wanted g few never = record { behind = λ head rest x. absurd (never head rest x); none = λ _. refl; most = λ many. absurd (omega (arith, many, few)) }
+
+pub counted_partial : (wanted : Wanted) (g : List ℕ) → length g ≤ 8192 → HasNoResponse g → IsCounted wanted g 0
+counted_partial wanted g few none = counted_none wanted g few (λ head rest x. none head rest x.0)
+
+pub counted_never : (wanted : Wanted) (g : List ℕ) → length g ≤ 8192 → NeverBegins g → IsCounted wanted g 0
+counted_never wanted g few never = counted_none wanted g few (λ head rest x.
+    let long : 8192 < length (print_response head) = never [] head rest (subst (λ b. ReadsResponse b head rest) (sym (append-nil g)) x.0) in
+    absurd (omega (arith, long, x.1)))
+
+pub counted_heard : {wanted : Wanted} {g : List ℕ} {b : Begun} (body : ℕ) → IsHeard wanted g b → length (drop b.head g) ≡ body → IsCounted wanted g body
+counted_heard {g = g} {b = b} body h long = record {
+  behind = λ head rest x. sym long ∙ ap length (response_unique g h.head head (drop b.head g) rest h.reads x.0).1;
+  none = λ f. absurd (f h.head (drop b.head g) (h.reads, h.few));
+  most = λ _. (h.head, b.promise, drop b.head g, (h.reads, h.few), h.says, h.most);
+}

@@ -24,3 +24,4 @@ pub mod KeySteps
 pub mod CallSteps
 pub mod RemoteSteps
 pub mod JudgedSteps
+pub mod AimedSteps

@@ -187,11 +187,11 @@ part_comes dataset key peer at old new (Err e) f = tt
 part_comes dataset key peer at old new (Ok o) f = λ p is serves none. absurd (cc ((f p is serves).2, none))
 
 -- what a reply to a request for a part leaves of a buffer
-pub replied_kept : (at : ℕ) (gained last old new : List ℕ) (r0 r1 : Option (List ℕ)) (ends0 ends1 : ℕ) (answer : Result (Option Promise) Failed) → Replied at (length old) gained last old new r0 r1 ends0 ends1 answer
+pub replied_kept : (at : ℕ) (gained last old new : List ℕ) (body : ℕ) (r0 r1 : Option (List ℕ)) (ends0 ends1 : ℕ) (answer : Result (Option Promise) Failed) → Replied at (length old) gained last old new body r0 r1 ends0 ends1 answer
     → IfOk answer (λ o. IfSome o (λ promise. KeepsRest old new (got_of_kind promise.kind (stretch_count promise.kind promise.len at (length old)))))
-replied_kept at gained last old new r0 r1 ends0 ends1 (Err e) x = tt
-replied_kept at gained last old new r0 r1 ends0 ends1 (Ok None) x = tt
-replied_kept at gained last old new r0 r1 ends0 ends1 (Ok (Some promise)) x = part_kept at gained old new promise x.fits
+replied_kept at gained last old new body r0 r1 ends0 ends1 (Err e) x = tt
+replied_kept at gained last old new body r0 r1 ends0 ends1 (Ok None) x = tt
+replied_kept at gained last old new body r0 r1 ends0 ends1 (Ok (Some promise)) x = part_kept at gained old new promise x.fits
 
 pub only_reads : (dataset : List ℕ) (peer0 peer1 : Option Peer) → peer1 ≡ peer0 → OnlyReads (shown dataset peer0) (shown dataset peer1) None None
 only_reads dataset peer0 peer1 same = record { same_objects = ap (shown dataset) same; same_draft = refl }

@@ -5,7 +5,7 @@ use Rattle.std.proofs.Props.{props}
 use Rattle.vol_base.specs.Gains.{Gains}
 use Rattle.vol_base.specs.declared.outside.Failed.{Failed}
 use Rattle.remote_store.specs.Asking.{HasBegun, IsAskFor}
-use Rattle.remote_store.specs.Bodies.{Came, Ended, Finished, IsBegun, Replied}
+use Rattle.remote_store.specs.Bodies.{Came, Ended, Finished, IsBegun, IsCounted, Replied}
 use Rattle.remote_store.specs.Placed.{placed}
 use Rattle.remote_store.specs.Dials.{IsPlain, Line, Peer}
 use Rattle.remote_store.specs.Fits.{bytes_said}
@@ -14,7 +14,7 @@ use Rattle.remote_store.specs.Talks.{IsUnfit, SaysLength, SaysPart}
 use Rattle.remote_store.specs.declared.wanted.Begun.{Begun}
 use Rattle.remote_store.specs.declared.wanted.Wanted.TheVariants.{Length, Part}
 use Rattle.remote_store.proofs.Bodies.{gains_twice}
-use Rattle.remote_store.proofs.HeardParts.{begun_length, heard_fits, heard_short, take_whole}
+use Rattle.remote_store.proofs.HeardParts.{begun_length, counted_heard, heard_fits, heard_short, take_whole}
 use Rattle.remote_store.proofs.ToldParts.{answer_cut, answer_more, answer_quiet, answer_says}
 
 plain_at : {peer : Option Peer} (p : Peer) → IfSome peer IsPlain → peer ≡ Some p → IsPlain p
@@ -40,8 +40,8 @@ length_quiet {b = b} x plain asks has same on = λ p is serves.
     ∥∥₁_map (has p here serves).1 (λ a. answer_quiet p (plain_at p plain here) asks serves a b.promise [] (begun_length x) (sym x.heard.ends ∙ open_still b.closes on))
 
 -- a part
-module _ {first more old new : List ℕ} {from : ℕ} {b : Begun} {r1 r2 left0 left1 : Option (List ℕ)} {line0 line1 : Option Line} {ends0 ends1 : ℕ} {w : Result Bool Failed}
-    (fin : Finished from (length old) first more b old new r1 r2 left0 left1 line0 line1 ends0 ends1 w) where
+module _ {first more old new : List ℕ} {from body : ℕ} {b : Begun} {r1 r2 left0 left1 : Option (List ℕ)} {line0 line1 : Option Line} {ends0 ends1 : ℕ} {w : Result Bool Failed}
+    (fin : Finished from (length old) first more b old new body r1 r2 left0 left1 line0 line1 ends0 ends1 w) where
   whole_at : w ≡ Ok true → (length (drop b.head (first ++ more)) ≡ b.promise.len) × (new ≡ placed (bytes_said b.promise.kind from (length old) (drop b.head (first ++ more))) old)
   whole_at all = taken w all fin.fits
     where
@@ -84,7 +84,7 @@ module _ {first more old new : List ℕ} {from : ℕ} {b : Begun} {r1 r2 left0 l
       let body = drop b.head (first ++ more) in
       ∥∥₁_map (has p here serves).1 (λ a. answer_quiet p (plain_at p plain here) asks serves (answer_more more (came_at true all) a) b.promise body (heard_fits fin.heard t.0) (sym fin.heard.ends ∙ open_still b.closes on))
 
-  pub replied_whole : (r0 : Option (List ℕ)) (before : ℕ) → w ≡ Ok true → Gains r0 r1 first → Replied {E = Failed} from (length old) (first ++ more) first old new r0 r2 before ends1 (Ok (Some b.promise))
+  pub replied_whole : (r0 : Option (List ℕ)) (before : ℕ) → w ≡ Ok true → Gains r0 r1 first → Replied {E = Failed} from (length old) (first ++ more) first old new body r0 r2 before ends1 (Ok (Some b.promise))
   replied_whole r0 before all gains =
       let t = whole_at all in
       record {
@@ -92,9 +92,10 @@ module _ {first more old new : List ℕ} {from : ℕ} {b : Begun} {r1 r2 left0 l
         received = gains_twice first more _ _ _ gains fin.received;
         fits = (drop b.head (first ++ more), heard_fits fin.heard t.0, t.1);
         unfit = λ none. absurd (cc none);
+        counted = counted_heard body fin.heard fin.long;
       }
 
-  pub replied_cut : (r0 : Option (List ℕ)) (before : ℕ) → w ≡ Ok false → Gains r0 r1 first → before ≤ ends0 → Replied {E = Failed} from (length old) (first ++ more) first old new r0 r2 before ends1 (Ok None)
+  pub replied_cut : (r0 : Option (List ℕ)) (before : ℕ) → w ≡ Ok false → Gains r0 r1 first → before ≤ ends0 → Replied {E = Failed} from (length old) (first ++ more) first old new body r0 r2 before ends1 (Ok None)
   replied_cut r0 before off gains later =
       let t = cut_at off in
       record {
@@ -102,23 +103,25 @@ module _ {first more old new : List ℕ} {from : ℕ} {b : Begun} {r1 r2 left0 l
         received = gains_twice first more _ _ _ gains fin.received;
         fits = tt;
         unfit = λ _. inr (heard_short fin.heard t.0, omega (arith, t.1.rose, later));
+        counted = counted_heard body fin.heard fin.long;
       }
 
-  pub replied_err : (r0 : Option (List ℕ)) (before : ℕ) (e : Failed) → Gains r0 r1 first → Replied {E = Failed} from (length old) (first ++ more) first old new r0 r2 before ends1 (Err e)
+  pub replied_err : (r0 : Option (List ℕ)) (before : ℕ) (e : Failed) → Gains r0 r1 first → Replied {E = Failed} from (length old) (first ++ more) first old new body r0 r2 before ends1 (Err e)
   replied_err r0 before e gains = record {
     front = fin.front;
     received = gains_twice first more _ _ _ gains fin.received;
     fits = tt;
     unfit = tt;
+    counted = counted_heard body fin.heard fin.long;
   }
 
 -- what was begun alone
-pub replied_begun : (from count : ℕ) (first old : List ℕ) (r0 r1 : Option (List ℕ)) (before now : ℕ) → length first ≤ 8192 → Gains r0 r1 first → IsUnfit (Part from count) first before now
-    → Replied {E = Failed} from count first first old old r0 r1 before now (Ok None)
-replied_begun from count first old r0 r1 before now few gains unfit = record { front = sym (take_whole 8192 first few); received = gains; fits = tt; unfit = λ _. unfit }
+pub replied_begun : (from count : ℕ) (first old : List ℕ) (body : ℕ) (r0 r1 : Option (List ℕ)) (before now : ℕ) → length first ≤ 8192 → Gains r0 r1 first → IsUnfit (Part from count) first before now → IsCounted (Part from count) first body
+    → Replied {E = Failed} from count first first old old body r0 r1 before now (Ok None)
+replied_begun from count first old body r0 r1 before now few gains unfit counted = record { front = sym (take_whole 8192 first few); received = gains; fits = tt; unfit = λ _. unfit; counted = counted }
 
-pub replied_failed : (from count : ℕ) (first old : List ℕ) (r0 r1 : Option (List ℕ)) (before now : ℕ) (e : Failed) → length first ≤ 8192 → Gains r0 r1 first → Replied {E = Failed} from count first first old old r0 r1 before now (Err e)
-replied_failed from count first old r0 r1 before now e few gains = record { front = sym (take_whole 8192 first few); received = gains; fits = tt; unfit = tt }
+pub replied_failed : (from count : ℕ) (first old : List ℕ) (body : ℕ) (r0 r1 : Option (List ℕ)) (before now : ℕ) (e : Failed) → length first ≤ 8192 → Gains r0 r1 first → IsCounted (Part from count) first body → Replied {E = Failed} from count first first old old body r0 r1 before now (Err e)
+replied_failed from count first old body r0 r1 before now e few gains counted = record { front = sym (take_whole 8192 first few); received = gains; fits = tt; unfit = tt; counted = counted }
 
 pub has_some : {dataset text gained : List ℕ} {peer : Option Peer} {left : Option (List ℕ)} {line : Option Line} {b : Begun} (o : Option Begun) → o ≡ Some b → HasBegun dataset peer text gained left line o → HasBegun dataset peer text gained left line (Some b)
 has_some {dataset = dataset} {text = text} {gained = gained} {peer = peer} {left = left} {line = line} o e h = subst (λ o. HasBegun dataset peer text gained left line o) e h

@@ -83,24 +83,37 @@ pub record IsBegun (wanted : Wanted) (received : List ℕ) (b : Begun) : Type 0 
   pub heard : IsHeard wanted received b
   pub full : length (drop b.head received) < following wanted b.promise.len → length received ≡ 8192
 
+-- a head of at most 8,192 bytes stands at the front, and then this
+abbrev pub HasHead : List ℕ → ResponseHead → List ℕ → Type 0
+HasHead gained head rest = ReadsResponse gained head rest × (length (print_response head) ≤ 8192)
+
+-- so many of the bytes that came stand behind the head, none where there is no head; and more than 8,192 came only of a reply that
+-- says so
+pub record IsCounted (wanted : Wanted) (gained : List ℕ) (body : ℕ) : Type 0 where
+  pub behind : (head : ResponseHead) (rest : List ℕ) → HasHead gained head rest → body ≡ length rest
+  pub none : ((head : ResponseHead) (rest : List ℕ) → ¬ (HasHead gained head rest)) → body ≡ 0
+  pub most : 8192 < length gained → (head : ResponseHead) × (promise : Promise) × (rest : List ℕ) × HasHead gained head rest × (judged wanted head ≡ Some promise) × (length rest ≤ following wanted promise.len)
+
 -- the rest of the reply to a request for a part, behind its first bytes: it came whole exactly where the answer is true, and then what it
 -- says stands in a buffer; else the end came
-pub record Finished {E : Type 0} (from count : ℕ) (first more : List ℕ) (b : Begun) (old new : List ℕ) (old_received new_received old_left new_left : Option (List ℕ)) (old_line new_line : Option Line) (old_ends new_ends : ℕ) (result : Result Bool E) : Type 0 where
+pub record Finished {E : Type 0} (from count : ℕ) (first more : List ℕ) (b : Begun) (old new : List ℕ) (body : ℕ) (old_received new_received old_left new_left : Option (List ℕ)) (old_line new_line : Option Line) (old_ends new_ends : ℕ) (result : Result Bool E) : Type 0 where
   pub front : first ≡ take 8192 (first ++ more)
   pub received : Gains old_received new_received more
   pub came : IfOk result (λ _. Came more old_left new_left old_line new_line)
   pub heard : IsHeard (Part from count) (first ++ more) b
+  pub long : length (drop b.head (first ++ more)) ≡ body
   pub fits : IfOk result (λ whole. whole ≡ true → (length (drop b.head (first ++ more)) ≡ b.promise.len)
       × (new ≡ placed (bytes_said b.promise.kind from count (drop b.head (first ++ more))) old))
   pub cut : IfOk result (λ whole. whole ≡ false → (length (drop b.head (first ++ more)) < b.promise.len) × Ended more old_left old_ends new_ends)
   pub later : old_ends ≤ new_ends
 
 -- the reply to a request for a part, by all that came: it fits, and what it says stands in a buffer; or it doesn't fit
-pub record Replied {E : Type 0} (from count : ℕ) (gained last old new : List ℕ) (old_received new_received : Option (List ℕ)) (old_ends new_ends : ℕ) (result : Result (Option Promise) E) : Type 0 where
+pub record Replied {E : Type 0} (from count : ℕ) (gained last old new : List ℕ) (body : ℕ) (old_received new_received : Option (List ℕ)) (old_ends new_ends : ℕ) (result : Result (Option Promise) E) : Type 0 where
   pub front : last ≡ take 8192 gained
   pub received : Gains old_received new_received gained
   pub fits : IfOk result (λ o. IfSome o (λ promise. (body : List ℕ) × Fits (Part from count) gained promise body × (new ≡ placed (bytes_said promise.kind from count body) old)))
   pub unfit : IfOk result (λ o. o ≡ None → IsUnfit (Part from count) gained old_ends new_ends)
+  pub counted : IsCounted (Part from count) gained body
 
 -- the answer of a read, by kind and by how many bytes are said
 abbrev pub got_of_kind : Kind → ℕ → Got

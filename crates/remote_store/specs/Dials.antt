@@ -1,5 +1,5 @@
 -- What a dial means: a peer's connections, one after the other (this project's).
-use Rattle.std.specs.Prelude.{◌≡◌, ℕ, ◌+◌, ◌==◌, ◌⊎◌, List, [], ◌∷◌, ◌++◌, length, drop, Option, Some, if◌then◌else◌}
+use Rattle.std.specs.Prelude.{◌≡◌, ℕ, ◌+◌, ◌-◌, ◌==◌, ◌⊎◌, List, [], ◌∷◌, ◌++◌, length, drop, replicate, Option, None, Some, if◌then◌else◌}
 use Rattle.std.specs.Option.{option_map}
 use Rattle.httparse.specs.Grammar.{RequestHead}
 use Rattle.vol_base.specs.Causes.{counted}
@@ -35,6 +35,16 @@ Dialled = List (List ℕ × ℕ)
 -- a call dialled once more, or was refused before it did
 abbrev pub Dials : List ℕ × ℕ → Option Dialled → Option Dialled → Type 0
 Dials peer old new = (new ≡ option_map (λ list. list ++ peer ∷ []) old) ⊎ (new ≡ old)
+
+-- how many more were dialled
+abbrev pub more_dialled : Option Dialled → Option Dialled → ℕ
+more_dialled (Some old) (Some new) = length new - length old
+more_dialled (Some old) None = 0
+more_dialled None new = 0
+
+-- those that were dialled since are all this peer
+abbrev pub DialsOnly : List ℕ × ℕ → Option Dialled → Option Dialled → Type 0
+DialsOnly peer old new = new ≡ option_map (λ list. list ++ replicate (more_dialled old new) peer) old
 
 -- how often the end came, where a call gave n bytes
 abbrev pub ends_after : ℕ → ℕ → ℕ

@@ -3,6 +3,7 @@ use Rattle.std.specs.Prelude.{◌≡◌, ◌⊎◌, ◌==◌, if◌then◌else�
 use Rattle.vol_base.specs.Causes.{Rose}
 use Rattle.vol_base.specs.Gains.{Gains}
 use Rattle.vol_base.specs.declared.outside.Got.{Got}
+use Rattle.remote_store.specs.Bodies.{IsCounted}
 use Rattle.remote_store.specs.Fits.{Fits, bytes_said, size_said}
 use Rattle.remote_store.specs.Placed.{got_by, placed}
 use Rattle.remote_store.specs.Talks.{IsUnfit}
@@ -11,12 +12,13 @@ use Rattle.remote_store.specs.declared.wanted.Wanted.{Wanted}
 use Rattle.remote_store.specs.declared.wanted.Wanted.TheVariants.{Length, Part}
 
 -- the bytes that came in a call, of which the first 8,192 are kept, decide it: where it answers they fit, and the answer is what they
--- say; it fails only where the dial failed, or they never fit, or they don't and the end came
-pub record IsJudged {T E : Type 0} (wanted : Wanted) (says : Promise → List ℕ → T → Type 0) (last : List ℕ) (old_received new_received : Option (List ℕ)) (old_ends new_ends old_faults new_faults : ℕ) (result : Result T E) : Type 0 where
+-- say, and `body` counts those behind the head; it fails only where the dial failed, or they never fit, or they don't and the end came
+pub record IsJudged {T E : Type 0} (wanted : Wanted) (says : Promise → List ℕ → T → Type 0) (last : List ℕ) (body : ℕ) (old_received new_received : Option (List ℕ)) (old_ends new_ends old_faults new_faults : ℕ) (result : Result T E) : Type 0 where
   pub gained : List ℕ
   pub front : last ≡ take 8192 gained
   pub received : Gains old_received new_received gained
   pub fits : IfOk result (λ answer. (promise : Promise) × (body : List ℕ) × Fits wanted gained promise body × says promise body answer)
+  pub counted : IsCounted wanted gained body
   pub failed : OnErr result (Rose old_faults new_faults ⊎ IsUnfit wanted gained old_ends new_ends)
 
 -- what a read asks for: an object's length alone where there is no room for bytes

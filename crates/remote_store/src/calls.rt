@@ -3,7 +3,7 @@ ghost use Rattle.std.specs.Prelude.{◌≡◌, ◌+◌, ◌<◌, ◌≤◌, ℕ,
 ghost use Rattle.vol_base.specs.Causes.{HasCause};
 ghost use Rattle.vol_base.specs.Gains.{Gains};
 ghost use Rattle.remote_store.specs.Answers.{IsAsked};
-ghost use Rattle.remote_store.specs.Bodies.{Replied, empty_got, got_of_kind, stretch_count};
+ghost use Rattle.remote_store.specs.Bodies.{IsCounted, Replied, empty_got, got_of_kind, stretch_count};
 ghost use Rattle.remote_store.specs.Dials.{Dials};
 ghost use Rattle.remote_store.specs.Fits.{Fits, size_said};
 ghost use Rattle.remote_store.specs.Hosts.{is_host};
@@ -76,6 +76,7 @@ pub(crate) fn call_length<D: Dial>(
     requires room { 4096 ≤ length spans.old }
     ensures within { there.new ≤ 8192 }
     ensures received { Gains (D.received dial.old) (D.received dial.new) (take there.new received.new) }
+    ensures counted { IsCounted Length (take there.new received.new) body.new }
     ensures fits { IfOk result (λ o. IfSome o (λ promise. Fits Length (take there.new received.new) promise [])) }
     ensures unfit { IfOk result (λ o. o ≡ None → IsUnfit Length (take there.new received.new)
         (D.ends dial.old) (D.ends dial.new)) }
@@ -135,7 +136,7 @@ pub(crate) fn call_part<D: Dial>(
     requires scratch { 0 < length scratch.old }
     requires room { 4096 ≤ length spans.old }
     ensures within { there.new ≤ 8192 }
-    ensures replied { (gained : List ℕ) × Replied from (length out.old) gained (take there.new received.new) out.old out.new
+    ensures replied { (gained : List ℕ) × Replied from (length out.old) gained (take there.new received.new) out.old out.new body.new
         (D.received dial.old) (D.received dial.new) (D.ends dial.old) (D.ends dial.new) result }
     ensures told { IfOk result (λ o. (dataset : List ℕ) → length dataset + 1 + length key.now ≤ 512
         → (IsTrue kept.old → IsQuietFor dataset (D.peer dial.old) (D.line dial.old))

@@ -1,6 +1,7 @@
 //! A store over HTTP: the objects of a range server.
 #![tactic(auto)]
 
+mod aimed;
 mod begin;
 mod body;
 mod calls;
@@ -24,6 +25,7 @@ mod text;
 mod wait;
 mod wanted;
 
+pub use aimed::{Aim, AimedDial};
 pub use dial::Dial;
 pub use hosts::is_host;
 pub use law::tell_reply;

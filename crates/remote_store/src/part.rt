@@ -4,7 +4,7 @@ ghost use Rattle.vol_base.specs.Causes.{HasCause};
 ghost use Rattle.vol_base.specs.Gains.{Gains};
 ghost use Rattle.remote_store.specs.Answers.{IsAsked};
 ghost use Rattle.remote_store.specs.Asking.{IsAskFor};
-ghost use Rattle.remote_store.specs.Bodies.{Finished, IsBegun, Replied};
+ghost use Rattle.remote_store.specs.Bodies.{Finished, IsBegun, IsCounted, Replied};
 ghost use Rattle.remote_store.specs.Dials.{Dials, SamePeer};
 ghost use Rattle.remote_store.specs.Fits.{Fits};
 ghost use Rattle.remote_store.specs.Quiet.{IsQuietFor};
@@ -33,7 +33,7 @@ fn finish_part<D: Dial>(
     requires few { length first.now ≤ 8192 }
     requires scratch { 0 < length scratch.old }
     requires begun { IsBegun (Part from (length out.old)) first.now begun }
-    ensures finished { (more : List ℕ) × Finished from (length out.old) first.now more begun out.old out.new
+    ensures finished { (more : List ℕ) × Finished from (length out.old) first.now more begun out.old out.new body.new
         (D.received dial.old) (D.received dial.new) (D.left dial.old) (D.left dial.new)
         (D.line dial.old) (D.line dial.new) (D.ends dial.old) (D.ends dial.new) result }
     ensures held { D.holds dial.new ≡ D.holds dial.old }
@@ -72,6 +72,7 @@ pub(crate) fn ask_length<D: Dial>(
     requires room { 4096 ≤ length spans.old }
     ensures within { there.new ≤ 8192 }
     ensures received { Gains (D.received dial.old) (D.received dial.new) (take there.new received.new) }
+    ensures counted { IsCounted Length (take there.new received.new) body.new }
     ensures fits { IfOk result (λ o. IfSome o (λ promise. Fits Length (take there.new received.new) promise [])) }
     ensures unfit { IfOk result (λ o. o ≡ None → IsUnfit Length (take there.new received.new)
         (D.ends dial.old) (D.ends dial.new)) }
@@ -89,7 +90,6 @@ pub(crate) fn ask_length<D: Dial>(
 {
     let was_kept = *kept;
     *kept = false;
-    *body = 0;
     match start(
         dial,
         was_kept,
@@ -99,6 +99,7 @@ pub(crate) fn ask_length<D: Dial>(
         text,
         received,
         there,
+        body,
         spans,
     ) {
         Ok(Some(begun)) => {
@@ -135,7 +136,7 @@ pub(crate) fn ask_part<D: Dial>(
     requires scratch { 0 < length scratch.old }
     requires room { 4096 ≤ length spans.old }
     ensures within { there.new ≤ 8192 }
-    ensures replied { (gained : List ℕ) × Replied from (length out.old) gained (take there.new received.new) out.old out.new
+    ensures replied { (gained : List ℕ) × Replied from (length out.old) gained (take there.new received.new) out.old out.new body.new
         (D.received dial.old) (D.received dial.new) (D.ends dial.old) (D.ends dial.new) result }
     ensures told { IfOk result (λ o. (dataset key : List ℕ)
         → IsAskFor dataset host.now port key (Part from (length out.old)) text.now
@@ -152,13 +153,12 @@ pub(crate) fn ask_part<D: Dial>(
 {
     let was_kept = *kept;
     *kept = false;
-    *body = 0;
     let wanted = Wanted::Part {
         from,
         count: out.len() as u64,
     };
     let begun = match start(
-        dial, was_kept, host, port, wanted, text, received, there, spans,
+        dial, was_kept, host, port, wanted, text, received, there, body, spans,
     ) {
         Ok(Some(begun)) => begun,
         Ok(None) => return Ok(None),

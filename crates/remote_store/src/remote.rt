@@ -6,7 +6,7 @@ ghost use Rattle.vol_base.specs.Causes.{HasCause, counted, is_count};
 ghost use Rattle.vol_base.specs.Outside.{HaveBytes, KeepsRest, OnlyReads, Reads, asked_after};
 ghost use Rattle.remote_store.specs.Bodies.{got_of_kind, stretch_count};
 ghost use Rattle.remote_store.specs.Answers.{IsAsked};
-ghost use Rattle.remote_store.specs.Dials.{Dials};
+ghost use Rattle.remote_store.specs.Dials.{Dials, DialsOnly};
 ghost use Rattle.remote_store.specs.Hosts.{is_host};
 ghost use Rattle.remote_store.specs.Quiet.{IsQuietFor};
 ghost use Rattle.remote_store.specs.Remotes.{IsJudged, IsPlaced, IsRead, IsSame, IsSize, wanted_of};
@@ -15,6 +15,7 @@ ghost use Rattle.remote_store.specs.Shown.{count_at, key_in, shown};
 ghost use Rattle.remote_store.specs.Talks.{SaysLength, SaysPart};
 ghost use Rattle.remote_store.specs.declared.wanted.Wanted.TheVariants.{Length, Part};
 
+use crate::aimed::{Aim, AimedDial};
 use crate::calls::{call_length, call_part, find_empty_got, find_got, find_size};
 use crate::counts::settle;
 use crate::dial::Dial;
@@ -106,6 +107,52 @@ impl<D: Dial + Drop> Remote<D> {
     }
 }
 
+impl<N: Aim, D: Dial> Remote<AimedDial<N, D>> {
+    /// The same store over the dial itself, which dialled that port of that host alone. No end is kept.
+    pub fn release(self) -> Remote<D>
+        ensures dial { result.dial ≡ self.dial.dial }
+        ensures host { result.host ≡ self.host }
+        ensures port { result.port ≡ self.port }
+        ensures dataset { result.dataset ≡ self.dataset }
+        ensures faults { result.faults ≡ self.faults }
+        ensures asked { result.asked ≡ self.asked }
+        ensures only { DialsOnly (N.host, N.port) N.before (D.dialled result.dial) }
+    {
+        let Remote {
+            dial,
+            host,
+            port,
+            dataset,
+            kept: _kept,
+            peer,
+            text,
+            received,
+            there,
+            body,
+            scratch,
+            spans,
+            asked,
+            faults,
+        } = self;
+        Remote {
+            dial: dial.into_dial(),
+            host,
+            port,
+            dataset,
+            kept: false,
+            peer,
+            text,
+            received,
+            there,
+            body,
+            scratch,
+            spans,
+            asked,
+            faults,
+        }
+    }
+}
+
 impl<D: Dial> Remote<D> {
     /// The first 8,192 bytes that came in the last call.
     pub fn last(&self) -> &[u8]
@@ -114,13 +161,20 @@ impl<D: Dial> Remote<D> {
         &self.received[..self.there]
     }
 
+    /// How many bytes came behind the head of the reply in the last call.
+    pub fn body(&self) -> u64
+        ensures { result ≡ self.now.body }
+    {
+        self.body
+    }
+
     // Asks for the length of an object, by its name below the data set.
     fn ask_length(&mut self, key: &Name) -> Result<Promise, Failed>
         requires { length self.old.dataset + 1 + length key.now ≤ 512 }
         ensures told { IfOk result (λ promise.
             SaysLength self.old.dataset (D.peer self.old.dial) key.now (Some promise)) }
         ensures judged { IsJudged Length IsSame (take self.new.there self.new.received.items)
-            (D.received self.old.dial) (D.received self.new.dial) (D.ends self.old.dial) (D.ends self.new.dial)
+            self.new.body (D.received self.old.dial) (D.received self.new.dial) (D.ends self.old.dial) (D.ends self.new.dial)
             (D.faults self.old.dial) (D.faults self.new.dial) result }
         ensures dialled { Dials (string_bytes self.old.host, self.old.port) (D.dialled self.old.dial) (D.dialled self.new.dial) }
         ensures peer { D.peer self.new.dial ≡ D.peer self.old.dial }
@@ -155,7 +209,7 @@ impl<D: Dial> Remote<D> {
         ensures rest { IfOk result (λ promise. KeepsRest out.old out.new
             (got_of_kind promise.kind (stretch_count promise.kind promise.len at (length out.old)))) }
         ensures judged { IsJudged (Part at (length out.old)) (IsPlaced at out.old out.new) (take self.new.there self.new.received.items)
-            (D.received self.old.dial) (D.received self.new.dial) (D.ends self.old.dial) (D.ends self.new.dial)
+            self.new.body (D.received self.old.dial) (D.received self.new.dial) (D.ends self.old.dial) (D.ends self.new.dial)
             (D.faults self.old.dial) (D.faults self.new.dial) result }
         ensures dialled { Dials (string_bytes self.old.host, self.old.port) (D.dialled self.old.dial) (D.dialled self.new.dial) }
         ensures peer { D.peer self.new.dial ≡ D.peer self.old.dial }
@@ -214,9 +268,10 @@ impl<D: Dial> Source for Remote<D> {
             (count_at (shown self.new.dataset (D.peer self.new.dial)) (D.faults self.new.dial) self.new.faults) result }
         ensures judged { IfSome (key_in self.old.dataset name.now) (λ _. IsJudged Length IsSize
             (take self.new.there self.new.received.items)
-            (D.received self.old.dial) (D.received self.new.dial) (D.ends self.old.dial) (D.ends self.new.dial)
+            self.new.body (D.received self.old.dial) (D.received self.new.dial) (D.ends self.old.dial) (D.ends self.new.dial)
             (D.faults self.old.dial) (D.faults self.new.dial) result) }
         ensures nothing { key_in self.old.dataset name.now ≡ None → self.new.dial ≡ self.old.dial }
+        ensures silent { key_in self.old.dataset name.now ≡ None → (self.new.there ≡ 0) × (self.new.body ≡ 0) }
         ensures dialled { Dials (string_bytes self.old.host, self.old.port) (D.dialled self.old.dial) (D.dialled self.new.dial) }
     {
         self.there = 0;
@@ -248,9 +303,10 @@ impl<D: Dial> Source for Remote<D> {
             (count_at (shown self.new.dataset (D.peer self.new.dial)) (D.faults self.new.dial) self.new.faults) result }
         ensures judged { IfSome (key_in self.old.dataset name.now) (λ _. IsJudged (wanted_of at (length out.old)) (IsRead at out.old out.new)
             (take self.new.there self.new.received.items)
-            (D.received self.old.dial) (D.received self.new.dial) (D.ends self.old.dial) (D.ends self.new.dial)
+            self.new.body (D.received self.old.dial) (D.received self.new.dial) (D.ends self.old.dial) (D.ends self.new.dial)
             (D.faults self.old.dial) (D.faults self.new.dial) result) }
         ensures nothing { key_in self.old.dataset name.now ≡ None → self.new.dial ≡ self.old.dial }
+        ensures silent { key_in self.old.dataset name.now ≡ None → (self.new.there ≡ 0) × (self.new.body ≡ 0) }
         ensures dialled { Dials (string_bytes self.old.host, self.old.port) (D.dialled self.old.dial) (D.dialled self.new.dial) }
     {
         self.there = 0;

@@ -4,7 +4,7 @@ ghost use Rattle.vol_base.specs.Causes.{HasCause};
 ghost use Rattle.vol_base.specs.Gains.{Gains};
 ghost use Rattle.remote_store.specs.Answers.{IsAsked};
 ghost use Rattle.remote_store.specs.Asking.{HasBegun, IsAskFor};
-ghost use Rattle.remote_store.specs.Bodies.{IsBegun};
+ghost use Rattle.remote_store.specs.Bodies.{IsBegun, IsCounted};
 ghost use Rattle.remote_store.specs.Dials.{Dials, SamePeer};
 ghost use Rattle.remote_store.specs.Quiet.{IsQuietFor};
 ghost use Rattle.remote_store.specs.Talks.{IsUnfit};
@@ -12,6 +12,7 @@ ghost use Rattle.remote_store.specs.Talks.{IsUnfit};
 use crate::begin::begin;
 use crate::dial::Dial;
 use crate::talk::send_all;
+use crate::wait::count_behind;
 use crate::wanted::{Begun, Wanted};
 use httparse::spans::HeaderSpan;
 use vol_base::Failed;
@@ -105,7 +106,7 @@ fn ask_kept<D: Dial>(
 ///
 /// # Errors
 /// `Failed` only where the dial failed.
-pub(crate) fn start<D: Dial>(
+fn ask<D: Dial>(
     dial: &mut D,
     kept: bool,
     host: &str,
@@ -145,4 +146,45 @@ pub(crate) fn start<D: Dial>(
         Err(failed) => return Err(failed),
     }
     ask_once(dial, wanted, text, received, there, spans)
+}
+
+/// The same; `body` is how many bytes came behind the head.
+///
+/// # Errors
+/// `Failed` only where the dial failed.
+pub(crate) fn start<D: Dial>(
+    dial: &mut D,
+    kept: bool,
+    host: &str,
+    port: u16,
+    wanted: Wanted,
+    text: &[u8],
+    received: &mut [u8],
+    there: &mut usize,
+    body: &mut u64,
+    spans: &mut [HeaderSpan],
+) -> Result<Option<Begun>, Failed>
+    requires held { IsTrue kept → IsTrue (D.holds dial.old) }
+    requires some { IsAsked wanted }
+    requires size { length received.old ≡ 8192 }
+    requires room { 4096 ≤ length spans.old }
+    ensures within { there.new ≤ 8192 }
+    ensures received { Gains (D.received dial.old) (D.received dial.new) (take there.new received.new) }
+    ensures begun { IfOk result (λ o. IfSome o (λ b. IsBegun wanted (take there.new received.new) b)) }
+    ensures unfit { IfOk result (λ o. o ≡ None → IsUnfit wanted (take there.new received.new)
+        (D.ends dial.old) (D.ends dial.new)) }
+    ensures told { IfOk result (λ o. (dataset key : List ℕ) → IsAskFor dataset host.now port key wanted text.now
+        → (IsTrue kept → IsQuietFor dataset (D.peer dial.old) (D.line dial.old))
+        → HasBegun dataset (D.peer dial.old) text.now (take there.new received.new)
+        (D.left dial.new) (D.line dial.new) o) }
+    ensures held { IfOk result (λ _. IsTrue (D.holds dial.new)) }
+    ensures ends { D.ends dial.old ≤ D.ends dial.new }
+    ensures dialled { Dials (host.now, port) (D.dialled dial.old) (D.dialled dial.new) }
+    ensures peer { D.peer dial.new ≡ D.peer dial.old }
+    ensures cause { HasCause (D.faults dial.old) (D.faults dial.new) result }
+    ensures counted { IsCounted wanted (take there.new received.new) body.new }
+{
+    let answer = ask(dial, kept, host, port, wanted, text, received, there, spans);
+    *body = count_behind(&received[..*there], spans);
+    answer
 }

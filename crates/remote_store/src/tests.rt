@@ -1,5 +1,7 @@
 //! What a store answers, by the reply to its request. Each answer was worked out by hand.
 
+mod random;
+
 use crate::{Remote, ScriptDial, is_host};
 use memory_rows::name_of;
 use std::alloc::Global;
@@ -88,12 +90,12 @@ const READS: [(&str, Option<Got>, &[u8]); 16] = [
 ];
 
 // A store over a peer that says these bytes, whatever it is asked.
-fn store_of(alloc: Global, reply: &str) -> Result<Remote<ScriptDial>, Fail> {
+fn store_of(alloc: Global, reply: &[u8]) -> Result<Remote<ScriptDial>, Fail> {
     let host = String::from_str(alloc, "localhost")?;
     if !is_host(host.as_str().as_bytes()) {
         return Err(Fail::from("no host"));
     }
-    let dial = ScriptDial::new(reply.as_bytes().to_vec(alloc)?);
+    let dial = ScriptDial::new(reply.to_vec(alloc)?);
     match Remote::new(alloc, dial, host, 8080, &name_of("d")?) {
         Ok(store) => Ok(store),
         Err(_) => Err(Fail::from("no memory")),
@@ -104,7 +106,7 @@ fn store_of(alloc: Global, reply: &str) -> Result<Remote<ScriptDial>, Fail> {
 fn reads_what_fits(rt: HostRuntime) -> Result<(), Fail> {
     let name = name_of("d/s/x")?;
     for (reply, answer, bytes) in READS {
-        let mut store = store_of(rt.alloc(), reply)?;
+        let mut store = store_of(rt.alloc(), reply.as_bytes())?;
         let mut buffer = [b'.'; 3];
         let got = store.read_at(&name, 2, &mut buffer).ok();
         assert_eq!(rt; got, answer, "at {reply}");
@@ -119,10 +121,11 @@ fn reads_what_fits(rt: HostRuntime) -> Result<(), Fail> {
 
 #[test]
 fn shows_what_came(rt: HostRuntime) -> Result<(), Fail> {
-    let mut store = store_of(rt.alloc(), CUT)?;
+    let mut store = store_of(rt.alloc(), CUT.as_bytes())?;
     let mut buffer = [0; 3];
     assert!(rt; store.read_at(&name_of("d/s/x")?, 2, &mut buffer).is_err());
     assert_eq!(rt; store.last(), CUT.as_bytes());
+    assert_eq!(rt; store.body(), 2);
     Ok(())
 }
 
@@ -143,11 +146,12 @@ const SIZES: [(&str, Option<Option<u64>>); 4] = [
 #[test]
 fn says_lengths(rt: HostRuntime) -> Result<(), Fail> {
     for (reply, answer) in SIZES {
-        let mut store = store_of(rt.alloc(), reply)?;
+        let mut store = store_of(rt.alloc(), reply.as_bytes())?;
         assert_eq!(rt; store.size(&name_of("d/s/x")?).ok(), answer, "at {reply}");
         // A name of another data set, and nothing is sent.
         assert_eq!(rt; store.size(&name_of("e/s/x")?).ok(), Some(None));
         assert!(rt; store.last().is_empty());
+        assert_eq!(rt; store.body(), 0);
     }
     Ok(())
 }

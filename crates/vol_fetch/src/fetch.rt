@@ -1,68 +1,77 @@
 //! A cutout over HTTP.
-ghost use Rattle.std.specs.Prelude.{◌≡◌, ◌↔◌, IfNone, IfOk, IfSome, IsTrue, None, map, string_bytes};
+ghost use Rattle.std.specs.Prelude.{◌≡◌, ◌≢◌, ◌≤◌, ◌↔◌, IfNone, IfOk, IfSome, IsTrue, None, Some, length, map, string_bytes};
 ghost use Rattle.command_base.specs.Ending.{IsCaused};
 ghost use Rattle.command_base.specs.Outlets.{outlets_of};
+ghost use Rattle.remote_store.specs.Dials.{DialsOnly};
 ghost use Rattle.remote_store.specs.Hosts.{is_host};
 ghost use Rattle.remote_store.specs.Shown.{count_at, shown};
 ghost use Rattle.vol_fetch.specs.Fetches.{Completes, Fetches, Untried};
 ghost use Rattle.vol_fetch.specs.Words.{fetch_line, first_word};
 
-use crate::words::{first_word, read_words};
+use crate::words::{Request, first_word, read_words};
 use command_base::{Status, tell};
 use cutout_cmd::run_cutout;
-use remote_store::{Dial, Remote};
+use remote_store::{Aim, AimedDial, Dial, Remote};
 use std::alloc::Global;
+use std::marker::Brand;
 use vol_base::{Name, OutOfMemory, Outlet};
 
-// The objects of a data set of the peer at a port of a host.
-fn open_store<D: Dial + Drop>(
+// The objects of a data set of the peer at a port of a host, by a dial that dials nothing else.
+fn open_store<N: Aim, D: Dial + Drop>(
     alloc: Global,
     dial: D,
     host: &str,
     port: u16,
     dataset: &Name,
-) -> Result<Remote<D>, OutOfMemory>
-    requires { IsTrue (is_host host.now) }
-    ensures dial { IfOk result (λ r. r.dial ≡ dial) }
+) -> Result<Remote<AimedDial<N, D>>, OutOfMemory>
+    requires named { IsTrue (is_host host.now) }
+    requires host { host.now ≡ N.host }
+    requires port { port ≡ N.port }
+    requires before { D.dialled dial ≡ N.before }
+    ensures dial { IfOk result (λ r. r.dial.dial ≡ dial) }
     ensures dataset { IfOk result (λ r. r.dataset ≡ dataset.now) }
-    ensures host { IfOk result (λ r. string_bytes r.host ≡ host.now) }
-    ensures port { IfOk result (λ r. r.port ≡ port) }
     ensures faults { IfOk result (λ r. r.faults ≡ 0) }
 {
-    match String::from_str(alloc, host) {
-        Ok(host) => Remote::new(alloc, dial, host, port, dataset),
-        Err(_) => Err(OutOfMemory),
-    }
+    let Ok(aim) = String::from_str(alloc, host) else {
+        return Err(OutOfMemory);
+    };
+    let Ok(name) = String::from_str(alloc, host) else {
+        return Err(OutOfMemory);
+    };
+    let dial = AimedDial::new(dial, aim, port);
+    Remote::new(alloc, dial, name, port, dataset)
 }
 
-/// `HOST PORT DATASET KEY BOX`: writes the values of a box of the scale of a key of a data set that a peer serves, as
-/// `cutout` writes those of objects that are at hand, and tells a refusal as it does. The store is handed back where there
-/// was one.
-pub fn fetch<D: Dial + Drop, O: Outlet, E: Outlet>(
+// A cutout from the objects that are asked for. Where it was tried the store is handed back.
+fn fetch_from<N: Aim, D: Dial + Drop, O: Outlet, E: Outlet>(
     alloc: Global,
     words: &[String],
+    request: &Request,
     dial: D,
     out: &mut O,
     err: &mut E,
 ) -> (Status, Option<Remote<D>>)
-    ensures usage { result.0 ≡ Status.Usage ↔ (fetch_line (map string_bytes words.now) ≡ None) }
+    requires named { IsTrue (is_host (first_word (map string_bytes words.now))) }
+    requires dataset { length request.now.dataset ≤ 200 }
+    requires key { length request.now.key ≤ 200 }
+    requires host { first_word (map string_bytes words.now) ≡ N.host }
+    requires port { request.now.port ≡ N.port }
+    requires before { D.dialled dial ≡ N.before }
+    ensures used { result.0 ≢ Status.Usage }
     ensures untried { IfNone result.1 (Untried result.0
         (outlets_of O.written O.faults E.written E.faults out.old out.new err.old err.new)) }
-    ensures cuts { IfSome result.1 (λ remote. Fetches (fetch_line (map string_bytes words.now)) result.0
-        (λ r. shown r.dataset (D.peer dial))
+    ensures cuts { IfSome result.1 (λ remote. Fetches (Some request.now) result.0 (λ r. shown r.dataset (D.peer dial))
         (outlets_of O.written O.faults E.written E.faults out.old out.new err.old err.new)) }
-    ensures complete { IfSome result.1 (λ remote. Completes (fetch_line (map string_bytes words.now)) result.0
+    ensures complete { IfSome result.1 (λ remote. Completes (Some request.now) result.0
         (λ r. shown r.dataset (D.peer dial)) (D.faults dial) (D.faults remote.dial) (O.faults out.old) (O.faults out.new)) }
-    ensures causes { IfSome result.1 (λ remote. IfSome (fetch_line (map string_bytes words.now)) (λ r. IsCaused result.0
+    ensures causes { IfSome result.1 (λ remote. IfSome (Some request.now) (λ r. IsCaused result.0
         (count_at (shown r.dataset (D.peer dial)) (D.faults dial) 0)
         (count_at (shown r.dataset (D.peer dial)) (D.faults remote.dial) remote.faults)
         (O.faults out.old) (O.faults out.new) (E.faults err.old) (E.faults err.new))) }
+    ensures dialled { IfSome result.1 (λ remote. DialsOnly (first_word (map string_bytes words.now), request.now.port)
+        (D.dialled dial) (D.dialled remote.dial)) }
 {
-    let Some(request) = read_words(words) else {
-        tell(err, Status::Usage);
-        return (Status::Usage, None);
-    };
-    let mut store = match open_store(
+    let mut store = match open_store::<N, D>(
         alloc,
         dial,
         first_word(words),
@@ -84,5 +93,37 @@ pub fn fetch<D: Dial + Drop, O: Outlet, E: Outlet>(
         &request.key,
         &request.part,
     );
-    (status, Some(store))
+    (status, Some(store.release()))
+}
+
+/// `HOST PORT DATASET KEY BOX`: writes the values of a box of the scale of a key of a data set that a peer serves, as
+/// `cutout` writes those of objects that are at hand, and tells a refusal as it does. The store is handed back where there
+/// was one: it dialled that port of that host alone.
+pub fn fetch<D: Dial + Drop, O: Outlet, E: Outlet>(
+    alloc: Global,
+    words: &[String],
+    dial: D,
+    out: &mut O,
+    err: &mut E,
+) -> (Status, Option<Remote<D>>)
+    ensures usage { result.0 ≡ Status.Usage ↔ (fetch_line (map string_bytes words.now) ≡ None) }
+    ensures untried { IfNone result.1 (Untried result.0
+        (outlets_of O.written O.faults E.written E.faults out.old out.new err.old err.new)) }
+    ensures cuts { IfSome result.1 (λ remote. Fetches (fetch_line (map string_bytes words.now)) result.0
+        (λ r. shown r.dataset (D.peer dial))
+        (outlets_of O.written O.faults E.written E.faults out.old out.new err.old err.new)) }
+    ensures complete { IfSome result.1 (λ remote. Completes (fetch_line (map string_bytes words.now)) result.0
+        (λ r. shown r.dataset (D.peer dial)) (D.faults dial) (D.faults remote.dial) (O.faults out.old) (O.faults out.new)) }
+    ensures causes { IfSome result.1 (λ remote. IfSome (fetch_line (map string_bytes words.now)) (λ r. IsCaused result.0
+        (count_at (shown r.dataset (D.peer dial)) (D.faults dial) 0)
+        (count_at (shown r.dataset (D.peer dial)) (D.faults remote.dial) remote.faults)
+        (O.faults out.old) (O.faults out.new) (E.faults err.old) (E.faults err.new))) }
+    ensures dialled { IfSome result.1 (λ remote. IfSome (fetch_line (map string_bytes words.now)) (λ r.
+        DialsOnly (first_word (map string_bytes words.now), r.port) (D.dialled dial) (D.dialled remote.dial))) }
+{
+    let Some(request) = read_words(words) else {
+        tell(err, Status::Usage);
+        return (Status::Usage, None);
+    };
+    fetch_from::<Brand, D, O, E>(alloc, words, &request, dial, out, err)
 }

@@ -1,5 +1,6 @@
 //! Connections over TCP as a dial.
-ghost use Rattle.std.specs.Prelude.{◌≡◌, ◌+◌, ◌-◌, ◌<◌, ◌≤◌, ◌^◌, true, min, length, IfOk, None};
+ghost use Rattle.std.specs.Prelude.{◌≡◌, ◌+◌, ◌-◌, ◌*◌, ◌<◌, ◌≤◌, ◌^◌, true, min, length, IfOk, None};
+ghost use Rattle.std.specs.Duration.{as_nanos};
 ghost use Rattle.std.specs.Option.{is_some};
 ghost use Rattle.vol_base.specs.Causes.{counted, is_count};
 
@@ -27,13 +28,15 @@ pub struct TcpDial<R: Net> {
 impl<R: Net> TcpDial<R> {
     /// No end is held, and nothing failed. A peer may be silent for 10 seconds.
     pub fn new(rt: R) -> TcpDial<R>
-        ensures { result.faults ≡ 0 }
+        ensures faults { result.faults ≡ 0 }
+        ensures silence { as_nanos result.silence ≡ 10 * 10 ^ 9 }
     {
         TcpDial::with_silence(rt, Duration::from_secs(10))
     }
 
     fn with_silence(rt: R, silence: Duration) -> TcpDial<R>
-        ensures { result.faults ≡ 0 }
+        ensures faults { result.faults ≡ 0 }
+        ensures silence { result.silence ≡ silence }
     {
         TcpDial {
             rt,

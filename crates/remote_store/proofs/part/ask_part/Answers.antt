@@ -13,7 +13,7 @@ returns-in-Ok-None-clause-replied g c =
     let first = take c.start.new.there c.start.new.received in
     let few : length first ≤ 8192 = omega (arith, length-take c.start.new.there c.start.new.received, c.start.ensures.within) in
     let is : c.in-Ok-None.field-0 ≡ None = cc in
-    (first, replied_begun _ _ first _ _ _ _ _ few c.start.ensures.received (c.in-Ok-None.ensures.unfit is))
+    (first, replied_begun _ _ first _ _ _ _ _ _ few c.start.ensures.received (c.in-Ok-None.ensures.unfit is) c.start.ensures.counted)
 
 pub returns-in-Ok-None-clause-told : goal.returns-in-Ok-None-clause-told
 returns-in-Ok-None-clause-told g c = λ dataset key asks quiet p same serves.
@@ -24,7 +24,7 @@ pub returns-in-Err-clause-replied : goal.returns-in-Err-clause-replied
 returns-in-Err-clause-replied g c =
     let first = take c.start.new.there c.start.new.received in
     let few : length first ≤ 8192 = omega (arith, length-take c.start.new.there c.start.new.received, c.start.ensures.within) in
-    (first, replied_failed _ _ first _ _ _ _ _ _ few c.start.ensures.received)
+    (first, replied_failed _ _ first _ _ _ _ _ _ _ few c.start.ensures.received c.start.ensures.counted)
 
 pub returns-in-Ok-true-clause-replied : goal.returns-in-Ok-true-clause-replied
 returns-in-Ok-true-clause-replied g c =

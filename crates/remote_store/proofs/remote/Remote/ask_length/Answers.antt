@@ -47,4 +47,4 @@ returns-clause-judged g c =
     let long : length ws ≡ length s.received.items = c.call_length-answer.auto.received ∙ ap length c.as_mut_slice.ensures.value in
     let kept : take there (with_items s.received ws).items ≡ take there ws = ap (take there) (written s.received ws long) in
     let few : length (take there ws) ≤ 8192 = omega (arith, length-take there ws, e.within) in
-    judged_length c.call_length-answer.result c.settle.result c.settle.ensures.said (take there ws) _ _ _ _ _ _ _ kept few e.received e.fits e.unfit e.cause
+    judged_length c.call_length-answer.result c.settle.result c.settle.ensures.said (take there ws) _ _ _ _ _ _ _ _ kept few e.received e.counted e.fits e.unfit e.cause

@@ -45,7 +45,7 @@ pub returns-clause-rest : goal.returns-clause-rest
 returns-clause-rest g c =
     let x = c.call_part-answer.ensures.replied in
     settled_some c.call_part-answer.result c.settle.result c.settle.ensures.said (λ promise. KeepsRest c.args.out.now c.call_part-answer.new.out (got_of_kind promise.kind (stretch_count promise.kind promise.len c.args.at (length c.args.out.now))))
-    (replied_kept c.args.at x.0 _ c.args.out.now c.call_part-answer.new.out _ _ _ _ c.call_part-answer.result x.1)
+    (replied_kept c.args.at x.0 _ c.args.out.now c.call_part-answer.new.out _ _ _ _ _ c.call_part-answer.result x.1)
 
 pub returns-clause-judged : goal.returns-clause-judged
 returns-clause-judged g c =
@@ -56,4 +56,4 @@ returns-clause-judged g c =
     let long : length ws ≡ length s.received.items = c.call_part-answer.auto.received ∙ ap length c.as_mut_slice.ensures.value in
     let kept : take there (with_items s.received ws).items ≡ take there ws = ap (take there) (written s.received ws long) in
     let x = e.replied in
-    judged_part c.call_part-answer.result c.settle.result c.settle.ensures.said c.args.at x.0 _ (take there ws) c.args.out.now c.call_part-answer.new.out _ _ _ _ _ _ kept x.1 e.cause
+    judged_part c.call_part-answer.result c.settle.result c.settle.ensures.said c.args.at x.0 _ (take there ws) c.args.out.now c.call_part-answer.new.out _ _ _ _ _ _ _ kept x.1 e.cause

@@ -68,21 +68,21 @@ returns-in-None-clause-judged g c =
 pub returns-in-Ok-clause-judged : goal.returns-in-Ok-clause-judged
 returns-in-Ok-clause-judged g c =
     let none : length c.args.out.now ≡ 0 = omega (arith, c.if-count-eq0.true) in
-    if_any (key_in c.args.self.now.dataset c.args.name.now) (judged_empty _ _ _ _ _ _ _ c.in-Ok.promise c.find_empty_got.result c.args.at c.args.out.now none c.find_empty_got.ensures c.in-Ok.ensures.judged)
+    if_any (key_in c.args.self.now.dataset c.args.name.now) (judged_empty _ _ _ _ _ _ _ _ c.in-Ok.promise c.find_empty_got.result c.args.at c.args.out.now none c.find_empty_got.ensures c.in-Ok.ensures.judged)
 
 pub returns-in-Err-clause-judged : goal.returns-in-Err-clause-judged
 returns-in-Err-clause-judged g c =
     let none : length c.args.out.now ≡ 0 = omega (arith, c.if-count-eq0.true) in
-    if_any (key_in c.args.self.now.dataset c.args.name.now) (judged_failed _ _ _ _ _ _ _ Length (wanted_of c.args.at (length c.args.out.now)) IsSame (IsRead c.args.at c.args.out.now c.args.out.now) _ (wanted_none [] None None 0 0 0 0 c.args.at (length c.args.out.now) none) c.in-Err.ensures.judged)
+    if_any (key_in c.args.self.now.dataset c.args.name.now) (judged_failed _ _ _ _ _ _ _ _ Length (wanted_of c.args.at (length c.args.out.now)) IsSame (IsRead c.args.at c.args.out.now c.args.out.now) _ (wanted_none [] 0 None None 0 0 0 0 c.args.at (length c.args.out.now) none) c.in-Err.ensures.judged)
 
 pub returns-in-Ok-ask_part-clause-judged : goal.returns-in-Ok-ask_part-clause-judged
 returns-in-Ok-ask_part-clause-judged g c =
     let some : length c.args.out.now ≢ 0 = λ e. absurd (c.if-count-eq0.false e) in
-    if_any (key_in c.args.self.now.dataset c.args.name.now) (judged_read _ _ _ _ _ _ _ c.in-Ok-ask_part.promise c.find_got.result c.args.at c.args.out.now c.ask_part.new.out some c.find_got.ensures c.in-Ok-ask_part.ensures.judged)
+    if_any (key_in c.args.self.now.dataset c.args.name.now) (judged_read _ _ _ _ _ _ _ _ c.in-Ok-ask_part.promise c.find_got.result c.args.at c.args.out.now c.ask_part.new.out some c.find_got.ensures c.in-Ok-ask_part.ensures.judged)
 
 pub returns-in-Err-ask_part-clause-judged : goal.returns-in-Err-ask_part-clause-judged
 returns-in-Err-ask_part-clause-judged g c =
     let some : length c.args.out.now ≢ 0 = λ e. absurd (c.if-count-eq0.false e) in
     if_any (key_in c.args.self.now.dataset c.args.name.now)
-    (judged_failed _ _ _ _ _ _ _ (Part c.args.at (length c.args.out.now)) (wanted_of c.args.at (length c.args.out.now)) (IsPlaced c.args.at c.args.out.now c.ask_part.new.out) (IsRead c.args.at c.args.out.now c.ask_part.new.out) _
-    (wanted_some [] None None 0 0 0 0 c.args.at (length c.args.out.now) some) c.in-Err-ask_part.ensures.judged)
+    (judged_failed _ _ _ _ _ _ _ _ (Part c.args.at (length c.args.out.now)) (wanted_of c.args.at (length c.args.out.now)) (IsPlaced c.args.at c.args.out.now c.ask_part.new.out) (IsRead c.args.at c.args.out.now c.ask_part.new.out) _
+    (wanted_some [] 0 None None 0 0 0 0 c.args.at (length c.args.out.now) some) c.in-Err-ask_part.ensures.judged)

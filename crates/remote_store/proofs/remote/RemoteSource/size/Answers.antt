@@ -42,7 +42,7 @@ returns-in-None-clause-judged g c =
     if_none _ (key_in c.args.self.now.dataset c.args.name.now) e
 
 pub returns-in-Ok-clause-judged : goal.returns-in-Ok-clause-judged
-returns-in-Ok-clause-judged g c = if_any (key_in c.args.self.now.dataset c.args.name.now) (judged_size _ _ _ _ _ _ _ c.in-Ok.promise c.find_size.result c.find_size.ensures c.in-Ok.ensures.judged)
+returns-in-Ok-clause-judged g c = if_any (key_in c.args.self.now.dataset c.args.name.now) (judged_size _ _ _ _ _ _ _ _ c.in-Ok.promise c.find_size.result c.find_size.ensures c.in-Ok.ensures.judged)
 
 pub returns-in-Err-clause-judged : goal.returns-in-Err-clause-judged
-returns-in-Err-clause-judged g c = if_any (key_in c.args.self.now.dataset c.args.name.now) (judged_failed _ _ _ _ _ _ _ Length Length IsSame IsSize _ refl c.in-Err.ensures.judged)
+returns-in-Err-clause-judged g c = if_any (key_in c.args.self.now.dataset c.args.name.now) (judged_failed _ _ _ _ _ _ _ _ Length Length IsSame IsSize _ refl c.in-Err.ensures.judged)

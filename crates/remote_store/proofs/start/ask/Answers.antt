@@ -1,6 +1,6 @@
 use Rattle.std.proofs.Common.{◌≡◌, Some, take}
 use Rattle.remote_store.proofs.ToldParts.{told_kept, told_new}
-use Rattle.remote_store.proofs.start.start.Goals as goal
+use Rattle.remote_store.proofs.start.ask.Goals as goal
 
 pub returns-in-Ok-Some-clause-told : goal.returns-in-Ok-Some-clause-told
 returns-in-Ok-Some-clause-told g c =

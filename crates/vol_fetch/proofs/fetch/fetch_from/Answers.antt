@@ -1,0 +1,38 @@
+use Rattle.std.proofs.Common.{◌≡◌, Some, ap, refl, sym}
+use Rattle.remote_store.specs.Shown.{shown}
+use Rattle.vol_fetch.proofs.FetchSteps.{caused, completed, fetched, not_usage}
+use Rattle.vol_fetch.proofs.fetch.fetch_from.Goals as goal
+
+pub returns-clause-used : goal.returns-clause-used
+returns-clause-used g c = not_usage c.run_cutout-status.result _ _ _ _ _ c.run_cutout-status.ensures.cuts
+
+pub returns-clause-cuts : goal.returns-clause-cuts
+returns-clause-cuts g c =
+    let r = c.args.request.now in
+    let s = c.in-Ok.store in
+    let told : shown s.dataset (g.D.Dial.peer s.dial.dial) ≡ shown r.dataset (g.D.Dial.peer c.args.dial) = λ i. shown (c.in-Ok.ensures.dataset i) (g.D.Dial.peer (c.in-Ok.ensures.dial i)) in
+    fetched (Some r) r c.run_cutout-status.result (λ r. shown r.dataset (g.D.Dial.peer c.args.dial)) _ (shown s.dataset (g.D.Dial.peer s.dial.dial)) refl told c.run_cutout-status.ensures.cuts
+
+pub returns-clause-complete : goal.returns-clause-complete
+returns-clause-complete g c =
+    let r = c.args.request.now in
+    let s = c.in-Ok.store in
+    let n = c.run_cutout-status.new.store in
+    let told : shown s.dataset (g.D.Dial.peer s.dial.dial) ≡ shown r.dataset (g.D.Dial.peer c.args.dial) = λ i. shown (c.in-Ok.ensures.dataset i) (g.D.Dial.peer (c.in-Ok.ensures.dial i)) in
+    let now : g.D.Dial.faults n.dial.dial ≡ g.D.Dial.faults c.release.result.dial = ap g.D.Dial.faults (sym c.release.ensures.dial) in
+    let all = completed (Some r) r c.run_cutout-status.result (λ r. shown r.dataset (g.D.Dial.peer c.args.dial)) (shown s.dataset (g.D.Dial.peer s.dial.dial)) (shown n.dataset (g.D.Dial.peer n.dial.dial))
+    (g.D.Dial.faults s.dial.dial) (g.D.Dial.faults c.args.dial) (g.D.Dial.faults n.dial.dial) s.faults n.faults _ _ refl told c.run_cutout-status.ensures.kept.same_objects (ap g.D.Dial.faults c.in-Ok.ensures.dial) c.run_cutout-status.ensures.complete in
+    rw (sym now) all
+
+pub returns-clause-causes : goal.returns-clause-causes
+returns-clause-causes g c =
+    let r = c.args.request.now in
+    let s = c.in-Ok.store in
+    let n = c.run_cutout-status.new.store in
+    let told : shown s.dataset (g.D.Dial.peer s.dial.dial) ≡ shown r.dataset (g.D.Dial.peer c.args.dial) = λ i. shown (c.in-Ok.ensures.dataset i) (g.D.Dial.peer (c.in-Ok.ensures.dial i)) in
+    let now : g.D.Dial.faults n.dial.dial ≡ g.D.Dial.faults c.release.result.dial = ap g.D.Dial.faults (sym c.release.ensures.dial) in
+    let own : n.faults ≡ c.release.result.faults = sym c.release.ensures.faults in
+    let all = caused (Some r) r c.run_cutout-status.result (λ r. shown r.dataset (g.D.Dial.peer c.args.dial)) (shown s.dataset (g.D.Dial.peer s.dial.dial)) (shown n.dataset (g.D.Dial.peer n.dial.dial))
+    (g.D.Dial.faults s.dial.dial) (g.D.Dial.faults c.args.dial) (g.D.Dial.faults n.dial.dial) s.faults n.faults _ _ _ _ refl told c.run_cutout-status.ensures.kept.same_objects c.in-Ok.ensures.faults (ap g.D.Dial.faults c.in-Ok.ensures.dial)
+    c.run_cutout-status.ensures.causes in
+    rw (sym now) (rw (sym own) all)
