@@ -44,3 +44,15 @@ puts StoreFault = true
 puts OutFault = true
 puts NoMemory = true
 puts other = false
+
+-- the statuses after which a command that prints a line of what was done may have called its output
+abbrev pub prints : Status → Bool
+prints Ok = true
+prints OutFault = true
+prints other = false
+
+-- the statuses of a request that is refused by the info document, or by the words with it
+abbrev pub refuses : Status → Bool
+refuses InfoRefused = true
+refuses RequestRefused = true
+refuses other = false

@@ -1,11 +1,13 @@
 //! The command `cutout`.
-ghost use Rattle.std.specs.Prelude.{◌≡◌, ◌≢◌, ◌≤◌, ◌+◌, length, IfErr, IfSome, Some};
+ghost use Rattle.std.specs.Prelude.{◌≡◌, ◌≢◌, ◌≤◌, ◌+◌, ◌^◌, true, length, IfErr, IfSome, Some};
 ghost use Rattle.vol_base.specs.Causes.{HasCauseOf, Rose};
 ghost use Rattle.vol_base.specs.Outside.{Objects, OnlyReads};
 ghost use Rattle.command_base.specs.Ending.{EndsWell, IsCaused};
 ghost use Rattle.command_base.specs.Outlets.{outlets_of};
 ghost use Rattle.command_base.specs.Scales.{stored_scale};
+ghost use Rattle.command_base.specs.Statuses.{refuses};
 ghost use Rattle.cutout_cmd.specs.Cutouts.{AsksFor, broken_by, CanCut, Cuts, CutsOut, CutsScale, IsBroken, IsRequest, JudgesPart, parts_cost, Writes};
+ghost use Rattle.cutout_cmd.specs.Refusals.{cutout_status};
 
 use crate::refusal::CutoutRefusal;
 use chunk_grid::{byte_len, inside, whole};
@@ -94,6 +96,9 @@ fn cut_scale<S: Source, O: Outlet>(
     ensures cause { HasCauseOf CutoutRefusal.StoreFault (S.faults store.old) (S.faults store.new) result }
     ensures out_cause { HasCauseOf CutoutRefusal.OutFault (O.faults out.old) (O.faults out.new) result }
     ensures unwritten { Writes result part.now (O.written out.old) (O.written out.new) }
+    ensures unread { IfErr result (λ refusal. refuses (cutout_status refusal) ≡ true →
+        S.asked store.new ≡ S.asked store.old) }
+    ensures unprinted { IfErr result (λ refusal. refuses (cutout_status refusal) ≡ true → out.new ≡ out.old) }
 {
     judge_part(scale, part)?;
     let mut reader = Reader::open(alloc, dataset, scale)?;
@@ -122,6 +127,9 @@ fn cut_out<S: Source, O: Outlet>(
     ensures cause { HasCauseOf CutoutRefusal.StoreFault (S.faults store.old) (S.faults store.new) result }
     ensures out_cause { HasCauseOf CutoutRefusal.OutFault (O.faults out.old) (O.faults out.new) result }
     ensures unwritten { Writes result part.now (O.written out.old) (O.written out.new) }
+    ensures unread { IfErr result (λ refusal. refuses (cutout_status refusal) ≡ true →
+        S.asked store.new ≤ S.asked store.old + (2 ^ 20 + 1)) }
+    ensures unprinted { IfErr result (λ refusal. refuses (cutout_status refusal) ≡ true → out.new ≡ out.old) }
 {
     let scale = read_scale(alloc, store, dataset, key)?;
     cut_scale(alloc, store, out, dataset, &scale, part)
@@ -149,6 +157,9 @@ pub fn run_cutout<S: Source, O: Outlet, E: Outlet>(
         → EndsWell result }
     ensures asked { IfSome (S.objects store.old) (λ m.
         AsksFor m dataset.now key.now part.now (S.asked store.old) (S.asked store.new)) }
+    // A box that is refused asks for the document alone, and calls no output.
+    ensures unread { refuses result ≡ true → S.asked store.new ≤ S.asked store.old + (2 ^ 20 + 1) }
+    ensures unprinted { refuses result ≡ true → out.new ≡ out.old }
     ensures kept { OnlyReads (S.objects store.old) (S.objects store.new) (S.draft store.old)
         (S.draft store.new) }
     ensures causes { IsCaused result (S.faults store.old) (S.faults store.new) (O.faults out.old)

@@ -1,6 +1,8 @@
 //! Cutouts over stand-ins in memory. What each answers was worked out by hand.
 
 mod damages;
+mod lines;
+mod many_rows;
 
 use crate::run_cutout;
 use command_base::Status;

@@ -8,7 +8,7 @@ ghost use Rattle.shard_writer.specs.Writing.{Drops};
 ghost use Rattle.command_base.specs.Ending.{EndsWell, IsCaused};
 ghost use Rattle.command_base.specs.Outlets.{outlets_of};
 ghost use Rattle.command_base.specs.Scales.{IsReady, stored_scale};
-ghost use Rattle.command_base.specs.Statuses.{puts};
+ghost use Rattle.command_base.specs.Statuses.{prints, puts};
 ghost use Rattle.cutout_cmd.specs.Cutouts.{IsRequest};
 ghost use Rattle.write_cmd.specs.Storing.{WrittenBack};
 ghost use Rattle.generate_cmd.specs.Generating.{CanGenerate, drawn, Generated, Generates, HasStoreCause, IsRefusal, IsUnsummed, JudgesWhole, SumsScale};
@@ -213,6 +213,7 @@ pub fn run_generate<R: Threads + Wait + Sync, S: Store, O: Outlet, E: Outlet, G:
     ensures draft { Drops (S.draft store.old) (S.draft store.new) }
     ensures kept { puts result ≡ false → OnlyReads (S.objects store.old) (S.objects store.new)
         (S.draft store.old) (S.draft store.new) }
+    ensures unprinted { prints result ≡ false → out.new ≡ out.old }
     ensures causes { IsCaused result (S.faults store.old) (S.faults store.new) (O.faults out.old)
         (O.faults out.new) (E.faults err.old) (E.faults err.new) }
 {

@@ -4,6 +4,7 @@ use Rattle.std.specs.Prelude.{◌≡◌, ℕ, ◌+◌, ◌*◌, ◌≤◌, lengt
 use Rattle.std.specs.List.{range_with_len}
 use Rattle.vol_base.specs.Outside.{part}
 use Rattle.vol_spec.specs.BoxValues.{first_some}
+use Rattle.vol_spec.specs.Costs.{rows_cost}
 use Rattle.vol_spec.specs.FoundChunks.{index_in, of_shard, rows_in}
 use Rattle.vol_spec.specs.Rows.{Columns, judged_row}
 use Rattle.vol_spec.specs.Types.{Bytes}
@@ -72,3 +73,8 @@ Opens sharding m None (Err (Damaged fault)) = ⊥
 Opens sharding m (Some object) (Ok None) = ⊥
 Opens sharding m (Some object) (Ok (Some span)) = IsOpened sharding m object span.at span.rows
 Opens sharding m (Some object) (Err (Damaged fault)) = of_shard (rows_in object sharding m) ≡ Err fault
+
+-- how many bytes judging an index asks for at most: an entry, and the rows where the way leads to them
+abbrev pub index_cost : Option Bytes → Sharding → ℕ → ℕ
+index_cost None sharding m = 16
+index_cost (Some object) sharding m = 16 + rows_cost (rows_in object sharding m)

@@ -25,6 +25,7 @@ pub fn open_index<S: Source>(
     ensures placed { IsPlaced result }
     ensures kept { OnlyReads (S.objects store.old) (S.objects store.new) (S.draft store.old)
         (S.draft store.new) }
+    ensures asked { S.asked store.new ≤ S.asked store.old + 16 }
     ensures cause { HasCauseOf JudgeFault.NotRead (S.faults store.old) (S.faults store.new) result }
 {
     match shard_reader::open_index(store, name, sharding, minishard)? {

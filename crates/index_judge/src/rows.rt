@@ -71,6 +71,7 @@ pub fn read_rows<S: Source>(
     ensures placed { IsPlaced result }
     ensures kept { OnlyReads (S.objects store.old) (S.objects store.new) (S.draft store.old)
         (S.draft store.new) }
+    ensures asked { S.asked store.new ≤ S.asked store.old + 24 * count }
     ensures cause { HasCauseOf JudgeFault.NotRead (S.faults store.old) (S.faults store.new) result }
 {
     read_numbers(store, name, span, first, count, ids)?;
@@ -118,6 +119,7 @@ pub(crate) fn judge_rows<S: Source>(
         (columns_of bytes) sharding.now home.now.shard home.now.minishard span.now.rows) result) }
     ensures kept { OnlyReads (S.objects store.old) (S.objects store.new) (S.draft store.old)
         (S.draft store.new) }
+    ensures asked { S.asked store.new ≤ S.asked store.old + 24 * span.now.rows }
     ensures cause { HasCauseOf JudgeFault.NotRead (S.faults store.old) (S.faults store.new) result }
 {
     let mut walk = Walk::new();

@@ -7,7 +7,7 @@ ghost use Rattle.shard_writer.specs.Writing.{Drops};
 ghost use Rattle.command_base.specs.Ending.{EndsWell, IsCaused};
 ghost use Rattle.command_base.specs.Outlets.{outlets_of};
 ghost use Rattle.command_base.specs.Scales.{stored_scale};
-ghost use Rattle.command_base.specs.Statuses.{puts};
+ghost use Rattle.command_base.specs.Statuses.{prints, puts};
 ghost use Rattle.reshard_cmd.specs.Copying.{CanReshard, CopiedBack, CopiesScale, CopiesStored, DropsUnsharded, named_in, ReadsTarget, Resharded, unmade};
 ghost use Rattle.reshard_cmd.specs.Refusals.{reshard_status};
 
@@ -194,6 +194,7 @@ pub fn run_reshard<R: Threads + Wait + Sync, S: Store, O: Outlet, E: Outlet, G: 
         DropsUnsharded (stored_scale m to_dataset.now to_key.now) (S.draft store.old) (S.draft store.new)) }
     ensures kept { puts result ≡ false → OnlyReads (S.objects store.old) (S.objects store.new)
         (S.draft store.old) (S.draft store.new) }
+    ensures unprinted { prints result ≡ false → out.new ≡ out.old }
     ensures causes { IsCaused result (S.faults store.old) (S.faults store.new) (O.faults out.old)
         (O.faults out.new) (E.faults err.old) (E.faults err.new) }
 {

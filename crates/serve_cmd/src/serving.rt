@@ -22,6 +22,7 @@ fn announce<O: Outlet, D: Door>(
     requires { D.bound door.old ≡ None }
     ensures told { Announces result (D.bound door.new) (O.written out.old) (O.written out.new) }
     ensures bound { IsBoundTo port (D.bound door.new) }
+    ensures unprinted { D.bound door.new ≡ None → out.new ≡ out.old }
     ensures served { D.served door.new ≡ D.served door.old }
     ensures accepted { D.accepted door.new ≡ D.accepted door.old }
     ensures out_cause { HasCauseOf ServeRefusal.OutFault (O.faults out.old) (O.faults out.new) result }
@@ -58,6 +59,7 @@ fn serve<S: Source, O: Outlet, D: Door>(
         (doorway D.bound D.accepted D.served door.new) }
     ensures told { PortTold (status_of result) (D.bound door.new) (O.written out.old) (O.written out.new) }
     ensures bound { IsBoundTo port (D.bound door.new) }
+    ensures unprinted { D.bound door.new ≡ None → out.new ≡ out.old }
     ensures given { AcceptsEnds (status_of result) connections (doorway D.bound D.accepted D.served door.old)
         (doorway D.bound D.accepted D.served door.new) }
     ensures first { TellsFirst (O.written out.old) (O.written out.new)
@@ -101,6 +103,8 @@ pub fn run_serve<S: Source, O: Outlet, E: Outlet, D: Door>(
         (doorway D.bound D.accepted D.served door.new) }
     ensures first { TellsFirst (O.written out.old) (O.written out.new)
         (doorway D.bound D.accepted D.served door.old) (doorway D.bound D.accepted D.served door.new) }
+    // Where no port is bound, no output is called.
+    ensures unprinted { D.bound door.new ≡ None → out.new ≡ out.old }
     ensures complete { (Rose (D.faults door.old) (D.faults door.new) → ⊥) →
         (Rose (O.faults out.old) (O.faults out.new) → ⊥)
         → (result ≡ Status.Ok) ⊎ (result ≡ Status.NoMemory) }

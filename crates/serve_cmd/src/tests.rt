@@ -60,6 +60,13 @@ const SERVINGS: &[Serving] = &[
         ..TWO
     },
     Serving {
+        door: &[1],
+        status: 9,
+        told: "door fault\n",
+        replies: 0,
+        ..TWO
+    },
+    Serving {
         door: &[3],
         status: 9,
         told: "door fault\n",

@@ -9,9 +9,10 @@ ghost use Rattle.shard_writer.specs.Writing.{Drops};
 ghost use Rattle.command_base.specs.Ending.{EndsWell, IsCaused};
 ghost use Rattle.command_base.specs.Outlets.{outlets_of};
 ghost use Rattle.command_base.specs.Scales.{stored_scale};
-ghost use Rattle.command_base.specs.Statuses.{puts};
+ghost use Rattle.command_base.specs.Statuses.{prints, puts};
 ghost use Rattle.update_cmd.specs.Answering.{AnswersAll, AnswersScale, CanBeUpdated, DropsUnsharded, Judges, KeepsFeed, LeavesStore, ReadsWritable, Updated, UpdatedBack};
 ghost use Rattle.update_cmd.specs.Refusals.{not_updated};
+ghost use Rattle.write_cmd.specs.Storing.{TakesStream};
 
 use crate::UpdateFault;
 use crate::refusal::UpdateRefusal;
@@ -88,6 +89,7 @@ fn update_scale<R: Threads + Wait + Sync, S: Store, F: Feed, G: Gate + Sync>(
         IfSome (F.left feed.old) (λ bytes. AnswersScale result m (S.objects store.new)
         (writes_of bytes scale.now) dataset.now key scale.now)) }
     ensures feed { KeepsFeed result (F.left feed.old) (F.left feed.new) }
+    ensures took { TakesStream (F.left feed.old) (F.left feed.new) }
     ensures store { IfErr result (λ refusal. LeavesStore refusal (S.objects store.old) (S.objects store.new)
         (S.draft store.old) (S.draft store.new)) }
     ensures draft { OnOk result (Drops (S.draft store.old) (S.draft store.new)) }
@@ -118,6 +120,7 @@ fn update_stored<R: Threads + Wait + Sync, S: Store, F: Feed, G: Gate + Sync>(
         IfSome (F.left feed.old) (λ bytes. AnswersAll result (stored_scale m dataset.now key.now) m
         (S.objects store.new) (writes_of bytes) dataset.now key.now)) }
     ensures feed { KeepsFeed result (F.left feed.old) (F.left feed.new) }
+    ensures took { TakesStream (F.left feed.old) (F.left feed.new) }
     ensures store { IfErr result (λ refusal. LeavesStore refusal (S.objects store.old) (S.objects store.new)
         (S.draft store.old) (S.draft store.new)) }
     ensures draft { OnOk result (Drops (S.draft store.old) (S.draft store.new)) }
@@ -160,6 +163,8 @@ where
         UpdatedBack m (S.objects store.new) (writes_of bytes) dataset.now key.now)) }
     ensures end { result ≡ Status.Ok → F.left feed.new ≡ option_map (λ _. []) (F.left feed.old) }
     ensures unread { result ≡ Status.InfoRefused → F.left feed.new ≡ F.left feed.old }
+    ensures took { TakesStream (F.left feed.old) (F.left feed.new) }
+    ensures unprinted { prints result ≡ false → out.new ≡ out.old }
     ensures draft { result ≡ Status.Ok → Drops (S.draft store.old) (S.draft store.new) }
     ensures draft_unprinted { result ≡ Status.OutFault → Drops (S.draft store.old) (S.draft store.new) }
     ensures unsharded { IfSome (S.objects store.old) (λ m.

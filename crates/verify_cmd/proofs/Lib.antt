@@ -1,5 +1,7 @@
+pub mod AskedSteps
 pub mod FindSteps
 pub mod JudgeSteps
 pub mod PartSteps
 pub mod ServeSteps
 pub mod VerifySteps
+pub mod UnreadSteps

@@ -1,8 +1,9 @@
 -- What `verify` answers (this project's profile).
-use Rattle.std.specs.Prelude.{◌≡◌, ◌+◌, Option, Some, None, Result, Ok as Done, Err, IfSome, IsOkAnd, IsSomeAnd}
+use Rattle.std.specs.Prelude.{◌≡◌, ℕ, ◌+◌, ◌*◌, ◌^◌, ◌≤◌, Option, Some, None, Result, Ok as Done, Err, IfSome, IsOkAnd, IsSomeAnd}
 use Rattle.vol_base.specs.declared.boxes.Box3.{Box3}
 use Rattle.vol_base.specs.Boxes.{Within}
 use Rattle.vol_base.specs.Outside.{Objects}
+use Rattle.vol_spec.specs.Costs.{cost}
 use Rattle.vol_spec.specs.Cut.{first_fault}
 use Rattle.vol_spec.specs.Grid.{Inside, whole}
 use Rattle.vol_spec.specs.Types.{Bytes, Cell, Name}
@@ -95,3 +96,13 @@ pub record IsRight (answer : Result Report VerifyRefusal) (told : Option Objects
 abbrev pub Verified : Status → Option Objects → Name → Name → Option Box3 → Outlets → Type 0
 Verified status told dataset key part o = (answer : Result Report VerifyRefusal) ×
     IsRight answer told dataset key part × Ends report_line verify_status (verify_line dataset) answer status o
+
+-- how many bytes of the store judging a part costs at most: twice what its cells cost, and none where there is no scale
+abbrev pub judgement_cost : Result Scale NoScale → Objects → Name → Option Box3 → ℕ
+judgement_cost (Done s) m dataset part = 2 * cost m dataset s (part_in s part)
+judgement_cost (Err why) m dataset part = 0
+
+-- it asks for no more: one byte more than an info document has at most, and what the judgement costs
+abbrev pub AsksTwice : Objects → Name → Name → Option Box3 → ℕ → ℕ → Type 0
+AsksTwice m dataset key part old new = new ≤ old + (2 ^ 20 + 1
+    + judgement_cost (stored_scale m dataset key) m dataset part)

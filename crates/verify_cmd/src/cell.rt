@@ -1,10 +1,11 @@
 //! A judge of cells.
-ghost use Rattle.std.specs.Prelude.{◌≤◌, length, Err, IfOk, IfSome, Some};
+ghost use Rattle.std.specs.Prelude.{◌≤◌, ◌+◌, ◌*◌, length, Err, IfOk, IfSome, Some};
 ghost use Rattle.vol_base.specs.Causes.{HasCauseOf};
 ghost use Rattle.vol_base.specs.Outside.{OnlyReads};
 ghost use Rattle.vol_spec.specs.Grid.{IsCell};
 ghost use Rattle.vol_spec.specs.StoredBytes.{object_of};
 ghost use Rattle.std.specs.FinMap as map;
+ghost use Rattle.cutout.specs.Keeping.{cell_cost};
 ghost use Rattle.index_judge.specs.Judging.{Says};
 ghost use Rattle.verify_cmd.specs.Verifying.{JudgesCell, index_of_cell};
 
@@ -66,6 +67,8 @@ impl CellJudge {
         ensures serves { Serves (S.objects store.old) dataset.now scale.now self.new }
         ensures kept { OnlyReads (S.objects store.old) (S.objects store.new) (S.draft store.old)
             (S.draft store.new) }
+        ensures asked { IfSome (S.objects store.old) (λ m.
+            S.asked store.new ≤ S.asked store.old + cell_cost m dataset.now scale.now cell) }
         ensures cause { HasCauseOf JudgeFault.NotRead (S.faults store.old) (S.faults store.new) result }
     {
         match scale.sharding {
@@ -93,6 +96,8 @@ impl CellJudge {
         ensures serves { Serves (S.objects store.old) dataset.now scale.now self.new }
         ensures kept { OnlyReads (S.objects store.old) (S.objects store.new) (S.draft store.old)
             (S.draft store.new) }
+        ensures asked { IfSome (S.objects store.old) (λ m.
+            S.asked store.new ≤ S.asked store.old + 2 * cell_cost m dataset.now scale.now cell) }
         ensures cause { HasCauseOf JudgeFault.NotRead (S.faults store.old) (S.faults store.new) result }
     {
         match self.judge_index(store, dataset, scale, cell) {

@@ -7,7 +7,7 @@ ghost use Rattle.vol_spec.specs.Chunks.{chunk_in};
 ghost use Rattle.vol_spec.specs.Encodings.{chunk_fault};
 ghost use Rattle.vol_spec.specs.Grid.{IsCell};
 ghost use Rattle.vol_spec.specs.declared.encoding.Encoding.TheVariants.{Raw, Seg};
-ghost use Rattle.cutout.specs.Keeping.{KeepsShards};
+ghost use Rattle.cutout.specs.Keeping.{KeepsShards, cell_cost};
 ghost use Rattle.cutout.specs.Opened.{chunk_room, values_room};
 ghost use Rattle.verify_cmd.specs.Verifying.{Finds};
 
@@ -83,6 +83,8 @@ pub(crate) fn judge_chunk<S: Source>(
     ensures keeps { KeepsShards (S.objects store.old) dataset.now scale.now shards.new }
     ensures kept { OnlyReads (S.objects store.old) (S.objects store.new) (S.draft store.old)
         (S.draft store.new) }
+    ensures asked { IfSome (S.objects store.old) (λ m.
+        S.asked store.new ≤ S.asked store.old + cell_cost m dataset.now scale.now cell) }
     ensures cause { HasCauseOf LookupFault.NotRead (S.faults store.old) (S.faults store.new) result }
 {
     let limit = chunk_limit(scale, cell);

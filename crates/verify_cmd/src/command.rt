@@ -1,12 +1,15 @@
 //! The command `verify`.
-ghost use Rattle.std.specs.Prelude.{◌≡◌, ◌≤◌, length, Err, IfSome, Some};
+ghost use Rattle.std.specs.Prelude.{◌≡◌, ◌≤◌, ◌+◌, ◌*◌, ◌^◌, true, false, length, Err, IfErr, IfSome, Some};
 ghost use Rattle.vol_base.specs.Causes.{HasCauseOf, Rose};
 ghost use Rattle.vol_base.specs.Outside.{Objects, OnlyReads};
+ghost use Rattle.vol_spec.specs.Costs.{cost};
 ghost use Rattle.vol_spec.specs.Grid.{whole as whole_of};
 ghost use Rattle.command_base.specs.Ending.{EndsWell, IsCaused};
 ghost use Rattle.command_base.specs.Outlets.{outlets_of};
 ghost use Rattle.command_base.specs.Scales.{stored_scale};
-ghost use Rattle.verify_cmd.specs.Verified.{CanVerify, IsAsked, JudgesScale, JudgesStored, part_in, unverified, Verified};
+ghost use Rattle.command_base.specs.Statuses.{prints, refuses};
+ghost use Rattle.verify_cmd.specs.Refusals.{verify_status};
+ghost use Rattle.verify_cmd.specs.Verified.{AsksTwice, CanVerify, IsAsked, JudgesScale, JudgesStored, part_in, unverified, Verified};
 
 use crate::lines::write_verified_line;
 use crate::refusal::VerifyRefusal;
@@ -64,6 +67,10 @@ fn judge_scale<S: Source>(
     ensures judges { IfSome (S.objects store.old) (λ m.
         JudgesScale result m dataset.now scale.now (part_in scale.now part.now)) }
     ensures asked { IsAsked result part.now }
+    ensures unread { IfErr result (λ refusal. refuses (verify_status refusal) ≡ true →
+        S.asked store.new ≡ S.asked store.old) }
+    ensures cost { IfSome (S.objects store.old) (λ m. S.asked store.new ≤ S.asked store.old
+        + 2 * cost m dataset.now scale.now (part_in scale.now part.now)) }
     ensures kept { OnlyReads (S.objects store.old) (S.objects store.new) (S.draft store.old)
         (S.draft store.new) }
     ensures cause { HasCauseOf VerifyRefusal.StoreFault (S.faults store.old) (S.faults store.new) result }
@@ -88,6 +95,10 @@ fn judge_stored<S: Source>(
     ensures judges { IfSome (S.objects store.old) (λ m.
         JudgesStored result (stored_scale m dataset.now key.now) m dataset.now part.now) }
     ensures asked { IsAsked result part.now }
+    ensures unread { IfErr result (λ refusal. refuses (verify_status refusal) ≡ true →
+        S.asked store.new ≤ S.asked store.old + (2 ^ 20 + 1)) }
+    ensures cost { IfSome (S.objects store.old) (λ m.
+        AsksTwice m dataset.now key.now part.now (S.asked store.old) (S.asked store.new)) }
     ensures kept { OnlyReads (S.objects store.old) (S.objects store.new) (S.draft store.old)
         (S.draft store.new) }
     ensures cause { HasCauseOf VerifyRefusal.StoreFault (S.faults store.old) (S.faults store.new) result }
@@ -117,6 +128,12 @@ pub fn run_verify<S: Source, O: Outlet, E: Outlet>(
         → (Rose (S.faults store.old) (S.faults store.new) → ⊥)
         → (Rose (O.faults out.old) (O.faults out.new) → ⊥)
         → EndsWell result }
+    // It asks for the document, and for no more than twice what the cells cost.
+    ensures cost { IfSome (S.objects store.old) (λ m.
+        AsksTwice m dataset.now key.now part.now (S.asked store.old) (S.asked store.new)) }
+    // A box that is refused asks for the document alone, and what isn't printed calls no output.
+    ensures unread { refuses result ≡ true → S.asked store.new ≤ S.asked store.old + (2 ^ 20 + 1) }
+    ensures unprinted { prints result ≡ false → out.new ≡ out.old }
     ensures kept { OnlyReads (S.objects store.old) (S.objects store.new) (S.draft store.old)
         (S.draft store.new) }
     ensures causes { IsCaused result (S.faults store.old) (S.faults store.new) (O.faults out.old)

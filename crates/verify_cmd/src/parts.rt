@@ -1,7 +1,8 @@
 //! The judgement of a part of a scale.
-ghost use Rattle.std.specs.Prelude.{◌≡◌, ◌≢◌, ◌↔◌, ◌+◌, ◌<◌, ◌≤◌, ◌^◌, ℕ, length, Err, IfOk, IfSome, None};
+ghost use Rattle.std.specs.Prelude.{◌≡◌, ◌≢◌, ◌↔◌, ◌+◌, ◌*◌, ◌<◌, ◌≤◌, ◌^◌, ℕ, length, Err, IfOk, IfSome, None};
 ghost use Rattle.vol_base.specs.Causes.{HasCauseOf};
 ghost use Rattle.vol_base.specs.Outside.{Objects, OnlyReads};
+ghost use Rattle.vol_spec.specs.Costs.{cost};
 ghost use Rattle.vol_spec.specs.Grid.{cells_in, Inside};
 ghost use Rattle.vol_spec.specs.Verdicts.{Sound};
 ghost use Rattle.verify_cmd.specs.Judges.{Serves};
@@ -62,6 +63,8 @@ fn judge_cells<S: Source>(
     ensures memory { result ≢ Err VerifyFault.OutOfMemory }
     ensures kept { OnlyReads (S.objects store.old) (S.objects store.new) (S.draft store.old)
         (S.draft store.new) }
+    ensures asked { IfSome (S.objects store.old) (λ m.
+        S.asked store.new ≤ S.asked store.old + 2 * cost m dataset.now scale.now part.now) }
     ensures cause { HasCauseOf VerifyFault.StoreFault (S.faults store.old) (S.faults store.new) result }
 {
     tell_cells(scale, part);
@@ -102,10 +105,17 @@ pub fn verify<S: Source>(
     ensures both { IfOk result (λ report. report.stored + report.absent ≡ report.cells) }
     ensures kept { OnlyReads (S.objects store.old) (S.objects store.new) (S.draft store.old)
         (S.draft store.new) }
+    // It asks for no more than twice what the cells cost.
+    ensures asked { IfSome (S.objects store.old) (λ m.
+        S.asked store.new ≤ S.asked store.old + 2 * cost m dataset.now scale.now part.now) }
     ensures cause { HasCauseOf VerifyFault.StoreFault (S.faults store.old) (S.faults store.new) result }
     // Where there is no memory, nothing was read.
     ensures unread { result ≡ Err VerifyFault.OutOfMemory → (S.asked store.new ≡ S.asked store.old) ×
         (S.faults store.new ≡ S.faults store.old) }
+    // Nor was anything of a part that is refused.
+    ensures unasked { result ≡ Err VerifyFault.OutsideScale → S.asked store.new ≡ S.asked store.old }
+    ensures uncounted { (n : ℕ) → result ≡ Err (VerifyFault.TooManyCells n) →
+        S.asked store.new ≡ S.asked store.old }
 {
     if !inside(scale, part) {
         return Err(VerifyFault::OutsideScale);

@@ -21,8 +21,9 @@ use Rattle.serve_cmd.specs.Servings.{IsBoundTo}
 use Rattle.update_cmd.proofs.AnswerSteps.{drops_unread, memory_right as memory_updates}
 use Rattle.update_cmd.specs.declared.refusal.UpdateRefusal.TheVariants as update
 use Rattle.verify_cmd.proofs.VerifySteps.{memory_right as memory_verifies}
+use Rattle.verify_cmd.specs.Verified.{judgement_cost}
 use Rattle.verify_cmd.specs.declared.refusal.VerifyRefusal.TheVariants as verify
-use Rattle.write_cmd.proofs.WriteSteps.{memory_right as memory_writes}
+use Rattle.write_cmd.proofs.WriteSteps.{memory_right as memory_writes, takes_none}
 use Rattle.write_cmd.specs.declared.refusal.WriteRefusal.TheVariants as write
 use Rattle.vol_tool.specs.Runs.{Answers, AreCaused, Causes, Headline, Keeps, Succeeds}
 use Rattle.vol_tool.specs.Seen.{Faults, LeavesStore, outlets, Seen}
@@ -74,20 +75,21 @@ memory_headline (Some (Serve dataset port connections)) before err count = tt
 reads : (before : Seen) (err : Option Bytes) (count : ℕ) → LeavesStore before (said_only before err count)
 reads before err count = record { same_objects = refl; same_draft = refl }
 
-pub memory_keeps : (command : Option Command) (before : Seen) (err : Option Bytes) (count : ℕ) → Keeps command NoMemory before (said_only before err count)
-memory_keeps None before err count = (reads before err count, refl, refl)
-memory_keeps (Some (Cutout dataset key part)) before err count =
-    (reads before err count, refl, refl, asks_none before.objects (λ m. 2 ^ 20 + 1 + cells_cost (stored_scale m dataset key) m dataset part) before.asked)
-memory_keeps (Some (Write dataset key workers)) before err count = (inr refl, λ no. reads before err count, λ done. absurd (cc done), λ refused. refl, refl)
-memory_keeps (Some (Update dataset key workers)) before err count =
-    (λ done. absurd (cc done), λ out. absurd (cc out), drops_unread before.objects dataset key before.draft before.draft refl, λ no. reads before err count, λ done. absurd (cc done), λ refused. refl, refl)
-memory_keeps (Some (Generate dataset key number writes workers)) before err count = (inr refl, λ no. reads before err count, refl, refl)
-memory_keeps (Some (Verify dataset key part)) before err count = (reads before err count, refl, refl)
-memory_keeps (Some (Reshard dataset key to_dataset to_key workers)) before err count =
-    (λ done. absurd (cc done), λ out. absurd (cc out), in_told before.objects _ (λ m told. draft_kept (stored_scale m to_dataset to_key) before.draft before.draft refl), λ no. reads before err count, refl, refl)
-memory_keeps (Some (Downsample dataset key to_key method workers)) before err count =
-    (λ done. absurd (cc done), λ out. absurd (cc out), in_told before.objects _ (λ m told. draft_kept (stored_scale m dataset to_key) before.draft before.draft refl), λ no. reads before err count, refl, refl)
-memory_keeps (Some (Serve dataset port connections)) before err count = (reads before err count, refl, (0, omega arith, omega arith), in_told before.out _ (λ bytes gained same. refl))
+pub memory_keeps : (command : Option Command) (uncalled : Type 0) (before : Seen) (err : Option Bytes) (count : ℕ) → uncalled → Keeps command NoMemory uncalled before (said_only before err count)
+memory_keeps None uncalled before err count same = (reads before err count, refl, refl, same)
+memory_keeps (Some (Cutout dataset key part)) uncalled before err count same =
+    (reads before err count, refl, refl, asks_none before.objects (λ m. 2 ^ 20 + 1 + cells_cost (stored_scale m dataset key) m dataset part) before.asked, λ is. cc is, λ is. cc is)
+memory_keeps (Some (Write dataset key workers)) uncalled before err count same = (inr refl, λ no. reads before err count, λ done. absurd (cc done), λ refused. refl, takes_none before.left, refl, λ no. same)
+memory_keeps (Some (Update dataset key workers)) uncalled before err count same =
+    (λ done. absurd (cc done), λ out. absurd (cc out), drops_unread before.objects dataset key before.draft before.draft refl, λ no. reads before err count, λ done. absurd (cc done), λ refused. refl, takes_none before.left, refl, λ no. same)
+memory_keeps (Some (Generate dataset key number writes workers)) uncalled before err count same = (inr refl, λ no. reads before err count, refl, refl, λ no. same)
+memory_keeps (Some (Verify dataset key part)) uncalled before err count same =
+    (reads before err count, refl, refl, asks_none before.objects (λ m. 2 ^ 20 + 1 + judgement_cost (stored_scale m dataset key) m dataset part) before.asked, λ is. cc is, λ no. same)
+memory_keeps (Some (Reshard dataset key to_dataset to_key workers)) uncalled before err count same =
+    (λ done. absurd (cc done), λ out. absurd (cc out), in_told before.objects _ (λ m told. draft_kept (stored_scale m to_dataset to_key) before.draft before.draft refl), λ no. reads before err count, refl, refl, λ no. same)
+memory_keeps (Some (Downsample dataset key to_key method workers)) uncalled before err count same =
+    (λ done. absurd (cc done), λ out. absurd (cc out), in_told before.objects _ (λ m told. draft_kept (stored_scale m dataset to_key) before.draft before.draft refl), λ no. reads before err count, refl, refl, λ no. same)
+memory_keeps (Some (Serve dataset port connections)) uncalled before err count same = (reads before err count, refl, (0, omega arith, omega arith), in_told before.out _ (λ bytes gained is. refl), λ none. same)
 
 caused : (before : Faults) (count : ℕ) → before.err ≤ count → AreCaused NoMemory before (record before { err = count })
 caused before count later = record {

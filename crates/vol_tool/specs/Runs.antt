@@ -1,5 +1,5 @@
 -- What a call of the program means (this project's): five facts, each by an equation for every command.
-use Rattle.std.specs.Prelude.{◌≡◌, false, [], Option, None, Some, IfSome}
+use Rattle.std.specs.Prelude.{◌≡◌, ◌≤◌, ◌+◌, ◌^◌, true, false, [], Option, None, Some, IfSome}
 use Rattle.std.specs.Option.{option_map}
 use Rattle.vol_base.specs.Causes.{Rose}
 use Rattle.command_line.specs.declared.commands.Command.{Command}
@@ -10,15 +10,15 @@ use Rattle.vol_shell.specs.Lines.{memory_line, usage_line}
 use Rattle.command_base.specs.Ending.{EndsWell}
 use Rattle.command_base.specs.Outlets.{Outlets, Silent, Tells}
 use Rattle.command_base.specs.Scales.{stored_scale}
-use Rattle.command_base.specs.Statuses.{puts}
+use Rattle.command_base.specs.Statuses.{prints, puts, refuses}
 use Rattle.command_base.specs.declared.status.Status.{Status}
 use Rattle.command_base.specs.declared.status.Status.TheVariants.{Ok, Usage, InfoRefused, StoreFault, FeedFault, OutFault, NoMemory, DoorFault}
 use Rattle.cutout_cmd.specs.Cutouts.{AsksFor, CanCut, CutsOut}
-use Rattle.write_cmd.specs.Storing.{CanWrite, WrittenBack, Wrote}
+use Rattle.write_cmd.specs.Storing.{CanWrite, TakesStream, WrittenBack, Wrote}
 use Rattle.update_cmd.specs.Answering.{CanBeUpdated, Updated, UpdatedBack}
 use Rattle.update_cmd.specs.Answering as update
 use Rattle.generate_cmd.specs.Generating.{CanGenerate, drawn, Generated}
-use Rattle.verify_cmd.specs.Verified.{CanVerify, Verified}
+use Rattle.verify_cmd.specs.Verified.{AsksTwice, CanVerify, Verified}
 use Rattle.reshard_cmd.specs.Copying.{CanReshard, CopiedBack, DropsUnsharded, Resharded}
 use Rattle.downsample_cmd.specs.Answering.{CanDownsample, Downsampled, ReducedBack}
 use Rattle.serve_cmd.specs.Servings.{AcceptsEnds, NotesEnds, ServeLeaves, ServeShows, TellsFirst}
@@ -111,55 +111,63 @@ Headline (Some (Downsample dataset key to_key method workers)) status before aft
     status ≡ Ok → IfSome before.objects (λ m. ReducedBack method m after.objects dataset key to_key)
 Headline (Some (Serve dataset port connections)) status before after = Unit {0}
 
--- What stays of the store, the feed and the door.
-abbrev pub Keeps : Option Command → Status → Seen → Seen → Type 0
-Keeps None status before after = LeavesStore before after × (after.left ≡ before.left) ×
-    (after.door ≡ before.door)
--- and no more bytes are asked for than the cells of the box cost, where they are told
-Keeps (Some (Cutout dataset key part)) status before after =
+-- a request that is refused asks the store for an info document alone
+abbrev pub AsksForInfo : Status → Seen → Seen → Type 0
+AsksForInfo status before after = refuses status ≡ true → after.asked ≤ before.asked + (2 ^ 20 + 1)
+
+-- What stays of the store, the feed, the output and the door, and how much is asked of the first two. Of the output there is a fact that
+-- it wasn't called: it is as before, whatever it tells.
+abbrev pub Keeps : Option Command → Status → Type 0 → Seen → Seen → Type 0
+Keeps None status uncalled before after = LeavesStore before after × (after.left ≡ before.left) ×
+    (after.door ≡ before.door) × uncalled
+-- and no more bytes are asked for than the cells of the box cost, where they are told; of a box that is refused the document's alone
+Keeps (Some (Cutout dataset key part)) status uncalled before after =
     LeavesStore before after × (after.left ≡ before.left) × (after.door ≡ before.door)
     × IfSome before.objects (λ m. AsksFor m dataset key part before.asked after.asked)
+    × AsksForInfo status before after × (refuses status ≡ true → uncalled)
 -- no object stays half written that was begun in the call; a write that succeeds reads its feed to the end, and one without a scale leaves
--- it as before
-Keeps (Some (Write dataset key workers)) status before after =
+-- it as before; and no more is taken of it than a stream may have, with a byte behind it
+Keeps (Some (Write dataset key workers)) status uncalled before after =
     Drops before.draft after.draft × (puts status ≡ false → LeavesStore before after)
     × (status ≡ Ok → after.left ≡ option_map (λ _. []) before.left) ×
-    (status ≡ InfoRefused → after.left ≡ before.left)
-    × (after.door ≡ before.door)
+    (status ≡ InfoRefused → after.left ≡ before.left) × TakesStream before.left after.left
+    × (after.door ≡ before.door) × (prints status ≡ false → uncalled)
 -- no object stays half written that was begun in the call, where all of an update was put, or where the scale isn't sharded; what is left of the
 -- feed as for a write
-Keeps (Some (Update dataset key workers)) status before after =
+Keeps (Some (Update dataset key workers)) status uncalled before after =
     (status ≡ Ok → Drops before.draft after.draft) × (status ≡ OutFault → Drops before.draft after.draft)
     × IfSome before.objects (λ m. update.DropsUnsharded (stored_scale m dataset key) before.draft after.draft)
     × (puts status ≡ false → LeavesStore before after)
     × (status ≡ Ok → after.left ≡ option_map (λ _. []) before.left) ×
-    (status ≡ InfoRefused → after.left ≡ before.left)
-    × (after.door ≡ before.door)
+    (status ≡ InfoRefused → after.left ≡ before.left) × TakesStream before.left after.left
+    × (after.door ≡ before.door) × (prints status ≡ false → uncalled)
 -- the same of a list that is made from a number, and what is left of the feed is as before
-Keeps (Some (Generate dataset key number count workers)) status before after =
+Keeps (Some (Generate dataset key number count workers)) status uncalled before after =
     Drops before.draft after.draft × (puts status ≡ false → LeavesStore before after)
-    × (after.left ≡ before.left) × (after.door ≡ before.door)
--- nothing but an outlet changes
-Keeps (Some (Verify dataset key part)) status before after =
+    × (after.left ≡ before.left) × (after.door ≡ before.door) × (prints status ≡ false → uncalled)
+-- nothing but an outlet changes; and no more bytes are asked for than twice what the cells of the box cost, where they are told
+Keeps (Some (Verify dataset key part)) status uncalled before after =
     LeavesStore before after × (after.left ≡ before.left) × (after.door ≡ before.door)
+    × IfSome before.objects (λ m. AsksTwice m dataset key part before.asked after.asked)
+    × AsksForInfo status before after × (prints status ≡ false → uncalled)
 -- no object stays half written that was begun in the call, where all of a copy was put, or where the target isn't sharded; and what is left
 -- of the feed is as before
-Keeps (Some (Reshard dataset key to_dataset to_key workers)) status before after =
+Keeps (Some (Reshard dataset key to_dataset to_key workers)) status uncalled before after =
     (status ≡ Ok → Drops before.draft after.draft) × (status ≡ OutFault → Drops before.draft after.draft)
     × IfSome before.objects (λ m. DropsUnsharded (stored_scale m to_dataset to_key) before.draft after.draft)
     × (puts status ≡ false → LeavesStore before after) × (after.left ≡ before.left) ×
-    (after.door ≡ before.door)
+    (after.door ≡ before.door) × (prints status ≡ false → uncalled)
 -- the same of a reduction
-Keeps (Some (Downsample dataset key to_key method workers)) status before after =
+Keeps (Some (Downsample dataset key to_key method workers)) status uncalled before after =
     (status ≡ Ok → Drops before.draft after.draft) × (status ≡ OutFault → Drops before.draft after.draft)
     × IfSome before.objects (λ m. DropsUnsharded (stored_scale m dataset to_key) before.draft after.draft)
     × (puts status ≡ false → LeavesStore before after) × (after.left ≡ before.left) ×
-    (after.door ≡ before.door)
--- no more ends are taken from the door than were asked for, and none before the port is told
-Keeps (Some (Serve dataset port connections)) status before after =
+    (after.door ≡ before.door) × (prints status ≡ false → uncalled)
+-- no more ends are taken from the door than were asked for, and none before the port is told, which is told only where one is bound
+Keeps (Some (Serve dataset port connections)) status uncalled before after =
     LeavesStore before after × (after.left ≡ before.left) ×
     AcceptsEnds status connections before.door after.door
-    × TellsFirst before.out after.out before.door after.door
+    × TellsFirst before.out after.out before.door after.door × (after.door.bound ≡ None → uncalled)
 
 -- no count falls, a fault comes only where its count rose, and at success no call of the feed, the outlets and the door failed
 pub record AreCaused (status : Status) (before after : Faults) : Type 0 where

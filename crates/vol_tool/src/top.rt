@@ -66,9 +66,9 @@ where
         Headline (line (map string_bytes words.now)) result
         (at store.old feed.old out.old err.old door.old)
         (at store.new feed.new out.new err.new door.new) }
-    // What stays of the store, the feed and the door.
+    // What stays of the store, the feed, the output and the door, and how much is asked of the first two.
     ensures keeps { let at = ⟦<Outside as Viewed<S, F, O, E, D>>⟧.at in
-        Keeps (line (map string_bytes words.now)) result
+        Keeps (line (map string_bytes words.now)) result (out.new ≡ out.old)
         (at store.old feed.old out.old err.old door.old)
         (at store.new feed.new out.new err.new door.new) }
     // Why a command failed.

@@ -1,6 +1,7 @@
 -- What the answer of a write says.
-use Rattle.std.proofs.Common.{◌≡◌, ◌∙◌, length, Option, Some, Result, Ok, Err, false, refl, sym, ap, inl, arith}
-use Rattle.std.specs.Prelude.{IsOkAnd}
+use Rattle.std.proofs.Common.{◌≡◌, ◌∙◌, ◌+◌, ◌*◌, ◌^◌, length, Option, None, Some, Result, Ok, Err, false, refl, sym, ap, inl, arith}
+use Rattle.std.specs.Prelude.{drop, IsOkAnd}
+use Rattle.std.specs.Option.{option_map}
 use Rattle.std.proofs.lemmas.List.{take_all}
 use Rattle.vol_base.specs.Outside.{Draft, Objects, OnlyReads}
 use Rattle.vol_spec.proofs.Told.{in_told}
@@ -11,11 +12,12 @@ use Rattle.vol_spec.specs.Types.{Bytes, Listed, Name, Writes}
 use Rattle.vol_spec.specs.declared.scale.Scale.{Scale}
 use Rattle.shard_writer.specs.Writing.{PutsFront}
 use Rattle.shard_writer.specs.declared.written.Written.{Written}
+use Rattle.write_plan.specs.Readers.{Took}
 use Rattle.write_plan.specs.declared.fault.PlanFault.{PlanFault}
 use Rattle.command_base.proofs.Choices.{ok_and}
 use Rattle.command_base.specs.Statuses.{puts}
 use Rattle.write_cmd.specs.Refusals.{write_status}
-use Rattle.write_cmd.specs.Storing.{AllReadBack, Counts, FrontPut, HasStored, IsRight, KeepsStore, WritesScale}
+use Rattle.write_cmd.specs.Storing.{AllReadBack, Counts, FrontPut, HasStored, IsRight, KeepsStore, TakesStream, WritesScale}
 use Rattle.write_cmd.specs.declared.refusal.WriteRefusal.{WriteRefusal}
 use Rattle.write_cmd.specs.declared.refusal.WriteRefusal.TheVariants.{NoScale, TooManyVoxels, NotEmpty, Stream, TooManyCells, StoreFault, FeedFault, NoMemory}
 
@@ -29,6 +31,17 @@ write_keeps (TooManyCells cells) old new before after kept none = kept
 write_keeps StoreFault old new before after kept none = cc none
 write_keeps FeedFault old new before after kept none = kept
 write_keeps NoMemory old new before after kept none = cc none
+
+none_dropped : (left : Option Bytes) → left ≡ option_map (drop 0) left
+none_dropped None = refl
+none_dropped (Some bytes) = refl
+
+-- nothing is taken of a feed that isn't read
+pub takes_none : (left : Option Bytes) → TakesStream left left
+takes_none left = (0, omega arith, none_dropped left)
+
+pub takes_read : (before now : Option Bytes) → Took (2 ^ 30 + 48 * 65536 + 9) before now → TakesStream before now
+takes_read before now took = (took.count, took.small, took.left)
 
 -- want of memory is always right, where nothing changed
 pub memory_right : (told : Option Objects) (left : Option Bytes) (dataset key : Name) → IsRight (Err NoMemory) told told left left dataset key

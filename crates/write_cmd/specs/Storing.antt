@@ -1,6 +1,6 @@
 -- What a command that writes a list of writes answers over the objects that a store tells (this project's
 -- profile): `write`, whose list stands in the stream that a feed tells, and in part `generate`.
-use Rattle.std.specs.Prelude.{◌≡◌, ◌⊎◌, All, ◌≤◌, ◌<◌, ◌^◌, false, [], length, Option, Some, Result, Ok, Err, ⊤, IfErr, IfSome, IsOkAnd, IsSomeAnd}
+use Rattle.std.specs.Prelude.{◌≡◌, ◌⊎◌, ℕ, drop, All, ◌≤◌, ◌<◌, ◌+◌, ◌*◌, ◌^◌, false, [], length, Option, Some, Result, Ok, Err, ⊤, IfErr, IfSome, IsOkAnd, IsSomeAnd}
 use Rattle.std.specs.Option.{option_map}
 use Rattle.vol_base.specs.declared.boxes.Box3.{Box3}
 use Rattle.vol_base.specs.Bytes.{AreBytes}
@@ -135,6 +135,11 @@ KeepsFeed (Err (refused.NoScale why)) old new = new ≡ old
 KeepsFeed (Err (refused.TooManyVoxels voxels)) old new = new ≡ old
 KeepsFeed (Err refused.NotEmpty) old new = new ≡ old
 KeepsFeed (Err other) old new = Unit {0}
+
+-- at most as many bytes are taken of a feed as a stream of writes may have, and one behind it
+abbrev pub TakesStream : Option Bytes → Option Bytes → Type 0
+TakesStream before now = (count : ℕ) × (count ≤ 2 ^ 30 + 48 * 65536 + 9) ×
+    (now ≡ option_map (drop count) before)
 
 abbrev pub KeepsStore : WriteRefusal → Option Objects → Option Objects → Option Draft → Option Draft → Type 0
 KeepsStore refused.StoreFault old new before now = Unit {0}

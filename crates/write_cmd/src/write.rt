@@ -12,8 +12,8 @@ ghost use Rattle.shard_writer.specs.Writing.{Drops};
 ghost use Rattle.command_base.specs.Ending.{EndsWell, IsCaused};
 ghost use Rattle.command_base.specs.Outlets.{outlets_of};
 ghost use Rattle.command_base.specs.Scales.{stored_scale};
-ghost use Rattle.command_base.specs.Statuses.{puts};
-ghost use Rattle.write_cmd.specs.Storing.{CanWrite, Judges, JudgesLimit, KeepsFeed, KeepsPlan, KeepsStore, PutsWrites, WritesAll, WritesScale, WrittenBack, Wrote};
+ghost use Rattle.command_base.specs.Statuses.{prints, puts};
+ghost use Rattle.write_cmd.specs.Storing.{CanWrite, Judges, JudgesLimit, KeepsFeed, KeepsPlan, KeepsStore, PutsWrites, TakesStream, WritesAll, WritesScale, WrittenBack, Wrote};
 
 use crate::refusal::WriteRefusal;
 use chunk_grid::find_folder;
@@ -112,6 +112,7 @@ pub fn write_list<R: Threads + Wait + Sync, S: Store, F: Feed, G: Gate + Sync>(
         IfSome (F.left feed.old) (λ bytes. WritesScale result m (S.objects store.new)
         (writes_of bytes scale.now) dataset.now key scale.now)) }
     ensures feed { KeepsFeed result (F.left feed.old) (F.left feed.new) }
+    ensures took { TakesStream (F.left feed.old) (F.left feed.new) }
     ensures draft { Drops (S.draft store.old) (S.draft store.new) }
     ensures kept { IfErr result (λ refusal. KeepsStore refusal (S.objects store.old) (S.objects store.new)
         (S.draft store.old) (S.draft store.new)) }
@@ -139,6 +140,7 @@ fn write_objects<R: Threads + Wait + Sync, S: Store, F: Feed, G: Gate + Sync>(
         IfSome (F.left feed.old) (λ bytes. WritesAll result (stored_scale m dataset.now key.now) m
         (S.objects store.new) (writes_of bytes) dataset.now key.now)) }
     ensures feed { KeepsFeed result (F.left feed.old) (F.left feed.new) }
+    ensures took { TakesStream (F.left feed.old) (F.left feed.new) }
     ensures draft { Drops (S.draft store.old) (S.draft store.new) }
     ensures kept { IfErr result (λ refusal. KeepsStore refusal (S.objects store.old) (S.objects store.new)
         (S.draft store.old) (S.draft store.new)) }
@@ -181,6 +183,8 @@ pub fn run_write<R: Threads + Wait + Sync, S: Store, F: Feed, O: Outlet, E: Outl
         WrittenBack m (S.objects store.new) (writes_of bytes) dataset.now key.now)) }
     ensures end { result ≡ Status.Ok → F.left feed.new ≡ option_map (λ _. []) (F.left feed.old) }
     ensures unread { result ≡ Status.InfoRefused → F.left feed.new ≡ F.left feed.old }
+    ensures took { TakesStream (F.left feed.old) (F.left feed.new) }
+    ensures unprinted { prints result ≡ false → out.new ≡ out.old }
     ensures draft { Drops (S.draft store.old) (S.draft store.new) }
     ensures kept { puts result ≡ false → OnlyReads (S.objects store.old) (S.objects store.new)
         (S.draft store.old) (S.draft store.new) }

@@ -284,7 +284,7 @@ const FOUR_CHUNKS: [u8; 120] = [
 const INFO_ROOM: u64 = (1 << 20) + 1;
 
 // How many bytes a cutout of a shard asks for, beside those of the document.
-fn check_asked(
+pub(super) fn check_asked(
     rt: &impl Abort,
     alloc: Global,
     info: &str,

@@ -1,3 +1,7 @@
+use Rattle.std.proofs.Common.{◌≡◌, ◌≤◌, ◌+◌, ◌^◌, true, arith}
+use Rattle.command_base.proofs.Choices.{if_err}
+use Rattle.command_base.specs.Statuses.{refuses}
+use Rattle.cutout_cmd.specs.Refusals.{cutout_status}
 use Rattle.cutout_cmd.proofs.AskSteps.{asks_cells, asks_info}
 use Rattle.cutout_cmd.proofs.cut_out.cut_out.Goals as goal
 
@@ -9,3 +13,9 @@ pub returns-clause-asked : goal.returns-clause-asked
 returns-clause-asked g c =
     asks_cells (g.S.Source.objects c.args.store.now) (g.S.Source.objects c.read_scale.new.store) c.args.dataset.now c.args.key.now c.in_ok-scale.scale c.args.part.now (g.S.Source.asked c.args.store.now)
     (g.S.Source.asked c.read_scale.new.store) (g.S.Source.asked c.cut_scale.new.store) c.read_scale.ensures.kept.same_objects c.in_ok-scale.ensures.read c.read_scale.ensures.asked c.cut_scale.ensures.asked
+
+pub returns-clause-unread : goal.returns-clause-unread
+returns-clause-unread g c =
+    if_err c.cut_scale.result (λ refusal. refuses (cutout_status refusal) ≡ true → g.S.Source.asked c.cut_scale.new.store ≡ g.S.Source.asked c.read_scale.new.store)
+    (λ refusal. refuses (cutout_status refusal) ≡ true → g.S.Source.asked c.cut_scale.new.store ≤ g.S.Source.asked c.args.store.now + (2 ^ 20 + 1))
+    (λ refusal same is. let alone = same is in omega (arith, alone, c.read_scale.ensures.asked)) c.cut_scale.ensures.unread

@@ -1,4 +1,4 @@
-use Rattle.index_judge.proofs.IndexSteps.{absence_judged, entry_judged, rows_judged}
+use Rattle.index_judge.proofs.IndexSteps.{absence_judged, asked_entry, asked_rows, entry_judged, rows_judged}
 use Rattle.index_judge.proofs.judge.judge_index.Goals as goal
 
 pub returns-in-Err-clause-judged : goal.returns-in-Err-clause-judged
@@ -13,3 +13,14 @@ pub returns-clause-judged : goal.returns-clause-judged
 returns-clause-judged g c =
     rows_judged (g.S.Source.objects c.args.store.now) _ c.args.name.now c.args.sharding.now c.args.home.now.shard c.args.home.now.minishard c.open_index.result c.in-Ok-Some.field-0 c.in-Ok-Some.span c.judge_rows.result c.in-Ok-Some.is c.in-Ok-Some.field-0-is
     c.open_index.ensures.kept.same_objects c.open_index.ensures.opened c.judge_rows.ensures.judged
+
+pub returns-in-Err-clause-asked : goal.returns-in-Err-clause-asked
+returns-in-Err-clause-asked g c = asked_entry (g.S.Source.objects c.args.store.now) c.args.name.now c.args.sharding.now c.args.home.now.minishard (g.S.Source.asked c.args.store.now) (g.S.Source.asked c.open_index.new.store) c.open_index.ensures.asked
+
+pub returns-in-Ok-None-clause-asked : goal.returns-in-Ok-None-clause-asked
+returns-in-Ok-None-clause-asked g c = asked_entry (g.S.Source.objects c.args.store.now) c.args.name.now c.args.sharding.now c.args.home.now.minishard (g.S.Source.asked c.args.store.now) (g.S.Source.asked c.open_index.new.store) c.open_index.ensures.asked
+
+pub returns-clause-asked : goal.returns-clause-asked
+returns-clause-asked g c =
+    asked_rows (g.S.Source.objects c.args.store.now) c.args.name.now c.args.sharding.now c.args.home.now.minishard c.open_index.result c.in-Ok-Some.field-0 c.in-Ok-Some.span (g.S.Source.asked c.args.store.now) (g.S.Source.asked c.open_index.new.store)
+    (g.S.Source.asked c.judge_rows.new.store) c.in-Ok-Some.is c.in-Ok-Some.field-0-is c.open_index.ensures.opened c.open_index.ensures.asked c.judge_rows.ensures.asked

@@ -11,6 +11,7 @@ loop-walk-init g c = record {
   within = (let none : c.new-walk.result.rows ≡ 0 = ap (λ (w : Progress). w.rows) c.new-walk.ensures in omega (arith, none));
   past = λ object told fits. past_none (columns_of (part object c.args.span.now.at (24 * c.args.span.now.rows))) c.args.sharding.now c.args.home.now.shard c.args.home.now.minishard _ c.new-walk.ensures;
   kept = record { same_objects = refl; same_draft = refl };
+  asked = omega arith;
   later = omega arith;
 }
 
@@ -41,6 +42,7 @@ loop-walk-preserved g c = record {
     same_objects = c.in-Ok.ensures.kept.same_objects ∙ c.loop-walk.invariant.kept.same_objects;
     same_draft = c.in-Ok.ensures.kept.same_draft ∙ c.loop-walk.invariant.kept.same_draft;
   };
+  asked = omega (arith, c.in-Ok-judge_columns.ensures.rows, c.read_rows.ensures.asked, c.loop-walk.invariant.asked);
   later = omega (arith, c.in-Ok.ensures.cause.stands, c.loop-walk.invariant.later);
 }
 
@@ -48,3 +50,12 @@ pub returns-clause-judged : goal.returns-clause-judged
 returns-clause-judged g c = λ object told fits.
     past_all (columns_of (part object c.args.span.now.at (24 * c.args.span.now.rows))) c.args.sharding.now c.args.home.now.shard c.args.home.now.minishard c.args.span.now.rows c.loop-walk.walk
     (omega (arith, c.loop-walk.invariant.within, c.loop-walk-test.false)) (c.loop-walk.invariant.past object told fits)
+
+pub returns-in-Err-clause-asked : goal.returns-in-Err-clause-asked
+returns-in-Err-clause-asked g c = omega (arith, c.rows-first.ensures, c.count_next-count.ensures.within, c.read_rows.ensures.asked, c.loop-walk.invariant.asked)
+
+pub returns-in-Err-judge_columns-clause-asked : goal.returns-in-Err-judge_columns-clause-asked
+returns-in-Err-judge_columns-clause-asked g c = omega (arith, c.rows-first.ensures, c.count_next-count.ensures.within, c.read_rows.ensures.asked, c.loop-walk.invariant.asked)
+
+pub returns-clause-asked : goal.returns-clause-asked
+returns-clause-asked g c = omega (arith, c.loop-walk.invariant.within, c.loop-walk.invariant.asked)

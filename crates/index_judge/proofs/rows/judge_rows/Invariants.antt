@@ -1,4 +1,4 @@
-use Rattle.std.proofs.Common.{◌≡◌, ◌-◌, ◌≤◌}
+use Rattle.std.proofs.Common.{◌≡◌, ◌+◌, ◌-◌, ◌*◌, ◌≤◌}
 use Rattle.vol_base.specs.Outside.{OnlyReads}
 use Rattle.vol_spec.specs.Rows.{columns_of}
 use Rattle.shard_reader.specs.Reading.{OnIndex}
@@ -10,6 +10,7 @@ invariant-loop-walk g l = record {
   within : l.walk.rows ≤ l.span.rows;
   past : OnIndex (g.S.Source.objects l.fn.store) l.name l.span.at l.span.rows (λ bytes. IsPast (columns_of bytes) l.sharding l.home.shard l.home.minishard l.walk);
   kept : OnlyReads (g.S.Source.objects l.fn.store) (g.S.Source.objects l.store) (g.S.Source.draft l.fn.store) (g.S.Source.draft l.store);
+  asked : g.S.Source.asked l.store ≤ g.S.Source.asked l.fn.store + 24 * l.walk.rows;
   later : g.S.Source.faults l.store ≡ g.S.Source.faults l.fn.store;
 }
 

@@ -1,6 +1,7 @@
 use Rattle.command_base.proofs.Choices.{err_is}
 use Rattle.update_cmd.specs.Refusals.{unstreamed}
 use Rattle.update_cmd.proofs.AnswerSteps.{made_told, refused_feed, refused_judges, refused_leaves, refused_told, unstreamed_judges, unstreamed_told}
+use Rattle.write_cmd.proofs.WriteSteps.{takes_read}
 use Rattle.update_cmd.proofs.command.update_scale.Goals as goal
 
 pub returns-in-Ok-clause-answers : goal.returns-in-Ok-clause-answers
@@ -31,3 +32,12 @@ returns-in_err-writes-clause-answers g c key =
 pub returns-in_err-writes-clause-judges : goal.returns-in_err-writes-clause-judges
 returns-in_err-writes-clause-judges g c =
     unstreamed_judges c.from_residual.result c.in_err-writes.field-0.0 c.args.scale.now (err_is c.from_residual.result (unstreamed c.in_err-writes.field-0.0) c.from_residual.ensures.1) c.requires.writable
+
+pub returns-in_err-writes-clause-took : goal.returns-in_err-writes-clause-took
+returns-in_err-writes-clause-took g c = takes_read (g.F.Feed.left c.args.feed.now) (g.F.Feed.left c.read_writes.new.feed) c.read_writes.ensures.took
+
+pub returns-in-Ok-clause-took : goal.returns-in-Ok-clause-took
+returns-in-Ok-clause-took g c = takes_read (g.F.Feed.left c.args.feed.now) (g.F.Feed.left c.read_writes.new.feed) c.read_writes.ensures.took
+
+pub returns-in-Err-clause-took : goal.returns-in-Err-clause-took
+returns-in-Err-clause-took g c = takes_read (g.F.Feed.left c.args.feed.now) (g.F.Feed.left c.read_writes.new.feed) c.read_writes.ensures.took

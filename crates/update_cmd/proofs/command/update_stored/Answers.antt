@@ -1,6 +1,7 @@
 use Rattle.vol_base.specs.Outside.{HaveBytes}
 use Rattle.update_cmd.proofs.AnswerSteps.{drops_read, drops_unread, key_judges, key_told, leaves_read, unread_feed, unread_judges, unread_leaves, unread_told}
 use Rattle.update_cmd.proofs.UpdateSteps.{told_in}
+use Rattle.write_cmd.proofs.WriteSteps.{takes_none}
 use Rattle.update_cmd.proofs.command.update_stored.Goals as goal
 
 pub update_scale-requires-clause-bytes : goal.update_scale-requires-clause-bytes
@@ -41,3 +42,6 @@ returns-in-Err-clause-store g c =
 pub returns-in-Err-clause-unsharded : goal.returns-in-Err-clause-unsharded
 returns-in-Err-clause-unsharded g c =
     drops_unread (g.S.Source.objects c.args.store.now) c.args.dataset.now c.args.key.now (g.S.Source.draft c.args.store.now) (g.S.Source.draft c.read_writable.new.store) c.read_writable.ensures.kept.same_draft
+
+pub returns-in-Err-clause-took : goal.returns-in-Err-clause-took
+returns-in-Err-clause-took g c = takes_none (g.F.Feed.left c.args.feed.now)

@@ -1,3 +1,7 @@
+use Rattle.std.proofs.Common.{◌≡◌}
+use Rattle.vol_spec.specs.Grid.{whole}
+use Rattle.verify_cmd.proofs.AskedSteps.{asked_part}
+use Rattle.verify_cmd.proofs.UnreadSteps.{refused_unread}
 use Rattle.verify_cmd.proofs.VerifySteps.{bounded, found_judges, refused_asked, refused_judges}
 use Rattle.verify_cmd.proofs.command.judge_scale.Goals as goal
 
@@ -15,3 +19,14 @@ pub returns-in-Err-clause-asked : goal.returns-in-Err-clause-asked
 returns-in-Err-clause-asked g c =
     refused_asked c.verify.result c.args.scale.now c.pick_part-chosen.result (bounded c.verify.result c.args.scale.now c.pick_part-chosen.result c.verify.ensures.outside c.verify.ensures.too_many c.verify.ensures.judged)
     c.in-Err.fault c.refuse.result c.args.part.now c.in-Err.is c.refuse.ensures c.pick_part-chosen.ensures
+
+pub returns-in-Err-clause-unread : goal.returns-in-Err-clause-unread
+returns-in-Err-clause-unread g c =
+    refused_unread c.verify.result c.in-Err.fault c.refuse.result c.pick_part-chosen.result (whole c.args.scale.now) (g.S.Source.asked c.verify.new.store ≡ g.S.Source.asked c.args.store.now) c.in-Err.is c.refuse.ensures
+    c.verify.ensures.unasked c.verify.ensures.uncounted
+
+pub returns-in-Ok-clause-cost : goal.returns-in-Ok-clause-cost
+returns-in-Ok-clause-cost g c = asked_part (g.S.Source.objects c.args.store.now) c.args.dataset.now c.args.scale.now c.pick_part-chosen.result c.args.part.now (g.S.Source.asked c.args.store.now) (g.S.Source.asked c.verify.new.store) c.pick_part-chosen.ensures c.verify.ensures.asked
+
+pub returns-in-Err-clause-cost : goal.returns-in-Err-clause-cost
+returns-in-Err-clause-cost g c = asked_part (g.S.Source.objects c.args.store.now) c.args.dataset.now c.args.scale.now c.pick_part-chosen.result c.args.part.now (g.S.Source.asked c.args.store.now) (g.S.Source.asked c.verify.new.store) c.pick_part-chosen.ensures c.verify.ensures.asked

@@ -1,3 +1,8 @@
+use Rattle.std.proofs.Common.{◌≡◌, ◌≤◌, ◌+◌, ◌^◌, true, arith}
+use Rattle.command_base.proofs.Choices.{if_err}
+use Rattle.command_base.specs.Statuses.{refuses}
+use Rattle.verify_cmd.specs.Refusals.{verify_status}
+use Rattle.verify_cmd.proofs.AskedSteps.{asks_cells, asks_info}
 use Rattle.verify_cmd.proofs.VerifySteps.{key_judges, unread_asked, unread_judges}
 use Rattle.verify_cmd.proofs.command.judge_stored.Goals as goal
 
@@ -12,3 +17,18 @@ returns-in-Err-clause-judges g c =
 
 pub returns-in-Err-clause-asked : goal.returns-in-Err-clause-asked
 returns-in-Err-clause-asked g c = unread_asked c.in-Err.refusal c.from.result c.args.part.now c.from.ensures
+
+pub returns-in-Ok-clause-unread : goal.returns-in-Ok-clause-unread
+returns-in-Ok-clause-unread g c =
+    if_err c.judge_scale.result (λ refusal. refuses (verify_status refusal) ≡ true → g.S.Source.asked c.judge_scale.new.store ≡ g.S.Source.asked c.read_scale.new.store)
+    (λ refusal. refuses (verify_status refusal) ≡ true → g.S.Source.asked c.judge_scale.new.store ≤ g.S.Source.asked c.args.store.now + (2 ^ 20 + 1))
+    (λ refusal same is. let alone = same is in omega (arith, alone, c.read_scale.ensures.asked)) c.judge_scale.ensures.unread
+
+pub returns-in-Ok-clause-cost : goal.returns-in-Ok-clause-cost
+returns-in-Ok-clause-cost g c =
+    asks_cells (g.S.Source.objects c.args.store.now) (g.S.Source.objects c.read_scale.new.store) c.args.dataset.now c.args.key.now c.in-Ok.scale c.args.part.now (g.S.Source.asked c.args.store.now)
+    (g.S.Source.asked c.read_scale.new.store) (g.S.Source.asked c.judge_scale.new.store) c.read_scale.ensures.kept.same_objects c.in-Ok.ensures.read c.read_scale.ensures.asked c.judge_scale.ensures.cost
+
+pub returns-in-Err-clause-cost : goal.returns-in-Err-clause-cost
+returns-in-Err-clause-cost g c =
+    asks_info (g.S.Source.objects c.args.store.now) c.args.dataset.now c.args.key.now c.args.part.now (g.S.Source.asked c.args.store.now) (g.S.Source.asked c.read_scale.new.store) c.read_scale.ensures.asked

@@ -4,6 +4,7 @@ use Rattle.std.proofs.lemmas.List.Elements.{All-contains}
 use Rattle.vol_spec.specs.Grid.{cells_in, IsCell}
 use Rattle.vol_spec.proofs.Told.{from_told, in_told}
 use Rattle.chunk_grid.proofs.Walked.{here, one_on, at_end}
+use Rattle.verify_cmd.proofs.AskedSteps.{asked_all, asked_more, asked_next, asked_none}
 use Rattle.verify_cmd.specs.Judges.{Serves}
 use Rattle.verify_cmd.proofs.PartSteps.{cell_refused, counted_both, counted_cells, none_yet, part_sound, sound_more}
 use Rattle.verify_cmd.proofs.parts.judge_cells.Goals as goal
@@ -15,6 +16,7 @@ loop-cell-init g c = record {
   both = refl;
   sound = λ m told. none_yet m c.args.dataset.now c.args.scale.now _ refl;
   serves = c.requires.serves;
+  asked = asked_none (g.S.Source.objects c.args.store.now) c.args.dataset.now c.args.scale.now (g.S.Source.asked c.args.store.now);
   kept = record { same_objects = refl; same_draft = refl };
   later = omega arith;
 }
@@ -39,6 +41,9 @@ loop-cell-preserved g c =
           sound_more m c.args.dataset.now c.args.scale.now c.loop-cell.yielded c.in-Some.cell c.loop-cell.report c.count_cell-report.result c.in-Ok.is_stored c.judge.result c.in-Ok.is c.count_cell-report.ensures (c.loop-cell.invariant.sound m told)
           (from_told _ _ m (c.loop-cell.invariant.kept.same_objects ∙ told) c.judge.ensures.judged);
       serves = subst (λ o. Serves o c.args.dataset.now c.args.scale.now c.judge.new.self) c.loop-cell.invariant.kept.same_objects c.judge.ensures.serves;
+      asked =
+          asked_more (g.S.Source.objects c.args.store.now) (g.S.Source.objects c.loop-cell.store) c.args.dataset.now c.args.scale.now c.loop-cell.yielded c.in-Some.cell _ _ _ c.loop-cell.invariant.kept.same_objects
+          c.loop-cell.invariant.asked c.judge.ensures.asked;
       kept = record {
         same_objects = c.judge.ensures.kept.same_objects ∙ c.loop-cell.invariant.kept.same_objects;
         same_draft = c.judge.ensures.kept.same_draft ∙ c.loop-cell.invariant.kept.same_draft;
@@ -62,3 +67,12 @@ returns-clause-verified g c =
 pub returns-clause-cells : goal.returns-clause-cells
 returns-clause-cells g c =
     c.loop-cell.invariant.cells ∙ ap length (at_end c.loop-cell.yielded c.loop-cell.cell-iterator (cells_in c.args.scale.now c.args.part.now) c.in-None.ensures.steps.0 c.loop-cell.invariant.left)
+
+pub returns-in-Err-clause-asked : goal.returns-in-Err-clause-asked
+returns-in-Err-clause-asked g c =
+    asked_next (g.S.Source.objects c.args.store.now) (g.S.Source.objects c.loop-cell.store) c.args.dataset.now c.args.scale.now c.args.part.now c.loop-cell.yielded c.loop-cell.cell-iterator c.next.new.self c.in-Some.cell _ _ _
+    c.loop-cell.invariant.kept.same_objects c.in-Some.ensures.steps c.loop-cell.invariant.left c.loop-cell.invariant.asked c.judge.ensures.asked
+
+pub returns-clause-asked : goal.returns-clause-asked
+returns-clause-asked g c =
+    asked_all (g.S.Source.objects c.args.store.now) c.args.dataset.now c.args.scale.now c.args.part.now c.loop-cell.yielded c.loop-cell.cell-iterator _ _ c.loop-cell.invariant.left c.loop-cell.invariant.asked

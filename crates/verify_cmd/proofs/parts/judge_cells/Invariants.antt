@@ -1,6 +1,7 @@
-use Rattle.std.proofs.Common.{◌≡◌, ◌+◌, ◌++◌, length, Some}
+use Rattle.std.proofs.Common.{◌≡◌, ◌≤◌, ◌+◌, ◌*◌, ◌++◌, length, IfSome, Some}
 use Rattle.vol_base.specs.Outside.{Objects, OnlyReads}
 use Rattle.vol_spec.specs.Grid.{cells_in}
+use Rattle.cutout.proofs.CostSteps.{costs}
 use Rattle.verify_cmd.specs.Judges.{Serves}
 use Rattle.verify_cmd.proofs.PartSteps.{SoundSoFar}
 use Rattle.verify_cmd.proofs.parts.judge_cells.Given as goal
@@ -12,6 +13,7 @@ invariant-loop-cell g l = record {
   both : l.report.stored + l.report.absent ≡ l.report.cells;
   sound : (m : Objects) → g.S.Source.objects l.fn.store ≡ Some m → SoundSoFar m l.dataset l.scale l.yielded l.report;
   serves : Serves (g.S.Source.objects l.fn.store) l.dataset l.scale l.judge;
+  asked : IfSome (g.S.Source.objects l.fn.store) (λ m. g.S.Source.asked l.store ≤ g.S.Source.asked l.fn.store + 2 * costs m l.dataset l.scale l.yielded);
   kept : OnlyReads (g.S.Source.objects l.fn.store) (g.S.Source.objects l.store) (g.S.Source.draft l.fn.store) (g.S.Source.draft l.store);
   later : g.S.Source.faults l.store ≡ g.S.Source.faults l.fn.store;
 }

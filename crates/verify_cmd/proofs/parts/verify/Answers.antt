@@ -10,3 +10,6 @@ returns-clause-too_many g c = λ n. (
   (λ e. absurd (c.judge_cells.ensures.within n e)),
   (λ is. absurd (omega (arith, is.many, c.count_cells-count.ensures, c.if-count-gt-MOST_CELLS.false))),
 )
+
+pub returns-clause-uncounted : goal.returns-clause-uncounted
+returns-clause-uncounted g c = λ n e. absurd (c.judge_cells.ensures.within n e)

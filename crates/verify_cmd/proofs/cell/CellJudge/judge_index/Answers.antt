@@ -1,6 +1,7 @@
 use Rattle.std.proofs.Common.{◌≡◌, ◌∙◌, ap}
 use Rattle.vol_spec.specs.Codes.{code_of}
 use Rattle.vol_spec.specs.Places.{id_of}
+use Rattle.verify_cmd.proofs.AskedSteps.{asked_index, asked_own}
 use Rattle.verify_cmd.proofs.JudgeSteps.{index_told, knows_as, knows_index, own_told}
 use Rattle.verify_cmd.proofs.cell.CellJudge.judge_index.Goals as goal
 
@@ -23,3 +24,12 @@ returns-in-Some-clause-serves g c = record {
   keeps = c.requires.serves.keeps;
   knows = knows_index (g.S.Source.objects c.args.store.now) c.args.dataset.now c.args.scale.now c.in-Some.sharding c.judge.new.self c.in-Some.is c.judge.ensures.knows;
 }
+
+pub returns-in-None-clause-asked : goal.returns-in-None-clause-asked
+returns-in-None-clause-asked g c = asked_own (g.S.Source.objects c.args.store.now) c.args.dataset.now c.args.scale.now c.args.cell (g.S.Source.asked c.args.store.now)
+
+pub returns-in-Some-clause-asked : goal.returns-in-Some-clause-asked
+returns-in-Some-clause-asked g c =
+    let id : c.code.result ≡ id_of c.args.scale.now c.args.cell = c.code.ensures ∙ ap (λ size. code_of size c.args.cell) c.grid.ensures in
+    asked_index (g.S.Source.objects c.args.store.now) c.args.dataset.now c.args.scale.now c.args.cell c.in-Some.sharding c.place-home.result.shard c.place-home.result.minishard c.code.result (g.S.Source.asked c.args.store.now)
+    (g.S.Source.asked c.judge.new.store) c.in-Some.is c.place-home.ensures.shard c.place-home.ensures.minishard id c.judge.ensures.asked
