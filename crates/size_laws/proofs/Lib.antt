@@ -1,0 +1,6 @@
+pub mod BoxNames
+pub mod FindingLaw
+pub mod Law
+pub mod PutAgain
+pub mod StoredViews
+pub mod ViewLaws
