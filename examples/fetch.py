@@ -109,18 +109,28 @@ def describe(volume, scale):
     return f"{' '.join(words)}: {'not read: ' + unread if unread else 'can be read'}"
 
 
+def read_json(name, values):
+    try:
+        return json.loads(values)
+    except ValueError as why:
+        raise Refused(f"{name} is no JSON: {why}") from None
+
+
 def fetch_info(link, dataset):
     values = fetch(f"{link}/info")
     if values is None:
         raise Refused(f"there is no {link}/info, or not for everyone")
-    volume = json.loads(values)
+    volume = read_json(f"{link}/info", values)
     save(pathlib.Path(dataset) / "info", values)
     for scale in volume["scales"]:
         print(describe(volume, scale))
 
 
 def find_scale(dataset, key):
-    volume = json.loads((pathlib.Path(dataset) / "info").read_bytes())
+    path = pathlib.Path(dataset) / "info"
+    if not path.exists():
+        raise Refused(f"there is no {path} yet: fetch.py LINK {dataset} copies it")
+    volume = read_json(path, path.read_bytes())
     scale = next((scale for scale in volume["scales"] if scale["key"] == key), None)
     if scale is None:
         raise Refused(f"{dataset}/info has no scale {key}")
@@ -138,12 +148,20 @@ def read_box(text):
     return list(zip(numbers[::2], numbers[1::2]))
 
 
+def check_box(scale, box, text):
+    """Refuses a box that isn't inside the scale, as vol_tool would."""
+    first = scale.get("voxel_offset", [0, 0, 0])
+    spans = [(at, at + side) for at, side in zip(first, scale["size"])]
+    if any(not begin <= low < high <= end for (low, high), (begin, end) in zip(box, spans)):
+        raise Refused(f"box {text} outside [{','.join(f'{begin}:{end}' for begin, end in spans)}]")
+
+
 def sides(scale, box, axis):
     """The begin and the end of each chunk that meets the box on an axis, clipped to the scale."""
     first = scale.get("voxel_offset", [0, 0, 0])[axis]
     last = first + scale["size"][axis]
     step = scale["chunk_sizes"][0][axis]
-    begin, end = max(box[axis][0], first), min(box[axis][1], last)
+    begin, end = box[axis]
     for at in range(begin - (begin - first) % step, end, step):
         yield f"{at}-{min(at + step, last)}"
 
@@ -170,7 +188,9 @@ def tell_progress(done, total):
 
 
 def fetch_box(link, dataset, key, text):
-    names = names_in(find_scale(dataset, key), read_box(text))
+    scale, box = find_scale(dataset, key), read_box(text)
+    check_box(scale, box, text)
+    names = names_in(scale, box)
     counts = {"copied": 0, "absent": 0, "kept": 0}
     with concurrent.futures.ThreadPoolExecutor(CONNECTIONS) as pool:
         jobs = [pool.submit(copy_chunk, f"{link}/{key}/{name}", pathlib.Path(dataset) / key / name) for name in names]
@@ -187,7 +207,7 @@ def fetch_box(link, dataset, key, text):
 
 def address_of(link):
     """A link as an address over HTTP; those of a bucket are at the store's own host."""
-    link = link.rstrip("/")
+    link = link.rstrip("/").removesuffix("/info")
     bucket = re.match(r"(?:precomputed://)?gs://(.+)", link)
     if bucket:
         return f"https://storage.googleapis.com/{bucket[1]}"
@@ -195,6 +215,15 @@ def address_of(link):
     if not link.startswith(("http://", "https://")):
         raise Refused(f"{link} doesn't begin with http://, https:// or gs://")
     return link
+
+
+def error_text(why, link):
+    """What is wrong, with the link or the file."""
+    if isinstance(why, urllib.error.HTTPError):
+        return f"{why.url}: {why}"
+    if isinstance(why, urllib.error.URLError):
+        return f"{link}: {getattr(why.reason, 'strerror', None) or why.reason}"
+    return f"{why.filename}: {why.strerror}" if isinstance(why, OSError) and why.filename is not None else str(why)
 
 
 def main():
@@ -206,7 +235,7 @@ def main():
         words[0] = address_of(words[0])
         (fetch_info if len(words) == 2 else fetch_box)(*words)
     except (Refused, OSError, EOFError, KeyError, http.client.HTTPException, json.JSONDecodeError) as why:
-        print(f"fetch.py: {why}", file=sys.stderr)
+        print(f"fetch.py: {error_text(why, words[0])}", file=sys.stderr)
         return 1
     return 0
 

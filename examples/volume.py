@@ -31,10 +31,9 @@ installed, or for files as numpy.save writes them:
 
 Arrays are of uint8, uint16, uint32 or uint64 and have the axes z, y, x, or channel, z, y, x (AXES is czyx); with `--axes xyzc`
 they have x, y, z, or x, y, z, channel, as CloudVolume's, and with `--axes zyxc` z, y, x, channel. `put` refuses an array that looks so
-where no axes are named. HASH is identity or murmur. Numbers that begin with `-` want a `=`:
---offset=-3,0,0. The program is the one beside this script, or the one that the variable VOL_TOOL names. The commands want nothing but
-Python's standard library, and have no array whole in memory. The status is vol_tool's; it is 1 where this script refuses, and 2
-where it can't read its words.
+where no axes are named. HASH is identity or murmur. The program is the one beside this script, or the one that the variable
+VOL_TOOL names. The commands want nothing but Python's standard library, and have no array whole in memory. The status is vol_tool's;
+it is 1 where this script refuses, and 2 where it can't read its words.
 """
 import argparse
 import array
@@ -85,6 +84,9 @@ NAME = re.compile(rf"(?!-){SEGMENT}(?:/{SEGMENT})*")
 
 # Statuses after which nothing is stored: the program's refusals, and that of bin/vol_tool where there is no program.
 REFUSALS = (1, 2, 3, 125)
+
+# What vol_tool ends with where a scale that was to be written has files already, among others.
+HELD = 3
 
 # A last axis of at most so many values, behind a longer first one, is one of channels rather than x.
 FEW_CHANNELS = 4
@@ -188,7 +190,8 @@ def check_header(name, header):
     """Refuses an array of another type or shape than is stored."""
     descr, shape = header["descr"], header["shape"]
     if not isinstance(descr, str) or descr[1:] not in WIDTHS or descr[0] not in "<>|":
-        raise Refused(f"{name} has values of the type {descr}, and only uint8, uint16, uint32 and uint64 are stored")
+        kind = f"{name} has values of the type {descr}, and only uint8, uint16, uint32 and uint64 are stored"
+        raise Refused(f"{kind}: numpy's array.astype(\"uint32\") makes such, where they are whole and none is below 0")
     if len(shape) not in (3, 4) or 0 in shape:
         raise Refused(f"{name} has the shape {shape}, and 3 or 4 axes are wanted, none of them empty")
 
@@ -226,8 +229,12 @@ def read_header(file, path):
     front = file.read(8)
     if len(front) < 8 or front[:6] != MAGIC or front[6] not in (1, 2, 3):
         raise Refused(f"{path} isn't an array as numpy.save writes it")
-    length = struct.unpack("<H", file.read(2))[0] if front[6] == 1 else struct.unpack("<I", file.read(4))[0]
-    return ast.literal_eval(file.read(length).decode("utf-8" if front[6] == 3 else "latin-1")), file.tell()
+    try:
+        length = struct.unpack("<H", file.read(2))[0] if front[6] == 1 else struct.unpack("<I", file.read(4))[0]
+        header = ast.literal_eval(file.read(length).decode("utf-8" if front[6] == 3 else "latin-1"))
+        return {member: header[member] for member in ("descr", "fortran_order", "shape")}, file.tell()
+    except (struct.error, SyntaxError, ValueError, TypeError, KeyError):
+        raise Refused(f"{path} has no whole header, as numpy.save writes it") from None
 
 
 def write_header(file, descr, shape, in_order_of_columns):
@@ -261,9 +268,11 @@ def numbers(least, most):
     """Reads three numbers between commas."""
 
     def read_numbers(text):
-        return check_numbers([int(word) for word in text.split(",")], least, most)
+        try:
+            return check_numbers([int(word) for word in text.split(",")], least, most)
+        except ValueError:
+            raise argparse.ArgumentTypeError(f"X,Y,Z are wanted, each from {least} to {most}, and not {text}") from None
 
-    read_numbers.__name__ = f"3 numbers from {least} to {most}"
     return read_numbers
 
 
@@ -277,7 +286,10 @@ def lengths_of(found):
 
 def lengths(text):
     """Reads three lengths between commas."""
-    return lengths_of(text.split(","))
+    try:
+        return lengths_of(text.split(","))
+    except ValueError:
+        raise argparse.ArgumentTypeError(f"X,Y,Z are wanted, each over 0, and not {text}") from None
 
 
 def sharding_of(text):
@@ -348,6 +360,8 @@ def read_info(path):
         volume = json.loads(path.read_bytes())
     except FileNotFoundError:
         raise Refused(f"there is no {path}") from None
+    except ValueError as why:
+        raise Refused(f"{path} is no JSON: {why}") from None
     wanted = {"data_type": str, "num_channels": int, "scales": list}
     if not isinstance(volume, dict) or not all(isinstance(volume.get(member), kind) for member, kind in wanted.items()):
         raise Refused(f"{path} isn't the info of a volume")
@@ -540,10 +554,23 @@ def store(values, words, **streams):
                 put_back(path, before)
 
 
+def tell_kept(words, status):
+    """On a terminal, what to do where a scale that holds files already was to be written."""
+    folder = f"{words.dataset}/{words.key}"
+    if status == HELD and words.at is None and sys.stderr.isatty() and next(files_in(folder), None):
+        print(f"{folder} holds an array: remove this folder first, or put over a part of it with --at X,Y,Z", file=sys.stderr)
+
+
 def put(words):
     check_name(words.dataset)
     check_name(words.key)
-    return store(open_array(words.array, words.axes), words)
+    values = open_array(words.array, words.axes)
+    try:
+        status = store(values, words)
+    except KeyboardInterrupt:
+        raise Refused(f"broken off; the same words{'' if words.at is not None else ' and --resume'} go on") from None
+    tell_kept(words, status)
+    return status
 
 
 def box_text(spans):
@@ -608,18 +635,25 @@ def get(words, errors=None):
     by_columns = words.axes == "xyzc"
     lengths_by_axis = {"x": x, "y": y, "z": z, "c": channels}
     shape = [lengths_by_axis[axis] for axis in words.axes if axis != "c" or channels > 1]
-    part = f"{words.out}.part"
-    with open(part, "wb") as out:
-        write_header(out, f"{'|' if width == 1 else '<'}u{width}", shape, by_columns)
-        out.flush()
-        if words.axes == "zyxc" and channels > 1:
-            status = cut_interleaved(words, box, out, [x, y, z], channels, width, errors)
-        else:
-            status = cut(words, box, out, errors)
-    if status == 0:
-        os.replace(part, words.out)
-    else:
-        os.remove(part)
+    part, status = f"{words.out}.part", None
+    try:
+        with open(part, "wb") as out:
+            write_header(out, f"{'|' if width == 1 else '<'}u{width}", shape, by_columns)
+            out.flush()
+            if words.axes == "zyxc" and channels > 1:
+                status = cut_interleaved(words, box, out, [x, y, z], channels, width, errors)
+            else:
+                status = cut(words, box, out, errors)
+        if status == 0:
+            os.replace(part, words.out)
+    except OSError as why:
+        if why.filename is None:
+            raise Refused(f"{words.out}: {why.strerror}") from None
+        raise
+    finally:
+        if status != 0:
+            with contextlib.suppress(OSError):
+                os.remove(part)
     return status
 
 
@@ -1044,6 +1078,13 @@ def stop(*_):
     raise KeyboardInterrupt
 
 
+def open_front(number, served):
+    try:
+        return Front(number, PAGE.read_bytes(), served)
+    except OSError as why:
+        raise Refused(f"port {number}: {why.strerror}; name another, or none for any free one") from None
+
+
 def view(words):
     check_name(words.dataset)
     path = pathlib.Path(words.dataset) / "info"
@@ -1056,7 +1097,7 @@ def view(words):
             signal.signal(number, stop)
         at_end.callback(served.end)
         served.begin()
-        front = at_end.enter_context(Front(words.port, PAGE.read_bytes(), served))
+        front = at_end.enter_context(open_front(words.port, served))
         scale = f"?scale={urllib.parse.quote(words.key)}" if words.key is not None else ""
         print(f"http://127.0.0.1:{front.server_address[1]}/{scale}", flush=True)
         front.serve_forever()
@@ -1081,6 +1122,22 @@ def add_layout(parser):
     parser.add_argument("--encoding", choices=ENCODINGS, default="raw")
     parser.add_argument("--block", type=numbers(1, MOST_BLOCK), default=[8, 8, 8], help="voxels of a block (8,8,8)")
     parser.add_argument("--sharding", type=sharding_words, help="PRESHIFT,identity|murmur,MINISHARD_BITS,SHARD_BITS (no shards)")
+
+
+def join_numbers(words):
+    """The words, where an option's numbers that begin with `-` are one word with it, as argparse wants them."""
+    joined = []
+    for word in words:
+        if joined and joined[-1] in ("--offset", "--at") and re.match(r"-\d", word):
+            joined[-1] += f"={word}"
+        else:
+            joined.append(word)
+    return joined
+
+
+def error_text(why):
+    """What the system says, of which file."""
+    return f"{why.filename}: {why.strerror}" if isinstance(why, OSError) and why.filename is not None else str(why)
 
 
 def read_words():
@@ -1124,7 +1181,7 @@ def read_words():
     four.add_argument("key", nargs="?")
     four.add_argument("--port", type=port, default=0, metavar="P", help="the page's port (any free one)")
     four.set_defaults(job=view, axes=None)
-    words = whole.parse_args()
+    words = whole.parse_args(join_numbers(sys.argv[1:]))
     words.axes = AXES.get(words.axes)
     return words
 
@@ -1134,7 +1191,9 @@ def main():
     try:
         return words.job(words)
     except (Refused, OSError, json.JSONDecodeError) as why:
-        print(f"volume.py: {why}", file=sys.stderr)
+        print(f"volume.py: {error_text(why)}", file=sys.stderr)
+    except KeyboardInterrupt:
+        print("volume.py: broken off", file=sys.stderr)
     except KeyError as member:
         print(f"volume.py: a scale of the info has no member {member}", file=sys.stderr)
     return 1

@@ -3,11 +3,12 @@
 
     tests/broken_off.py [PROGRAM]
 
-It takes minutes, so it is run by hand and isn't a part of the gate. A write is killed at a random moment, 50 times; cutouts and
-judgements run while another process writes; and a write meets a full disk, a small tmpfs, which is passed over with a word where none
-can be mounted. All of it is done with writes, lists that are made from a number, updates and copies, into scales of raw chunks and of
-segmentations, in files and in eight shards. What stands is judged sound by `verify`, with as many chunks as stand. An update that was
-killed is run again, and then leaves what one does that wasn't. Runs that only read are killed too, and leave the folder as it is.
+It takes minutes, so it is run by hand and isn't a part of the gate. A write is killed at a random moment, 50 times and until one of
+them came amid its objects; cutouts and judgements run while another process writes; and a write meets a full disk, a small tmpfs, which
+is passed over with a word where none can be mounted. All of it is done with writes, lists that are made from a number, updates and
+copies, into scales of raw chunks and of segmentations, in files and in eight shards. What stands is judged sound by `verify`, with as
+many chunks as stand. An update that was killed is run again, and then leaves what one does that wasn't. Runs that only read are killed
+too, and leave the folder as it is.
 """
 import contextlib
 import dataclasses
@@ -35,6 +36,7 @@ LABELS_IN_SHARDS = dataclasses.replace(LABELS, sharding=SHARDS)
 FORMS = {"chunks": PLAIN, "shards": SHARDED, "labels": LABELS, "labels in shards": LABELS_IN_SHARDS}
 
 KILLS = 50
+MOST_KILLS = 1000
 WRITES_WATCHED = 5
 
 # The bytes of a page, which a file on a small disk has at least.
@@ -183,18 +185,25 @@ def is_killed(work, delay, is_awaited):
 
 
 def is_killed_often(trial, *words):
-    """Each kill's title, and what is wrong or None; and whether some came in the middle of a write."""
+    """
+    Each kill's title, and what is wrong or None; and whether some came in the middle of a write: where none did, more come as soon as the
+    first object is there.
+    """
     work, chance = Work(trial, *words), random.Random(2)
     longest, counts = 1.2 * measure(work), []
-    for number in range(KILLS):
+    for number in range(MOST_KILLS):
+        is_more = number >= KILLS
+        if is_more and any(0 < count < len(work.due) for count in counts):
+            break
         try:
-            is_awaited = number % 2 == 1
-            counts.append(is_killed(work, chance.uniform(0, longest / 20 if is_awaited else longest), is_awaited))
+            is_awaited = is_more or number % 2 == 1
+            last = 0 if is_more else longest / 20 if is_awaited else longest
+            counts.append(is_killed(work, chance.uniform(0, last), is_awaited))
             yield f"{work.words}: kill {number}", None
         except Wrong as wrong:
             yield f"{work.words}: kill {number}", str(wrong)
     halfway = sum(0 < count < len(work.due) for count in counts)
-    print(f"{work.words}: {halfway} of {KILLS} kills came between the first object and the last")
+    print(f"{work.words}: {halfway} of {len(counts)} kills came between the first object and the last")
     yield f"{work.words}: kills between the first object and the last", None if halfway else "there were none"
 
 

@@ -24,7 +24,7 @@ import time
 from browser import Browser, find_browser
 from harness import HALL_PROGRAM, LIMIT, PIPE, Wrong, answers, main, open_closed_pipe, open_full, want, want_true
 from model import refused
-from model.replies import FAILED, SILENCE, ask, closing, head_of, part_of, whole_of
+from model.replies import BAD, FAILED, SILENCE, ask, closing, head_of, part_of, whole_of
 from model.requests import cut_at_random, pick_stream
 from peers import connect, serving, talk
 
@@ -244,6 +244,30 @@ def is_not_held_up_by_peers_that_stay(trial):
             want(talk(port, ASK), WHOLE, "the last reply")
 
 
+def keeps_the_last_reply(trial, workers):
+    """A peer goes on sending behind its last request, reads late, and still gets the whole of a long reply, or of one that refuses."""
+    lay_objects(trial, **{"/s/large": LARGE})
+    with serving(trial, 2, workers) as port, connect(port) as peer:
+        peer.sendall(ask("GET /s/large", "Connection: close") + b"x" * 50000)
+        time.sleep(KEPT / 2)
+        want_true(receive(peer) == closing(whole_of(LARGE)), "the long reply isn't whole")
+        want(talk(port, ask("POST /s/x", "Content-Length: 50000") + b"x" * 50000, half_close=False), BAD, "the refusal")
+
+
+def waits_for_no_acknowledgement(trial):
+    """Two requests that come together are answered by two sends: the second one doesn't wait for the peer to acknowledge the first."""
+    lay_objects(trial)
+    spent = []
+    with serving(trial, 1, 1) as port, connect(port) as peer, peer.makefile("rb") as received:
+        for _ in range(60):
+            begin = time.monotonic()
+            peer.sendall(ASK + ASK)
+            want(received.read(2 * len(WHOLE)), WHOLE + WHOLE, "the replies")
+            spent.append(time.monotonic() - begin)
+    median = 1000 * sorted(spent)[len(spent) // 2]
+    want_true(median < 30, f"the middle one of {len(spent)} pairs took {median:.0f} ms")
+
+
 def refuses_taken_ports(trial):
     with socket.socket() as taken:
         taken.bind(("127.0.0.1", 0))
@@ -374,6 +398,9 @@ def rows(count):
     yield "files that change", gives_files_as_they_stand
     yield "connections that are kept", goes_on_with_kept_connections
     yield "peers that stay", is_not_held_up_by_peers_that_stay
+    for workers in (1, 2):
+        yield f"peers that go on sending, {workers} workers", keeps_the_last_reply, workers
+    yield "requests that come together", waits_for_no_acknowledgement
     yield "parts over kept connections", gives_parts_to_many
     for connections, workers in ((1, 1), (1, 16), (3, 2), (20, 4)):
         yield f"{connections} connections, {workers} workers", serves_so_many, connections, workers

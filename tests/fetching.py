@@ -10,6 +10,7 @@ import gzip
 import http.server
 import importlib.util
 import json
+import socket
 import sys
 import threading
 
@@ -117,11 +118,37 @@ def refuses(trial, server):
     want([path for path in server.asked if server.asked.count(path) > 1], [], "what is asked for again")
 
 
+def tells_what_is_wrong(trial, server):
+    """A box outside, a key that isn't there, no info yet, an info that is none, a server that isn't there."""
+    link = f"http://127.0.0.1:{server.server_port}/v"
+    want(fetch(trial, server, "s", BOX), (1, "", "fetch.py: there is no d/info yet: fetch.py LINK d copies it\n"), "no info yet")
+    want(fetch(trial, server)[0], 0, "the status of the info")
+    wrong = {
+        ("s", "[0:5,0:4,0:1]"): "box [0:5,0:4,0:1] outside [0:4,0:4,0:1]",
+        ("s", "[2:2,0:4,0:1]"): "box [2:2,0:4,0:1] outside [0:4,0:4,0:1]",
+        ("s", "[0:4, 0:4, 0:1]"): "[0:4, 0:4, 0:1] is no box: [x0:x1,y0:y1,z0:z1] is wanted",
+        ("t", BOX): "d/info has no scale t",
+    }
+    for words, line in wrong.items():
+        want(fetch(trial, server, *words), (1, "", f"fetch.py: {line}\n"), f"{words}")
+    trial.lay_out({"d/info": b"{"})
+    errors = fetch(trial, server, "s", BOX)[2]
+    want_true(errors.startswith("fetch.py: d/info is no JSON: "), errors)
+    with socket.create_server(("127.0.0.1", 0)) as door:
+        gone = f"http://127.0.0.1:{door.getsockname()[1]}/v"
+    script = call([sys.executable, "-c", WITHOUT_PAUSES, gone, "e"], trial.folder, PYTHONPATH=str(SCRIPT.parent))
+    want(script, (1, "", f"fetch.py: {gone}: Connection refused\n"), "a server that is gone")
+    want(call([sys.executable, SCRIPT, f"{link}/info", "f"], trial.folder)[0], 0, "a link to the info")
+
+
+WITHOUT_PAUSES = "import sys, fetch; fetch.PAUSES = (); sys.exit(fetch.main())"
+
 LINKS = {
     "gs://b/v/": "https://storage.googleapis.com/b/v",
     "precomputed://gs://b/v": "https://storage.googleapis.com/b/v",
     "precomputed://https://a/v": "https://a/v",
     "http://a/v/": "http://a/v",
+    "http://a/v/info": "http://a/v",
 }
 
 
@@ -153,6 +180,7 @@ def rows():
         ("another coding", with_server, by_another_coding, refuses),
         ("a request that is refused", with_server, refusing, refuses),
         ("links", with_server, plainly, reads_links),
+        ("mistakes, and what is said of them", with_server, plainly, tells_what_is_wrong),
     ]
 
 

@@ -10,7 +10,6 @@ nothing, and the others leave the files of the models.
 """
 import contextlib
 import dataclasses
-import itertools
 import math
 import random
 import socket
@@ -18,12 +17,11 @@ import time
 
 from harness import main, want, want_files
 from model import copy_of, cutout, infos_of, printed, refused, sound, spell, stored, stream_of, verdict
-from model.chance import damage_some, pick_box, pick_chunks, pick_layouts, pick_writes
+from model.chance import FORMS, damage_some, form_of, pick_box, pick_layouts, pick_stored, pick_writes
 from model.heads import replies_to
 from model.infos import Refused as BadInfo
 from model.infos import padded_voxels, scale_in
 from model.odd import pick_info, pick_pieces, pick_requests, pick_stream
-from model.segments import spell_loosely
 from model.streams import Refused as BadStream
 from model.streams import writes_in
 from peers import connect, serving
@@ -67,14 +65,6 @@ def judges_info(trial, seed):
     want_files(trial.files(), {})
 
 
-# Forms of scales: whether chunks are raw, and whether they are in shards.
-FORMS = list(itertools.product((True, False), (False, True)))
-
-
-def form_of(seed, step=1):
-    return FORMS[seed // step % len(FORMS)]
-
-
 # Streams
 
 
@@ -109,16 +99,6 @@ def judges_streams(trial, seed):
 
 
 # Stores
-
-
-def pick_stored(chance, volume):
-    """Chunks of a scale, of which some are absent, and those of segmentations spelled as another program may."""
-
-    def spell_some(cell, raw):
-        is_own = volume.block is None or chance.random() < 0.3
-        return volume.spell(cell, raw) if is_own else spell_loosely(chance, volume.shape(cell), raw)
-
-    return pick_chunks(chance, volume, spell_some)
 
 
 def pick_workers(chance):

@@ -18,9 +18,9 @@ import subprocess
 from disturbed import ROW, ROW_OBJECTS, RUNS, in_store
 from harness import LIMIT, Wrong, built, main, want, want_true
 from model import DOOR, MEMORY, OK, STORE, USAGE, Sharding, Volume, cutout, infos_of
+from model.chance import some_chunks
 from peers import PEERS, SERVE, WHOLE, failed_of, fronts_of, is_answered, serve_peers
-from remote import chunks_of, fetch_words
-from servers import python
+from servers import fetch_words, python
 
 # More allocations than a run of these has.
 MOST_ALLOCATIONS = 10_000
@@ -101,7 +101,7 @@ def is_refused_each_served(trial):
 
 
 def is_refused_each_fetched(trial, volume):
-    chunks = chunks_of(volume)
+    chunks = some_chunks(volume)
     ending = cutout(volume, volume.files(chunks))
 
     def run_with(folder, variables):

@@ -3,9 +3,10 @@
 
     tests/no_room.py [PROGRAM]
 
-A write, a list, an update and a copy are run over scales of every form, with several shards, minishards and layers, by one worker and by two; and the
-limit is that of each object that is due, a byte less, half of it, and none. The first object that is longer is a fault of the store. Then
-the command is run again without a limit, and all objects stand: over what is left where it may be there, else in an emptied folder.
+A write, a list, an update, a copy and a reduction are run over scales of every form, with several shards, minishards and layers, by one
+worker and by two; and the limit is that of each object that is due, a byte less, half of it, and none. The first object that is longer
+is a fault of the store. Then the command is run again without a limit, and all objects stand: over what is left where it may be there,
+else in an emptied folder.
 """
 import dataclasses
 import itertools
@@ -13,6 +14,7 @@ import random
 
 from harness import file_limit, main, want_files
 from model import Sharding, Volume, answer, copy_of, generated, infos_of, refused, stored, stream_of, sum_of, update_of, voxels_in
+from model.pyramids import reduction_of
 
 # Three layers of cells, the last ones clipped on each axis.
 RAW = Volume([5, 3, 5], [2, 2, 2], (-3, 0, 7), 2, 4)
@@ -74,7 +76,18 @@ def copy_from(volume):
     return Work(["reshard", "f", "t", "d", "s"], b"", {**infos_of(source), **before}, copy.files, copy.answer())
 
 
-WORKS = {"a write": write_of, "a list": list_of, "an update": over_of, "a copy": copy_from}
+def reduction_from(volume):
+    """From raw chunks of another size, of a scale twice as large but for an odd edge."""
+    source = dataclasses.replace(RAW, size=[2 * side for side in RAW.size[:2]] + [2 * RAW.size[2] - 1], chunk=[3, 3, 3],
+                                 offset=tuple(2 * at for at in RAW.offset), key="t")
+    count = voxels_in(source.whole) * source.channels * source.width
+    before = source.files(source.chunks_after([(source.whole, random.Random(3).randbytes(count))]))
+    made = reduction_of(source, volume, "mean", before)
+    words = ["downsample", "d", "t", "s", "--method=mean"]
+    return Work(words, b"", {**infos_of(source, volume), **before}, made.files, made.answer())
+
+
+WORKS = {"a write": write_of, "a list": list_of, "an update": over_of, "a copy": copy_from, "a reduction": reduction_from}
 
 
 def rooms_of(files):
@@ -90,7 +103,7 @@ def objects_of(trial):
 
 def is_full(trial, volume, make_work, options):
     work = make_work(volume)
-    before = {path: content for path, content in work.before.items() if path.startswith("d/")}
+    before = {path: content for path, content in work.before.items() if path.startswith("d/") and path != "d/info"}
     for number, room in enumerate(rooms_of(work.due)):
         own = dataclasses.replace(trial, folder=trial.folder / str(number))
         own.lay_out({**infos_of(volume), **work.before})

@@ -17,17 +17,16 @@ import subprocess
 import time
 
 from harness import LIMIT, Wrong, built, main, open_closed_pipe, open_full, shorten, want, want_ending, want_true
-from hostile import form_of, pick_stored
 from model import Sharding, Volume, along, cutout, damaged, infos_of, printed, refused, spell
-from model.chance import damage_some, pick_box, pick_layouts
+from model.chance import damage_some, form_of, pick_box, pick_layouts, pick_stored, some_chunks
 from model.fitting import LENGTH, Asked, fitting, taken
 from model.infos import Refused as BadInfo
 from model.infos import scale_in
 from model.odd import pick_info, pick_reply, pick_reply_pieces
 from model.replies import MOST_HEAD, PAUSE, SILENCE
-from servers import CLOSE, HOLD, KEEP, RESET, Closing, find_nginx, free_port, nginx, own, python, read_file, telling
+from servers import CLOSE, HOLD, HOST, KEEP, RESET, Closing, fetch_words, find_nginx, free_port, nginx, own, python, read_file, telling
 
-HOST = "127.0.0.1"
+OTHER_HOST = "127.0.0.2"
 FAULT = refused("store fault")
 REPLIES = 50
 
@@ -35,10 +34,6 @@ REPLIES = 50
 def fetcher(trial):
     """The same row with vol_fetch as its program."""
     return dataclasses.replace(trial, program=built("vol_fetch"))
-
-
-def fetch_words(port, volume, box):
-    return [HOST, str(port), volume.dataset, volume.key, spell(box)]
 
 
 def fetch(trial, port, volume, box, **how):
@@ -301,17 +296,10 @@ FORMS = {
 }
 
 
-def chunks_of(volume):
-    """Chunks at random of all cells but the last."""
-    chance = random.Random(0)
-    raws = {cell: chance.randbytes(volume.shape(cell).count() * volume.width) for cell in volume.cells[:-1]}
-    return {cell: volume.spell(cell, raw) for cell, raw in raws.items()}
-
-
 def store_form(trial, title):
     """A scale of a form, and its cutout."""
     volume = FORMS[title]
-    ending = cutout(volume, trial.store(volume, chunks_of(volume)))
+    ending = cutout(volume, trial.store(volume, some_chunks(volume)))
     trial.want(volume.words("cutout", spell(volume.whole)), ending)
     return volume, ending
 
@@ -530,6 +518,18 @@ def takes_names(trial):
             want_ending(fetcher(trial).run(words), printed(CHUNK), host)
 
 
+def dials_its_words(trial):
+    """Servers at one port of two addresses, and at another port, each with its own values: the one of the words is asked."""
+    other, third = bytes(reversed(CHUNK)), b"other words"
+    trial.lay_out(files_of(ONE))
+    for folder, values in (("other", other), ("third", third)):
+        trial.lay_out({f"{folder}/{path}": values if values_of == CHUNK else values_of for path, values_of in files_of(ONE).items()})
+    with python(trial.folder / "d") as port, python(trial.folder / "third/d") as last:
+        with python(trial.folder / "other/d", host=OTHER_HOST, port=port):
+            for host, at, values in ((HOST, port, CHUNK), (OTHER_HOST, port, other), (HOST, last, third)):
+                want_ending(fetcher(trial).run([host, str(at), "d", "s", BOX]), printed(values), f"{host} {at}")
+
+
 def lays_no_server(trial):
     """Nobody listens, and no data set is there."""
     trial.lay_out(files_of(ONE))
@@ -594,6 +594,7 @@ def rows(count):
     yield "requests of several chunks", asks_for_chunks
     yield "words", refuses_words
     yield "names", takes_names
+    yield "other hosts and ports", dials_its_words
     yield "no server, and no data set", lays_no_server
     yield "an output that takes nothing", tells_output_faults
     yield "large objects", takes_large_objects

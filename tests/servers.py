@@ -16,9 +16,18 @@ import threading
 import time
 
 from harness import LIMIT, Wrong
+from model import spell
 from peers import connect
 
 RANGE = re.compile(r"bytes=([0-9]+)-([0-9]+)")
+
+
+HOST = "127.0.0.1"
+
+
+def fetch_words(port, volume, box):
+    """The words of vol_fetch for a box of a volume that this machine serves."""
+    return [HOST, str(port), volume.dataset, volume.key, spell(box)]
 
 
 @contextlib.contextmanager
@@ -92,9 +101,9 @@ class Closing(Plain):
     protocol_version = "HTTP/1.0"
 
 
-def python(folder, handler=Plain, knows_ranges=True):
+def python(folder, handler=Plain, knows_ranges=True, host=HOST, port=0):
     """Python's server of a folder."""
-    server = http.server.ThreadingHTTPServer(("127.0.0.1", 0), handler)
+    server = http.server.ThreadingHTTPServer((host, port), handler)
     server.folder, server.knows_ranges = folder, knows_ranges
     return running(server)
 
@@ -118,7 +127,7 @@ def find_nginx():
 
 
 def free_port():
-    with socket.create_server(("127.0.0.1", 0)) as door:
+    with socket.create_server((HOST, 0)) as door:
         return door.getsockname()[1]
 
 
@@ -188,7 +197,7 @@ class Told(socketserver.ThreadingTCPServer):
     request_queue_size = 64
 
     def __init__(self, answer):
-        super().__init__(("127.0.0.1", 0), Peer)
+        super().__init__((HOST, 0), Peer)
         self.answer = answer
         self.lock = threading.Lock()
         self.connections = 0

@@ -36,14 +36,16 @@ def find_reached():
 
 
 def read_page():
-    """The rows of the page's tables: whether it is of types, the crate, the names and, of modules, the sentence."""
-    is_type = False
-    for line in (ROOT / "docs/trusted.md").read_text().splitlines():
-        if line.startswith("| Crate"):
-            is_type = "| File |" in line
-        elif line.startswith("| ") and line.count(" | ") == (1 if is_type else 2):
-            crate, names, *says = (cell.strip() for cell in line.strip().strip("|").split(" | "))
-            yield is_type, crate, names.split(", "), " ".join(says)
+    """The modules that the page's tables list, and the files of types in its list of these: whether it is of types, the crate, the
+    names and, of modules, the sentence."""
+    text = (ROOT / "docs/trusted.md").read_text()
+    for line in text.splitlines():
+        if line.startswith("| ") and line.count(" | ") == 2 and not line.startswith("| Crate"):
+            crate, names, says = (cell.strip() for cell in line.strip().strip("|").split(" | "))
+            yield False, crate, names.split(", "), says
+    types = " ".join(text.split("## Types of the code")[1].split("\n## ")[0].split())
+    for crate, names in re.findall(r"\*\*(\w+)\*\* (\w+(?:, \w+)*)", types):
+        yield True, crate, names.split(", "), ""
 
 
 def undefined(crate, names, says):

@@ -12,8 +12,10 @@ import json
 import os
 import random
 import shutil
+import signal
 import subprocess
 import sys
+import time
 
 from arrays import in_order, load, save
 from harness import LIMIT, ROOT, call, files_in, main, want, want_true
@@ -132,6 +134,89 @@ def refuses_types(folder):
     for descr, width in [("<i2", 2), ("<f4", 4), ("|b1", 1), ("<c8", 8), ("<i8", 8)]:
         folder.cube(descr=descr, width=width)
         folder.refuses(descr, "put", "in.npy", "d", "s")
+
+
+def names_what_is_wrong(folder):
+    """Mistakes of who begins: which file or which word is wrong, and what is wanted."""
+    folder.cube()
+    folder.cube("float.npy", "<f4", 4)
+    whole = folder.path("in.npy").read_bytes()
+    for name, content in {"text.npy": b"1 2 3\n", "front.npy": whole[:9], "head.npy": whole[:60], "cut.npy": whole[:-1]}.items():
+        folder.path(name).write_bytes(content)
+    folder.path("folder.npy").mkdir()
+    for name, told in [
+        ("none.npy", "none.npy: No such file"),
+        ("folder.npy", "folder.npy: Is a directory"),
+        ("text.npy", "text.npy isn't an array"),
+        ("front.npy", "front.npy has no whole header"),
+        ("head.npy", "head.npy has no whole header"),
+        ("cut.npy", "cut.npy is shorter"),
+        ("float.npy", 'astype("uint32")'),
+    ]:
+        folder.refuses(told, "put", name, "d", "s")
+    for option, word, told in [
+        ("--resolution", "8,8", "X,Y,Z are wanted, each over 0, and not 8,8"),
+        ("--resolution", "8,8,0", "X,Y,Z are wanted, each over 0, and not 8,8,0"),
+        ("--block", "8", "X,Y,Z are wanted, each from 1 to 16777216, and not 8"),
+        ("--chunk", "8,8,x", "and not 8,8,x"),
+    ]:
+        status, out, errors = folder.call("put", "in.npy", "d", "s", option, word)
+        want_true((status, out) == (2, "") and errors.endswith(f"{told}\n"), f"{option} {word}: {status} {out!r} {errors!r}")
+    folder.does("put", "in.npy", "d", "s", "--offset", "-3,0,0")
+    want(folder.info()["scales"][0]["voxel_offset"], [-3, 0, 0], "the offset")
+    folder.does("put", "in.npy", "d", "s", "--at", "-3,0,0")
+    folder.refuses("no/out.npy", "get", "d", "s", "all", "no/out.npy")
+    cramped = "ulimit -f 0; trap '' XFSZ; exec \"$@\""
+    found = call(
+        ["bash", "-c", cramped, "-", sys.executable, SCRIPT, "get", "d", "s", "all", "out.npy"], folder.trial.folder,
+        VOL_TOOL=str(folder.trial.program),
+    )
+    want(found, (1, "", "volume.py: out.npy: File too large\n"), "a file that can't grow")
+    want(list(folder.trial.folder.glob("out.npy*")), [], "what is left of it")
+    folder.path("d/info").write_text("{")
+    folder.refuses("d/info is no JSON", "get", "d", "s", "all", "out.npy")
+
+
+def on_terminal(folder, *words):
+    """The status of a call, its output, and what it says on a terminal."""
+    ours, theirs = os.openpty()
+    done = subprocess.run(
+        [sys.executable, SCRIPT, *words], cwd=folder.trial.folder, stdin=subprocess.DEVNULL, stdout=subprocess.PIPE, stderr=theirs,
+        timeout=LIMIT, env={**os.environ, "VOL_TOOL": str(folder.trial.program)},
+    )
+    os.close(theirs)
+    text = os.read(ours, 4096).decode()
+    os.close(ours)
+    return done.returncode, done.stdout, text
+
+
+def tells_what_is_there(folder):
+    """A second put is told on a terminal what can be done; one to go on, too, where nothing was broken off."""
+    folder.cube()
+    folder.does("put", "in.npy", "d", "s")
+    for words in ((), ("--resume",)):
+        status, _, text = on_terminal(folder, "put", "in.npy", "d", "s", *words)
+        want_true(status == REQUEST and text.startswith("folder not empty\r\nd/s holds an array: "), f"{words}: {status} {text!r}")
+
+
+def is_interrupted(folder):
+    """Ctrl-C in a put tells how it goes on, and it does."""
+    folder.cube()
+    slow = folder.path("slow")
+    slow.write_text("#!/bin/sh\ntrap 'exit 130' INT\necho >begun\nwhile :; do sleep 0.1; done\n")
+    slow.chmod(0o755)
+    words = ["put", "in.npy", "d", "s", "--resolution", "1,1,1"]
+    running = subprocess.Popen(
+        [sys.executable, SCRIPT, *words], cwd=folder.trial.folder, stdin=subprocess.DEVNULL, stdout=subprocess.PIPE, stderr=subprocess.PIPE,
+        env={**os.environ, "VOL_TOOL": str(slow)}, start_new_session=True,
+    )
+    ends = time.monotonic() + LIMIT
+    while not folder.path("begun").exists() and time.monotonic() < ends:
+        time.sleep(0.05)
+    os.killpg(running.pid, signal.SIGINT)
+    out, errors = running.communicate(timeout=LIMIT)
+    want((running.returncode, out, errors), (1, b"", b"volume.py: broken off; the same words and --resume go on\n"), "a put")
+    folder.does(*words, "--resume")
 
 
 def refuses_sizes(folder):
@@ -472,15 +557,8 @@ def is_told_on_a_terminal(folder):
     folder.does("put", "in.npy", "d", "s", "--chunk", "4,4,4")
     for damage, status, last in (({}, 0, "\r"), ({"d/s/0-4_0-4_0-4": b""}, 4, "damaged 0,0,0: chunk length 0 wanted 64\r\n")):
         folder.trial.lay_out(damage)
-        ours, theirs = os.openpty()
-        done = subprocess.run(
-            [sys.executable, SCRIPT, "pyramid", "d", "s", "--levels", "1"], cwd=folder.trial.folder, stdin=subprocess.DEVNULL,
-            stdout=subprocess.PIPE, stderr=theirs, timeout=LIMIT, env={**os.environ, "VOL_TOOL": str(folder.trial.program)},
-        )
-        os.close(theirs)
-        text = os.read(ours, 4096).decode()
-        os.close(ours)
-        want((done.returncode, done.stdout), (status, told(("s_2", "6x6x6", "mean", 8, 8)).encode() if status == 0 else b""), "a level")
+        found, out, text = on_terminal(folder, "pyramid", "d", "s", "--levels", "1")
+        want((found, out), (status, told(("s_2", "6x6x6", "mean", 8, 8)).encode() if status == 0 else b""), "a level")
         want_true("s_2, " in text and " of at most 8 files: " in text and text.endswith(last), f"on the terminal {text!r}")
         shutil.rmtree(folder.path("d/s_2"), ignore_errors=True)
 
@@ -520,6 +598,9 @@ CASES = [
     ("a pyramid by the module", makes_pyramids_as_module),
     ("channels behind x", asks_for_axes),
     ("types that aren't stored", refuses_types),
+    ("mistakes, and what is said of them", names_what_is_wrong),
+    ("a second put on a terminal", tells_what_is_there),
+    ("Ctrl-C in a put", is_interrupted),
     ("sizes past the limits", refuses_sizes),
     ("scales of one info", adds_scales),
     ("boxes that aren't there", refuses_boxes),

@@ -2,11 +2,19 @@
 import dataclasses
 import itertools
 import math
+import random
 
 from .boxes import corners, voxels_in
-from .segments import BITS, bytes_of, words_of
+from .segments import BITS, bytes_of, spell_loosely, words_of
 from .shards import Sharding, rows_of
 from .volumes import Volume
+
+# Forms of scales: whether chunks are raw, and whether they are in shards.
+FORMS = list(itertools.product((True, False), (False, True)))
+
+
+def form_of(seed, step=1):
+    return FORMS[seed // step % len(FORMS)]
 
 
 def pick_sharding(chance):
@@ -173,3 +181,20 @@ def damage_some(chance, volume, files):
             "gone": lambda: None,
         }[kind]()
     return after
+
+
+def pick_stored(chance, volume):
+    """Chunks of a scale, of which some are absent, and those of segmentations spelled as another program may."""
+
+    def spell_some(cell, raw):
+        is_own = volume.block is None or chance.random() < 0.3
+        return volume.spell(cell, raw) if is_own else spell_loosely(chance, volume.shape(cell), raw)
+
+    return pick_chunks(chance, volume, spell_some)
+
+
+def some_chunks(volume):
+    """Chunks at random of all cells but the last."""
+    chance = random.Random(0)
+    raws = {cell: chance.randbytes(volume.shape(cell).count() * volume.width) for cell in volume.cells[:-1]}
+    return {cell: volume.spell(cell, raw) for cell, raw in raws.items()}

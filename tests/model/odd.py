@@ -5,8 +5,8 @@ import copy
 import itertools
 import json
 
-from .boxes import bytes_of, head_of, stream_of, voxels_in
-from .chance import pick_sharding, pick_volume, pick_writes
+from .boxes import bytes_of, head_of, stream_of
+from .chance import pick_volume, pick_writes
 from .fitting import LENGTH, following, length_told, read_head
 from .replies import MOST_HEAD
 from .streams import MOST_WRITES
