@@ -1,5 +1,5 @@
 -- What is answered, from what the parts of a reduction answer.
-use Rattle.std.proofs.Common.{◌≡◌, ℕ, List, Option, Some, None, IfSome, true, false, refl, subst, inl, inr}
+use Rattle.std.proofs.Common.{◌≡◌, ℕ, List, Option, Some, None, IfSome, false, refl, subst, inl, inr}
 use Rattle.std.specs.Prelude.{IfErr, Result, Ok, Err, ⊤}
 use Rattle.vol_base.specs.Outside.{Objects, any_under}
 use Rattle.vol_spec.specs.CellNames.{folder_of}

@@ -1,4 +1,5 @@
 pub mod AnswerSteps
+mod BegunSteps
 pub mod DownsampleSteps
 pub mod FaultSteps
 pub mod JudgeSteps

@@ -1,6 +1,6 @@
 -- What `downsample` answers (this project's profile). Its refusals are those of a copy, with the same statuses and lines.
 use Rattle.std.specs.Prelude.{◌≡◌, ◌⊎◌, ◌^◌, ◌<◌, true, length, Option, Some, None, Result, Ok as Done, Err, IfSome, IsOkAnd, IsSomeAnd}
-use Rattle.vol_base.specs.Outside.{any_under, Objects}
+use Rattle.vol_base.specs.Outside.{any_under, Draft, Objects}
 use Rattle.vol_base.specs.declared.boxes.Box3.{Box3}
 use Rattle.vol_spec.specs.CellNames.{folder_of}
 use Rattle.vol_spec.specs.Grid.{Inside, whole}
@@ -12,6 +12,7 @@ use Rattle.coarse_laws.specs.Coarse.{HasReduced, ReadsAsReduced, reduced_in}
 use Rattle.reduce_laws.specs.Halves.{IsHalf}
 use Rattle.reduce_laws.specs.Reduced.{IsNext, reduced_cells}
 use Rattle.reduce_laws.specs.declared.method.Method.{Method}
+use Rattle.shard_writer.specs.Writing.{BeginsNext, Drops}
 use Rattle.shard_writer.specs.declared.written.Written.{Written}
 use Rattle.command_base.specs.Ending.{Ends}
 use Rattle.command_base.specs.Outlets.{Outlets}
@@ -101,6 +102,19 @@ ReducesStored (Err refused.NoMemory) source target method m now dataset =
     (now ≡ Some m) ⊎ OfBoth source target (λ from to. ReducedFront method m now dataset from to)
 ReducesStored result source target method m now dataset =
     OfBoth source target (λ from to. ReducesScale result method m now dataset from to)
+
+-- both scales are there, and of the objects of the reduced one the next is being written, behind those that were put in
+abbrev pub BeginsReduction : Result Scale NoScale → Result Scale NoScale → Method → Objects → Option Objects →
+    Name → Option Draft → Type 0
+BeginsReduction source target method m now dataset draft = OfBoth source target
+    (λ from to. BeginsNext (reduced_list method m dataset from to) m now draft)
+
+-- nothing is being written, or what was before, or the next of the reduced scale's objects
+abbrev pub DropsOrDownsamples : Method → Option Objects → Option Objects → Name → Name → Name →
+    Option Draft → Option Draft → Type 0
+DropsOrDownsamples method old now dataset key to_key before after = Drops before after ⊎
+    IfSome old (λ m. BeginsReduction (stored_scale m dataset key) (stored_scale m dataset to_key) method m now
+    dataset after)
 
 -- both scales are there, the target keeps the writing limit and is half the source, no grid has too many cells, the target's folder is empty, and
 -- the source has no fault

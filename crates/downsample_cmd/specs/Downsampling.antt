@@ -1,7 +1,7 @@
 -- What reducing a scale into the next one answers, and what stands after it (this project's).
 use Rattle.std.specs.Prelude.{◌≡◌, ◌≢◌, ◌⊎◌, true, false, map, length, Option, Some, None, Result, Ok, Err, Contains, IfSome}
 use Rattle.std.specs.FinMap as fin
-use Rattle.vol_base.specs.Outside.{Objects, any_under}
+use Rattle.vol_base.specs.Outside.{Draft, Objects, any_under}
 use Rattle.vol_base.specs.declared.faults.Fault.{Fault}
 use Rattle.vol_spec.specs.BoxValues.{first_some}
 use Rattle.vol_spec.specs.CellNames.{folder_of}
@@ -18,7 +18,7 @@ use Rattle.copier.specs.Held.{cells_of}
 use Rattle.reduce_laws.specs.Reduced.{reduced_cells, reduced_chunks, source_box}
 use Rattle.reduce_laws.specs.declared.method.Method.{Method}
 use Rattle.reducer.specs.Works.{Reduction}
-use Rattle.shard_writer.specs.Writing.{PutsFront, joint_len}
+use Rattle.shard_writer.specs.Writing.{BeginsNext, Drops, PutsFront, joint_len}
 use Rattle.shard_writer.specs.declared.written.Written.{Written}
 use Rattle.reshard_cmd.specs.declared.fault.ReshardFault.{ReshardFault}
 use Rattle.reshard_cmd.specs.declared.fault.ReshardFault.TheVariants.{Differs, TooManyCells, NotEmpty, StoreFault, Damaged, OutOfMemory}
@@ -44,6 +44,12 @@ SparesFaulty m now dataset from to = IfSome now (λ n. (cell : Cell) →
 abbrev pub PutsReducedFront : Method → Objects → Option Objects → Name → Scale → Scale → Type 0
 PutsReducedFront method m now dataset from to =
     PutsFront (reduced_list method m dataset from to) m now × SparesFaulty m now dataset from to
+
+-- nothing is being written, or what was before, or the next of the reduced scale's objects, behind those that were put in
+abbrev pub DropsOrReduces : Method → Option Objects → Option Objects → Name → Scale → Scale → Option Draft →
+    Option Draft → Type 0
+DropsOrReduces method old now dataset from to before after = Drops before after ⊎
+    IfSome old (λ m. BeginsNext (reduced_list method m dataset from to) m now after)
 
 -- a cell of the source that has a fault, the first on the way
 pub record IsFirstFault (m : Objects) (dataset : Name) (from to : Scale) (cell : Cell)

@@ -1,5 +1,5 @@
 //! The command `downsample`.
-ghost use Rattle.std.specs.Prelude.{◌≡◌, ◌≤◌, length, false, None, Some, IfErr, IfSome, Ok, OnOk};
+ghost use Rattle.std.specs.Prelude.{◌≡◌, ◌⊎◌, ◌≤◌, length, false, None, Some, IfErr, IfSome, Ok, OnOk};
 ghost use Rattle.vol_base.specs.Causes.{HasCauseOf, Rose};
 ghost use Rattle.vol_base.specs.Outside.{Objects, OnlyReads};
 ghost use Rattle.vol_spec.specs.Writable.{IsWritable};
@@ -10,7 +10,8 @@ ghost use Rattle.command_base.specs.Scales.{stored_scale};
 ghost use Rattle.command_base.specs.Statuses.{prints, puts};
 ghost use Rattle.reshard_cmd.specs.Copying.{DropsUnsharded};
 ghost use Rattle.reshard_cmd.specs.Refusals.{reshard_status};
-ghost use Rattle.downsample_cmd.specs.Answering.{CanDownsample, Downsampled, ReducedBack, ReducesScale, ReducesStored};
+ghost use Rattle.downsample_cmd.specs.Answering.{BeginsReduction, CanDownsample, Downsampled, DropsOrDownsamples, ReducedBack, ReducesScale, ReducesStored};
+ghost use Rattle.downsample_cmd.specs.Downsampling.{DropsOrReduces};
 
 use crate::downsampling::downsample;
 use command_base::{Crew, Status, finish, read_scale, report, write_written_line};
@@ -38,6 +39,8 @@ fn reduce_scale<R: Threads + Wait + Sync, S: Store, G: Gate + Sync>(
     ensures kept { IfErr result (λ refusal. puts (reshard_status refusal) ≡ false →
         OnlyReads (S.objects store.old) (S.objects store.new) (S.draft store.old) (S.draft store.new)) }
     ensures draft { OnOk result (Drops (S.draft store.old) (S.draft store.new)) }
+    ensures begun { DropsOrReduces method (S.objects store.old) (S.objects store.new) dataset.now from.now
+        to.now (S.draft store.old) (S.draft store.new) }
     ensures unsharded { to.now.sharding ≡ None → Drops (S.draft store.old) (S.draft store.new) }
     ensures cause { HasCauseOf ReshardRefusal.StoreFault (S.faults store.old) (S.faults store.new) result }
 {
@@ -63,6 +66,9 @@ fn reduce_into<R: Threads + Wait + Sync, S: Store, G: Gate + Sync>(
     ensures kept { IfErr result (λ refusal. puts (reshard_status refusal) ≡ false →
         OnlyReads (S.objects store.old) (S.objects store.new) (S.draft store.old) (S.draft store.new)) }
     ensures draft { OnOk result (Drops (S.draft store.old) (S.draft store.new)) }
+    ensures begun { Drops (S.draft store.old) (S.draft store.new) ⊎ IfSome (S.objects store.old) (λ m.
+        BeginsReduction (Ok from.now) (stored_scale m dataset.now to_key.now) method m (S.objects store.new)
+        dataset.now (S.draft store.new)) }
     ensures unsharded { IfSome (S.objects store.old) (λ m.
         DropsUnsharded (stored_scale m dataset.now to_key.now) (S.draft store.old) (S.draft store.new)) }
     ensures cause { HasCauseOf ReshardRefusal.StoreFault (S.faults store.old) (S.faults store.new) result }
@@ -89,6 +95,8 @@ fn reduce_stored<R: Threads + Wait + Sync, S: Store, G: Gate + Sync>(
     ensures kept { IfErr result (λ refusal. puts (reshard_status refusal) ≡ false →
         OnlyReads (S.objects store.old) (S.objects store.new) (S.draft store.old) (S.draft store.new)) }
     ensures draft { OnOk result (Drops (S.draft store.old) (S.draft store.new)) }
+    ensures begun { DropsOrDownsamples method (S.objects store.old) (S.objects store.new) dataset.now key.now
+        to_key.now (S.draft store.old) (S.draft store.new) }
     ensures unsharded { IfSome (S.objects store.old) (λ m.
         DropsUnsharded (stored_scale m dataset.now to_key.now) (S.draft store.old) (S.draft store.new)) }
     ensures cause { HasCauseOf ReshardRefusal.StoreFault (S.faults store.old) (S.faults store.new) result }
@@ -123,6 +131,8 @@ pub fn run_downsample<R: Threads + Wait + Sync, S: Store, O: Outlet, E: Outlet, 
         ReducedBack method m (S.objects store.new) dataset.now key.now to_key.now) }
     ensures draft { result ≡ Status.Ok → Drops (S.draft store.old) (S.draft store.new) }
     ensures draft_unprinted { result ≡ Status.OutFault → Drops (S.draft store.old) (S.draft store.new) }
+    ensures begun { DropsOrDownsamples method (S.objects store.old) (S.objects store.new) dataset.now key.now
+        to_key.now (S.draft store.old) (S.draft store.new) }
     ensures unsharded { IfSome (S.objects store.old) (λ m.
         DropsUnsharded (stored_scale m dataset.now to_key.now) (S.draft store.old) (S.draft store.new)) }
     ensures kept { puts result ≡ false → OnlyReads (S.objects store.old) (S.objects store.new)

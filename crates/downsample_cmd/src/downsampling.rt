@@ -9,7 +9,7 @@ ghost use Rattle.reduce_laws.specs.Reduced.{IsNext};
 ghost use Rattle.shard_writer.specs.Writing.{Drops};
 ghost use Rattle.write_plan.specs.Pairs.{cell_count};
 ghost use Rattle.reshard_cmd.specs.Resharding.{IsLate, KeepsStore};
-ghost use Rattle.downsample_cmd.specs.Downsampling.{Downsamples, HasReducedJobs, Reduces};
+ghost use Rattle.downsample_cmd.specs.Downsampling.{Downsamples, DropsOrReduces, HasReducedJobs, Reduces};
 ghost use Rattle.downsample_cmd.specs.Judging.{JudgesNext};
 
 use crate::judge::judge_next;
@@ -46,6 +46,8 @@ fn put_reduced<R: Threads + Wait + Sync, S: Store, G: Gate + Sync>(
         (S.objects store.new) dataset.now reducer.old.held.from scale.now) }
     ensures late { IfErr result IsLate }
     ensures draft { OnOk result (Drops (S.draft store.old) (S.draft store.new)) }
+    ensures begun { DropsOrReduces reducer.old.method (S.objects store.old) (S.objects store.new) dataset.now
+        reducer.old.held.from scale.now (S.draft store.old) (S.draft store.new) }
     ensures unsharded { scale.now.sharding ≡ None → Drops (S.draft store.old) (S.draft store.new) }
     ensures cause { HasCauseOf ReshardFault.StoreFault (S.faults store.old) (S.faults store.new) result }
 {
@@ -85,6 +87,8 @@ fn write_reduced<R: Threads + Wait + Sync, S: Store, G: Gate + Sync>(
         Reduces result method m (S.objects store.new) dataset.now from.now to.now) }
     ensures late { IfErr result IsLate }
     ensures draft { OnOk result (Drops (S.draft store.old) (S.draft store.new)) }
+    ensures begun { DropsOrReduces method (S.objects store.old) (S.objects store.new) dataset.now from.now
+        to.now (S.draft store.old) (S.draft store.new) }
     ensures unsharded { to.now.sharding ≡ None → Drops (S.draft store.old) (S.draft store.new) }
     ensures cause { HasCauseOf ReshardFault.StoreFault (S.faults store.old) (S.faults store.new) result }
 {
@@ -134,6 +138,8 @@ pub fn downsample<R: Threads + Wait + Sync, S: Store, G: Gate + Sync>(
     ensures kept { IfErr result (λ fault. KeepsStore fault (S.objects store.old) (S.objects store.new)
         (S.draft store.old) (S.draft store.new)) }
     ensures draft { OnOk result (Drops (S.draft store.old) (S.draft store.new)) }
+    ensures begun { DropsOrReduces method (S.objects store.old) (S.objects store.new) dataset.now from.now
+        to.now (S.draft store.old) (S.draft store.new) }
     ensures unsharded { to.now.sharding ≡ None → Drops (S.draft store.old) (S.draft store.new) }
     ensures cause { HasCauseOf ReshardFault.StoreFault (S.faults store.old) (S.faults store.new) result }
 {

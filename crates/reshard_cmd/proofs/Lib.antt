@@ -1,4 +1,5 @@
 pub mod AnswerSteps
+pub mod BegunSteps
 pub mod CopySteps
 pub mod CopyingSteps
 pub mod FaultSteps

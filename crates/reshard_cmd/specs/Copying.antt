@@ -10,7 +10,7 @@ use Rattle.vol_spec.specs.Writable.{IsWritable, padded}
 use Rattle.vol_spec.specs.declared.scale.Scale.{Scale}
 use Rattle.chunk_laws.specs.Told.{HasNoFault}
 use Rattle.copy_laws.specs.Copied.{copied_in, KeepsValues, ReadsAsSource}
-use Rattle.shard_writer.specs.Writing.{Drops}
+use Rattle.shard_writer.specs.Writing.{BeginsNext, Drops}
 use Rattle.shard_writer.specs.declared.written.Written.{Written}
 use Rattle.command_base.specs.Ending.{Ends}
 use Rattle.command_base.specs.Lines.{written_line}
@@ -134,6 +134,19 @@ CopiesStored result source target m now from_dataset to_dataset =
 -- where the target isn't sharded, nothing is being written, or what was before
 abbrev pub DropsUnsharded : Result Scale NoScale → Option Draft → Option Draft → Type 0
 DropsUnsharded target before after = IfOk target (λ to. to.sharding ≡ None → Drops before after)
+
+-- both scales are there, and of the objects of their copy the next one is being written, behind those that were put in
+abbrev pub BeginsCopy : Result Scale NoScale → Result Scale NoScale → Objects → Option Objects → Name →
+    Name → Option Draft → Type 0
+BeginsCopy source target m now from_dataset to_dataset draft = OfBoth source target
+    (λ from to. BeginsNext (copy_list m from_dataset from to_dataset to) m now draft)
+
+-- nothing is being written, or what was before, or the next of the copy's objects
+abbrev pub DropsOrReshards : Option Objects → Option Objects → Name → Name → Name → Name → Option Draft →
+    Option Draft → Type 0
+DropsOrReshards old now from_dataset from_key to_dataset to_key before after = Drops before after ⊎
+    IfSome old (λ m. BeginsCopy (stored_scale m from_dataset from_key) (stored_scale m to_dataset to_key) m
+    now from_dataset to_dataset after)
 
 -- which data set's name a refusal tells, the target's only where its scale isn't there
 abbrev pub named_in : ReshardRefusal → Name → Name → Name

@@ -16,7 +16,7 @@ use Rattle.vol_spec.specs.declared.scale.Scale.{Scale}
 use Rattle.chunk_laws.specs.Told.{HasNoFault}
 use Rattle.copy_laws.specs.Copied.{KeepsValues, copied_in}
 use Rattle.copier.specs.Held.{Held, cells_of}
-use Rattle.shard_writer.specs.Writing.{PutsFront, joint_len}
+use Rattle.shard_writer.specs.Writing.{BeginsNext, Drops, PutsFront, joint_len}
 use Rattle.shard_writer.specs.declared.written.Written.{Written}
 use Rattle.reshard_cmd.specs.declared.fault.ReshardFault.{ReshardFault}
 use Rattle.reshard_cmd.specs.declared.fault.ReshardFault.TheVariants.{Differs, TooManyCells, NotEmpty, StoreFault, Damaged, OutOfMemory}
@@ -43,6 +43,12 @@ abbrev pub PutsCopyFront : Objects → Option Objects → Name → Scale → Nam
 PutsCopyFront m now from_dataset from to_dataset to =
     PutsFront (copy_list m from_dataset from to_dataset to) m now
     × SparesFaulty m now from_dataset from to_dataset to
+
+-- nothing is being written, or what was before, or the next of the copy's objects, behind those that were put in
+abbrev pub DropsOrCopies : Option Objects → Option Objects → Name → Scale → Name → Scale → Option Draft →
+    Option Draft → Type 0
+DropsOrCopies old now from_dataset from to_dataset to before after = Drops before after ⊎
+    IfSome old (λ m. BeginsNext (copy_list m from_dataset from to_dataset to) m now after)
 
 -- a cell of the source that has a fault, the first on the way
 pub record IsFirstFault (m : Objects) (dataset : Name) (from to : Scale) (cell : Cell)

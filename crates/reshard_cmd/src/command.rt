@@ -1,5 +1,5 @@
 //! The command `reshard`.
-ghost use Rattle.std.specs.Prelude.{◌≡◌, ◌≤◌, length, false, None, Some, IfErr, IfOk, IfSome, OnOk};
+ghost use Rattle.std.specs.Prelude.{◌≡◌, ◌⊎◌, ◌≤◌, length, false, None, Some, IfErr, IfOk, IfSome, OnOk};
 ghost use Rattle.vol_base.specs.Causes.{HasCauseOf, Rose};
 ghost use Rattle.vol_base.specs.Outside.{Objects, OnlyReads};
 ghost use Rattle.vol_spec.specs.Writable.{IsWritable};
@@ -8,8 +8,9 @@ ghost use Rattle.command_base.specs.Ending.{EndsWell, IsCaused};
 ghost use Rattle.command_base.specs.Outlets.{outlets_of};
 ghost use Rattle.command_base.specs.Scales.{stored_scale};
 ghost use Rattle.command_base.specs.Statuses.{prints, puts};
-ghost use Rattle.reshard_cmd.specs.Copying.{CanReshard, CopiedBack, CopiesScale, CopiesStored, DropsUnsharded, named_in, ReadsTarget, Resharded, unmade};
+ghost use Rattle.reshard_cmd.specs.Copying.{BeginsCopy, CanReshard, CopiedBack, CopiesScale, CopiesStored, DropsOrReshards, DropsUnsharded, named_in, ReadsTarget, Resharded, unmade};
 ghost use Rattle.reshard_cmd.specs.Refusals.{reshard_status};
+ghost use Rattle.reshard_cmd.specs.Resharding.{DropsOrCopies};
 
 use crate::ReshardFault;
 use crate::copying::reshard;
@@ -100,6 +101,8 @@ fn copy_scale<R: Threads + Wait + Sync, S: Store, G: Gate + Sync>(
     ensures kept { IfErr result (λ refusal. puts (reshard_status refusal) ≡ false →
         OnlyReads (S.objects store.old) (S.objects store.new) (S.draft store.old) (S.draft store.new)) }
     ensures draft { OnOk result (Drops (S.draft store.old) (S.draft store.new)) }
+    ensures begun { DropsOrCopies (S.objects store.old) (S.objects store.new) from_dataset.now from.now
+        to_dataset.now to.now (S.draft store.old) (S.draft store.new) }
     ensures unsharded { to.now.sharding ≡ None → Drops (S.draft store.old) (S.draft store.new) }
     ensures cause { HasCauseOf ReshardRefusal.StoreFault (S.faults store.old) (S.faults store.new) result }
 {
@@ -127,6 +130,9 @@ fn copy_into<R: Threads + Wait + Sync, S: Store, G: Gate + Sync>(
     ensures kept { IfErr result (λ refusal. puts (reshard_status refusal) ≡ false →
         OnlyReads (S.objects store.old) (S.objects store.new) (S.draft store.old) (S.draft store.new)) }
     ensures draft { OnOk result (Drops (S.draft store.old) (S.draft store.new)) }
+    ensures begun { Drops (S.draft store.old) (S.draft store.new) ⊎ IfSome (S.objects store.old) (λ m.
+        BeginsCopy (Ok from.now) (stored_scale m to_dataset.now to_key.now) m (S.objects store.new)
+        from_dataset.now to_dataset.now (S.draft store.new)) }
     ensures unsharded { IfSome (S.objects store.old) (λ m.
         DropsUnsharded (stored_scale m to_dataset.now to_key.now) (S.draft store.old) (S.draft store.new)) }
     ensures cause { HasCauseOf ReshardRefusal.StoreFault (S.faults store.old) (S.faults store.new) result }
@@ -154,6 +160,8 @@ fn copy_stored<R: Threads + Wait + Sync, S: Store, G: Gate + Sync>(
     ensures kept { IfErr result (λ refusal. puts (reshard_status refusal) ≡ false →
         OnlyReads (S.objects store.old) (S.objects store.new) (S.draft store.old) (S.draft store.new)) }
     ensures draft { OnOk result (Drops (S.draft store.old) (S.draft store.new)) }
+    ensures begun { DropsOrReshards (S.objects store.old) (S.objects store.new) from_dataset.now from_key.now
+        to_dataset.now to_key.now (S.draft store.old) (S.draft store.new) }
     ensures unsharded { IfSome (S.objects store.old) (λ m.
         DropsUnsharded (stored_scale m to_dataset.now to_key.now) (S.draft store.old) (S.draft store.new)) }
     ensures cause { HasCauseOf ReshardRefusal.StoreFault (S.faults store.old) (S.faults store.new) result }
@@ -190,6 +198,8 @@ pub fn run_reshard<R: Threads + Wait + Sync, S: Store, O: Outlet, E: Outlet, G: 
         CopiedBack m (S.objects store.new) dataset.now key.now to_dataset.now to_key.now) }
     ensures draft { result ≡ Status.Ok → Drops (S.draft store.old) (S.draft store.new) }
     ensures draft_unprinted { result ≡ Status.OutFault → Drops (S.draft store.old) (S.draft store.new) }
+    ensures begun { DropsOrReshards (S.objects store.old) (S.objects store.new) dataset.now key.now
+        to_dataset.now to_key.now (S.draft store.old) (S.draft store.new) }
     ensures unsharded { IfSome (S.objects store.old) (λ m.
         DropsUnsharded (stored_scale m to_dataset.now to_key.now) (S.draft store.old) (S.draft store.new)) }
     ensures kept { puts result ≡ false → OnlyReads (S.objects store.old) (S.objects store.new)

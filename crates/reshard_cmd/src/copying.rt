@@ -8,7 +8,7 @@ ghost use Rattle.vol_spec.specs.Writable.{IsWritable};
 ghost use Rattle.shard_writer.specs.Writing.{Drops};
 ghost use Rattle.write_plan.specs.Pairs.{cell_count};
 ghost use Rattle.reshard_cmd.specs.Judging.{Judges};
-ghost use Rattle.reshard_cmd.specs.Resharding.{Copies, HasCopyJobs, IsLate, KeepsStore, Reshards};
+ghost use Rattle.reshard_cmd.specs.Resharding.{Copies, DropsOrCopies, HasCopyJobs, IsLate, KeepsStore, Reshards};
 ghost use Rattle.copier.specs.Held.{cells_of};
 
 use crate::ReshardFault;
@@ -43,6 +43,8 @@ fn put_copy<R: Threads + Wait + Sync, S: Store, G: Gate + Sync>(
         Copies result m (S.objects store.new) copier.old.dataset copier.old.from dataset.now scale.now) }
     ensures late { IfErr result IsLate }
     ensures draft { OnOk result (Drops (S.draft store.old) (S.draft store.new)) }
+    ensures begun { DropsOrCopies (S.objects store.old) (S.objects store.new) copier.old.dataset
+        copier.old.from dataset.now scale.now (S.draft store.old) (S.draft store.new) }
     ensures unsharded { scale.now.sharding ≡ None → Drops (S.draft store.old) (S.draft store.new) }
     ensures cause { HasCauseOf ReshardFault.StoreFault (S.faults store.old) (S.faults store.new) result }
 {
@@ -84,6 +86,8 @@ fn write_copy<R: Threads + Wait + Sync, S: Store, G: Gate + Sync>(
         Copies result m (S.objects store.new) from_dataset.now from.now to_dataset.now to.now) }
     ensures late { IfErr result IsLate }
     ensures draft { OnOk result (Drops (S.draft store.old) (S.draft store.new)) }
+    ensures begun { DropsOrCopies (S.objects store.old) (S.objects store.new) from_dataset.now from.now
+        to_dataset.now to.now (S.draft store.old) (S.draft store.new) }
     ensures unsharded { to.now.sharding ≡ None → Drops (S.draft store.old) (S.draft store.new) }
     ensures cause { HasCauseOf ReshardFault.StoreFault (S.faults store.old) (S.faults store.new) result }
 {
@@ -123,6 +127,8 @@ pub fn reshard<R: Threads + Wait + Sync, S: Store, G: Gate + Sync>(
     ensures kept { IfErr result (λ fault. KeepsStore fault (S.objects store.old) (S.objects store.new)
         (S.draft store.old) (S.draft store.new)) }
     ensures draft { OnOk result (Drops (S.draft store.old) (S.draft store.new)) }
+    ensures begun { DropsOrCopies (S.objects store.old) (S.objects store.new) from_dataset.now from.now
+        to_dataset.now to.now (S.draft store.old) (S.draft store.new) }
     ensures unsharded { to.now.sharding ≡ None → Drops (S.draft store.old) (S.draft store.new) }
     ensures cause { HasCauseOf ReshardFault.StoreFault (S.faults store.old) (S.faults store.new) result }
 {

@@ -1,3 +1,4 @@
 pub mod AnswerSteps
+mod BegunSteps
 mod UpdateSteps
 pub mod UpdatingSteps

@@ -8,7 +8,7 @@ use Rattle.vol_spec.specs.Grid.{Inside}
 use Rattle.vol_spec.specs.Types.{Bytes, Name, Writes}
 use Rattle.vol_spec.specs.Writable.{IsWritable, padded}
 use Rattle.vol_spec.specs.declared.scale.Scale.{Scale}
-use Rattle.shard_writer.specs.Writing.{Drops}
+use Rattle.shard_writer.specs.Writing.{BeginsNext, Drops}
 use Rattle.shard_writer.specs.declared.written.Written.{Written}
 use Rattle.update_laws.specs.Judged.{refusal_in}
 use Rattle.update_laws.specs.Judged.Refusal.{BadShard as BadShardOf}
@@ -24,7 +24,7 @@ use Rattle.command_base.specs.Scales.{stored_scale}
 use Rattle.command_base.specs.declared.refusal.NoScale.{NoScale}
 use Rattle.command_base.specs.declared.status.Status.{Status}
 use Rattle.update_cmd.specs.Refusals.{update_line, update_status}
-use Rattle.update_cmd.specs.Updating.{HasTooMany, IsUpdated, PutsJudgedFront, update_fault}
+use Rattle.update_cmd.specs.Updating.{HasTooMany, IsUpdated, PutsJudgedFront, update_fault, update_list}
 use Rattle.update_cmd.specs.declared.refusal.UpdateRefusal.{UpdateRefusal}
 use Rattle.update_cmd.specs.declared.refusal.UpdateRefusal.TheVariants as refused
 
@@ -125,6 +125,18 @@ LeavesStore other old new before after = OnlyReads old new before after
 -- where the scale isn't sharded, nothing is being written, or what was before
 abbrev pub DropsUnsharded : Result Scale NoScale → Option Draft → Option Draft → Type 0
 DropsUnsharded told before after = IfOk told (λ s. s.sharding ≡ None → Drops before after)
+
+-- the list can be read, and of the objects of its writes over a scale the next one is being written, behind those that were put in
+abbrev pub BeginsUpdate : Objects → Option Objects → Result Writes PlanFault → Name → Scale → Option Draft →
+    Type 0
+BeginsUpdate m now list dataset s draft =
+    IsOkAnd list (λ writes. BeginsNext (update_list m dataset s writes) m now draft)
+
+-- nothing is being written, or what was before, or, where the stream is told, the next of the objects of its writes
+abbrev pub DropsOrPuts : Option Objects → Option Objects → Option Bytes → Name → Name → Option Draft →
+    Option Draft → Type 0
+DropsOrPuts old now left dataset key before after = Drops before after ⊎ IfSome old (λ m. IfSome left (λ bytes.
+    IsOkAnd (stored_scale m dataset key) (λ s. BeginsUpdate m now (writes_of bytes s) dataset s after)))
 
 -- what is right of the answer of `update`: over objects, the feed told or not; over both; and where nothing is told, what is left of the feed
 -- and of the store

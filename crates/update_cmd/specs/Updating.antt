@@ -13,7 +13,7 @@ use Rattle.vol_spec.specs.declared.scale.Scale.{Scale}
 use Rattle.copier.specs.Held.{cells_of}
 use Rattle.kept_cells.specs.declared.fault.KeepRefusal.{KeepRefusal}
 use Rattle.kept_cells.specs.declared.fault.KeepRefusal.TheVariants as keeps
-use Rattle.shard_writer.specs.Writing.{PutsFront, joint_len}
+use Rattle.shard_writer.specs.Writing.{BeginsNext, Drops, PutsFront, joint_len}
 use Rattle.shard_writer.specs.declared.written.Written.{Written}
 use Rattle.update_laws.specs.Judged.{refusal_in}
 use Rattle.update_laws.specs.Judged.Refusal.{BadShard as BadShardOf, TooManyCells as TooManyOf}
@@ -49,6 +49,12 @@ SparesFaulty m now dataset s writes = IfSome now (λ n. (cell : Cell) →
 abbrev pub PutsUpdateFront : Objects → Option Objects → Name → Scale → Writes → Type 0
 PutsUpdateFront m now dataset s writes = PutsFront (update_list m dataset s writes) m now
     × SparesFaulty m now dataset s writes
+
+-- nothing is being written, or what was before, or the next of the objects, behind those that were put in
+abbrev pub DropsOrUpdates : Option Objects → Option Objects → Name → Scale → Writes → Option Draft →
+    Option Draft → Type 0
+DropsOrUpdates old now dataset s writes before after = Drops before after ⊎
+    IfSome old (λ m. BeginsNext (update_list m dataset s writes) m now after)
 
 -- writes were put over what was there: the objects were put in and nothing else was changed, as many as are told; no cell that is stored
 -- had a fault; each value is the last write, else the one before, where its cell had no fault; no cell has a fault that had none; and only

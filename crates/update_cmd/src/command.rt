@@ -1,5 +1,5 @@
 //! The command `update`.
-ghost use Rattle.std.specs.Prelude.{◌≡◌, ◌≢◌, ◌≤◌, ℕ, List, Err, Ok, None, Some, [], false, length, IfErr, IfOk, IfSome, OnOk};
+ghost use Rattle.std.specs.Prelude.{◌≡◌, ◌≢◌, ◌⊎◌, ◌≤◌, ℕ, List, Err, Ok, None, Some, [], false, length, IfErr, IfOk, IfSome, OnOk};
 ghost use Rattle.std.specs.Option.{option_map};
 ghost use Rattle.vol_base.specs.Causes.{HasCauseOf, Rose};
 ghost use Rattle.vol_base.specs.Outside.{HaveBytes, Objects, OnlyReads};
@@ -10,7 +10,7 @@ ghost use Rattle.command_base.specs.Ending.{EndsWell, IsCaused};
 ghost use Rattle.command_base.specs.Outlets.{outlets_of};
 ghost use Rattle.command_base.specs.Scales.{stored_scale};
 ghost use Rattle.command_base.specs.Statuses.{prints, puts};
-ghost use Rattle.update_cmd.specs.Answering.{AnswersAll, AnswersScale, CanBeUpdated, DropsUnsharded, Judges, KeepsFeed, LeavesStore, ReadsWritable, Updated, UpdatedBack};
+ghost use Rattle.update_cmd.specs.Answering.{AnswersAll, AnswersScale, BeginsUpdate, CanBeUpdated, DropsOrPuts, DropsUnsharded, Judges, KeepsFeed, LeavesStore, ReadsWritable, Updated, UpdatedBack};
 ghost use Rattle.update_cmd.specs.Refusals.{not_updated};
 ghost use Rattle.write_cmd.specs.Storing.{TakesStream};
 
@@ -93,6 +93,9 @@ fn update_scale<R: Threads + Wait + Sync, S: Store, F: Feed, G: Gate + Sync>(
     ensures store { IfErr result (λ refusal. LeavesStore refusal (S.objects store.old) (S.objects store.new)
         (S.draft store.old) (S.draft store.new)) }
     ensures draft { OnOk result (Drops (S.draft store.old) (S.draft store.new)) }
+    ensures begun { Drops (S.draft store.old) (S.draft store.new) ⊎ IfSome (S.objects store.old) (λ m.
+        IfSome (F.left feed.old) (λ bytes. BeginsUpdate m (S.objects store.new) (writes_of bytes scale.now)
+        dataset.now scale.now (S.draft store.new))) }
     ensures unsharded { scale.now.sharding ≡ None → Drops (S.draft store.old) (S.draft store.new) }
     ensures cause { HasCauseOf UpdateRefusal.StoreFault (S.faults store.old) (S.faults store.new) result }
     ensures feed_cause { HasCauseOf UpdateRefusal.FeedFault (F.faults feed.old) (F.faults feed.new) result }
@@ -124,6 +127,8 @@ fn update_stored<R: Threads + Wait + Sync, S: Store, F: Feed, G: Gate + Sync>(
     ensures store { IfErr result (λ refusal. LeavesStore refusal (S.objects store.old) (S.objects store.new)
         (S.draft store.old) (S.draft store.new)) }
     ensures draft { OnOk result (Drops (S.draft store.old) (S.draft store.new)) }
+    ensures begun { DropsOrPuts (S.objects store.old) (S.objects store.new) (F.left feed.old) dataset.now
+        key.now (S.draft store.old) (S.draft store.new) }
     ensures unsharded { IfSome (S.objects store.old) (λ m.
         DropsUnsharded (stored_scale m dataset.now key.now) (S.draft store.old) (S.draft store.new)) }
     ensures cause { HasCauseOf UpdateRefusal.StoreFault (S.faults store.old) (S.faults store.new) result }
@@ -167,6 +172,8 @@ where
     ensures unprinted { prints result ≡ false → out.new ≡ out.old }
     ensures draft { result ≡ Status.Ok → Drops (S.draft store.old) (S.draft store.new) }
     ensures draft_unprinted { result ≡ Status.OutFault → Drops (S.draft store.old) (S.draft store.new) }
+    ensures begun { DropsOrPuts (S.objects store.old) (S.objects store.new) (F.left feed.old) dataset.now
+        key.now (S.draft store.old) (S.draft store.new) }
     ensures unsharded { IfSome (S.objects store.old) (λ m.
         DropsUnsharded (stored_scale m dataset.now key.now) (S.draft store.old) (S.draft store.new)) }
     ensures kept { puts result ≡ false → OnlyReads (S.objects store.old) (S.objects store.new)

@@ -6,7 +6,7 @@ ghost use Rattle.vol_base.specs.Outside.{HaveBytes};
 ghost use Rattle.vol_spec.specs.Writable.{IsWritable};
 ghost use Rattle.shard_writer.specs.Writing.{Drops};
 ghost use Rattle.copier.specs.Held.{cells_of};
-ghost use Rattle.update_cmd.specs.Updating.{HasUpdateJobs, IsLate, Updates};
+ghost use Rattle.update_cmd.specs.Updating.{DropsOrUpdates, HasUpdateJobs, IsLate, Updates};
 
 use crate::UpdateFault;
 use command_base::Crew;
@@ -38,6 +38,8 @@ pub(crate) fn put_updates<R: Threads + Wait + Sync, S: Store, G: Gate + Sync>(
         Updates result m (S.objects store.new) dataset.now scale.now updater.old.writes) }
     ensures late { IfErr result IsLate }
     ensures draft { OnOk result (Drops (S.draft store.old) (S.draft store.new)) }
+    ensures begun { DropsOrUpdates (S.objects store.old) (S.objects store.new) dataset.now scale.now
+        updater.old.writes (S.draft store.old) (S.draft store.new) }
     ensures unsharded { scale.now.sharding ≡ None → Drops (S.draft store.old) (S.draft store.new) }
     ensures cause { HasCauseOf UpdateFault.StoreFault (S.faults store.old) (S.faults store.new) result }
 {

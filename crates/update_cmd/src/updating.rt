@@ -9,7 +9,7 @@ ghost use Rattle.shard_writer.specs.Writing.{Drops};
 ghost use Rattle.update_laws.specs.Overlaid.{is_after};
 ghost use Rattle.write_plan.specs.Plans.{pairs};
 ghost use Rattle.write_plan.specs.WriteLists.{IsWriteOf};
-ghost use Rattle.update_cmd.specs.Updating.{IsLate, KeepsStore, Updates, UpdatesPlanned, UpdatesScale, not_planned, refused};
+ghost use Rattle.update_cmd.specs.Updating.{DropsOrUpdates, IsLate, KeepsStore, Updates, UpdatesPlanned, UpdatesScale, not_planned, refused};
 
 use crate::UpdateFault;
 use crate::putting::put_updates;
@@ -45,6 +45,8 @@ fn put_cells<R: Threads + Wait + Sync, S: Store, G: Gate + Sync>(
         Updates result m (S.objects store.new) dataset.now scale.now plan.writes) }
     ensures late { IfErr result IsLate }
     ensures draft { OnOk result (Drops (S.draft store.old) (S.draft store.new)) }
+    ensures begun { DropsOrUpdates (S.objects store.old) (S.objects store.new) dataset.now scale.now
+        plan.writes (S.draft store.old) (S.draft store.new) }
     ensures unsharded { scale.now.sharding ≡ None → Drops (S.draft store.old) (S.draft store.new) }
     ensures cause { HasCauseOf UpdateFault.StoreFault (S.faults store.old) (S.faults store.new) result }
 {
@@ -93,6 +95,8 @@ fn update_planned<R: Threads + Wait + Sync, S: Store, G: Gate + Sync>(
     ensures kept { IfErr result (λ fault. KeepsStore fault (S.objects store.old) (S.objects store.new)
         (S.draft store.old) (S.draft store.new)) }
     ensures draft { OnOk result (Drops (S.draft store.old) (S.draft store.new)) }
+    ensures begun { DropsOrUpdates (S.objects store.old) (S.objects store.new) dataset.now scale.now
+        plan.writes (S.draft store.old) (S.draft store.new) }
     ensures unsharded { scale.now.sharding ≡ None → Drops (S.draft store.old) (S.draft store.new) }
     ensures cause { HasCauseOf UpdateFault.StoreFault (S.faults store.old) (S.faults store.new) result }
 {
@@ -141,6 +145,8 @@ pub fn update<R: Threads + Wait + Sync, S: Store, G: Gate + Sync>(
     ensures kept { IfErr result (λ fault. KeepsStore fault (S.objects store.old) (S.objects store.new)
         (S.draft store.old) (S.draft store.new)) }
     ensures draft { OnOk result (Drops (S.draft store.old) (S.draft store.new)) }
+    ensures begun { DropsOrUpdates (S.objects store.old) (S.objects store.new) dataset.now scale.now
+        writes (S.draft store.old) (S.draft store.new) }
     ensures unsharded { scale.now.sharding ≡ None → Drops (S.draft store.old) (S.draft store.new) }
     ensures cause { HasCauseOf UpdateFault.StoreFault (S.faults store.old) (S.faults store.new) result }
 {

@@ -81,14 +81,14 @@ memory_keeps (Some (Cutout dataset key part)) uncalled before err count same =
     (reads before err count, refl, refl, asks_none before.objects (λ m. 2 ^ 20 + 1 + cells_cost (stored_scale m dataset key) m dataset part) before.asked, λ is. cc is, λ is. cc is)
 memory_keeps (Some (Write dataset key workers)) uncalled before err count same = (inr refl, λ no. reads before err count, λ done. absurd (cc done), λ refused. refl, takes_none before.left, refl, λ no. same)
 memory_keeps (Some (Update dataset key workers)) uncalled before err count same =
-    (λ done. absurd (cc done), λ out. absurd (cc out), drops_unread before.objects dataset key before.draft before.draft refl, λ no. reads before err count, λ done. absurd (cc done), λ refused. refl, takes_none before.left, refl, λ no. same)
+    (λ done. absurd (cc done), λ out. absurd (cc out), drops_unread before.objects dataset key before.draft before.draft refl, inl (inr refl), λ no. reads before err count, λ done. absurd (cc done), λ refused. refl, takes_none before.left, refl, λ no. same)
 memory_keeps (Some (Generate dataset key number writes workers)) uncalled before err count same = (inr refl, λ no. reads before err count, refl, refl, λ no. same)
 memory_keeps (Some (Verify dataset key part)) uncalled before err count same =
     (reads before err count, refl, refl, asks_none before.objects (λ m. 2 ^ 20 + 1 + judgement_cost (stored_scale m dataset key) m dataset part) before.asked, λ is. cc is, λ no. same)
 memory_keeps (Some (Reshard dataset key to_dataset to_key workers)) uncalled before err count same =
-    (λ done. absurd (cc done), λ out. absurd (cc out), in_told before.objects _ (λ m told. draft_kept (stored_scale m to_dataset to_key) before.draft before.draft refl), λ no. reads before err count, refl, refl, λ no. same)
+    (λ done. absurd (cc done), λ out. absurd (cc out), in_told before.objects _ (λ m told. draft_kept (stored_scale m to_dataset to_key) before.draft before.draft refl), inl (inr refl), λ no. reads before err count, refl, refl, λ no. same)
 memory_keeps (Some (Downsample dataset key to_key method workers)) uncalled before err count same =
-    (λ done. absurd (cc done), λ out. absurd (cc out), in_told before.objects _ (λ m told. draft_kept (stored_scale m dataset to_key) before.draft before.draft refl), λ no. reads before err count, refl, refl, λ no. same)
+    (λ done. absurd (cc done), λ out. absurd (cc out), in_told before.objects _ (λ m told. draft_kept (stored_scale m dataset to_key) before.draft before.draft refl), inl (inr refl), λ no. reads before err count, refl, refl, λ no. same)
 memory_keeps (Some (Serve dataset port connections)) uncalled before err count same = (reads before err count, refl, (0, omega arith, omega arith), in_told before.out _ (λ bytes gained is. refl), λ none. same)
 
 caused : (before : Faults) (count : ℕ) → before.err ≤ count → AreCaused NoMemory before (record before { err = count })

@@ -15,12 +15,12 @@ use Rattle.command_base.specs.declared.status.Status.{Status}
 use Rattle.command_base.specs.declared.status.Status.TheVariants.{Ok, Usage, InfoRefused, StoreFault, FeedFault, OutFault, NoMemory, DoorFault}
 use Rattle.cutout_cmd.specs.Cutouts.{AsksFor, CanCut, CutsOut}
 use Rattle.write_cmd.specs.Storing.{CanWrite, TakesStream, WrittenBack, Wrote}
-use Rattle.update_cmd.specs.Answering.{CanBeUpdated, Updated, UpdatedBack}
+use Rattle.update_cmd.specs.Answering.{CanBeUpdated, DropsOrPuts, Updated, UpdatedBack}
 use Rattle.update_cmd.specs.Answering as update
 use Rattle.generate_cmd.specs.Generating.{CanGenerate, drawn, Generated}
 use Rattle.verify_cmd.specs.Verified.{AsksTwice, CanVerify, Verified}
-use Rattle.reshard_cmd.specs.Copying.{CanReshard, CopiedBack, DropsUnsharded, Resharded}
-use Rattle.downsample_cmd.specs.Answering.{CanDownsample, Downsampled, ReducedBack}
+use Rattle.reshard_cmd.specs.Copying.{CanReshard, CopiedBack, DropsOrReshards, DropsUnsharded, Resharded}
+use Rattle.downsample_cmd.specs.Answering.{CanDownsample, Downsampled, DropsOrDownsamples, ReducedBack}
 use Rattle.serve_cmd.specs.Servings.{AcceptsEnds, NotesEnds, ServeLeaves, ServeShows, TellsFirst}
 use Rattle.vol_tool.specs.Seen.{Faults, IsLater, LeavesStore, outlets, Seen}
 
@@ -132,11 +132,12 @@ Keeps (Some (Write dataset key workers)) status uncalled before after =
     × (status ≡ Ok → after.left ≡ option_map (λ _. []) before.left) ×
     (status ≡ InfoRefused → after.left ≡ before.left) × TakesStream before.left after.left
     × (after.door ≡ before.door) × (prints status ≡ false → uncalled)
--- no object stays half written that was begun in the call, where all of an update was put, or where the scale isn't sharded; what is left of the
--- feed as for a write
+-- no object stays half written that was begun in the call, where all of an update was put, or where the scale isn't sharded; else only
+-- the next of its objects, behind those that were put; what is left of the feed as for a write
 Keeps (Some (Update dataset key workers)) status uncalled before after =
     (status ≡ Ok → Drops before.draft after.draft) × (status ≡ OutFault → Drops before.draft after.draft)
     × IfSome before.objects (λ m. update.DropsUnsharded (stored_scale m dataset key) before.draft after.draft)
+    × DropsOrPuts before.objects after.objects before.left dataset key before.draft after.draft
     × (puts status ≡ false → LeavesStore before after)
     × (status ≡ Ok → after.left ≡ option_map (λ _. []) before.left) ×
     (status ≡ InfoRefused → after.left ≡ before.left) × TakesStream before.left after.left
@@ -150,17 +151,19 @@ Keeps (Some (Verify dataset key part)) status uncalled before after =
     LeavesStore before after × (after.left ≡ before.left) × (after.door ≡ before.door)
     × IfSome before.objects (λ m. AsksTwice m dataset key part before.asked after.asked)
     × AsksForInfo status before after × (prints status ≡ false → uncalled)
--- no object stays half written that was begun in the call, where all of a copy was put, or where the target isn't sharded; and what is left
--- of the feed is as before
+-- no object stays half written that was begun in the call, where all of a copy was put, or where the target isn't sharded; else only
+-- the next of its objects, behind those that were put; and what is left of the feed is as before
 Keeps (Some (Reshard dataset key to_dataset to_key workers)) status uncalled before after =
     (status ≡ Ok → Drops before.draft after.draft) × (status ≡ OutFault → Drops before.draft after.draft)
     × IfSome before.objects (λ m. DropsUnsharded (stored_scale m to_dataset to_key) before.draft after.draft)
+    × DropsOrReshards before.objects after.objects dataset key to_dataset to_key before.draft after.draft
     × (puts status ≡ false → LeavesStore before after) × (after.left ≡ before.left) ×
     (after.door ≡ before.door) × (prints status ≡ false → uncalled)
 -- the same of a reduction
 Keeps (Some (Downsample dataset key to_key method workers)) status uncalled before after =
     (status ≡ Ok → Drops before.draft after.draft) × (status ≡ OutFault → Drops before.draft after.draft)
     × IfSome before.objects (λ m. DropsUnsharded (stored_scale m dataset to_key) before.draft after.draft)
+    × DropsOrDownsamples method before.objects after.objects dataset key to_key before.draft after.draft
     × (puts status ≡ false → LeavesStore before after) × (after.left ≡ before.left) ×
     (after.door ≡ before.door) × (prints status ≡ false → uncalled)
 -- no more ends are taken from the door than were asked for, and none before the port is told, which is told only where one is bound

@@ -1,6 +1,9 @@
 use Rattle.std.proofs.Common.{◌≡◌, Err, rules}
+use Rattle.reshard_cmd.proofs.BegunSteps.{target_begun}
 use Rattle.reshard_cmd.proofs.ReshardSteps.{target_drops, target_kept}
 use Rattle.downsample_cmd.proofs.DownsampleSteps.{target_reduced, untargeted}
+use Rattle.downsample_cmd.specs.Downsampling.{reduced_list}
+use Rattle.shard_writer.specs.Writing.{BeginsNext}
 use Rattle.downsample_cmd.proofs.command.reduce_into.Goals as goal
 
 pub returns-clause-reduces : goal.returns-clause-reduces
@@ -22,3 +25,10 @@ returns-clause-unsharded g c =
 pub returns-in_err-to-clause-unsharded : goal.returns-in_err-to-clause-unsharded
 returns-in_err-to-clause-unsharded g c =
     target_kept (g.S.Source.objects c.args.store.now) c.args.dataset.now c.args.to_key.now (g.S.Source.draft c.args.store.now) (g.S.Source.draft c.read_target.new.store) c.read_target.ensures.kept.same_draft
+
+pub returns-clause-begun : goal.returns-clause-begun
+returns-clause-begun g c =
+    target_begun (λ m from to. BeginsNext (reduced_list c.args.method m c.args.dataset.now from to) m (g.S.Source.objects c.reduce_scale.new.store) (g.S.Source.draft c.reduce_scale.new.store))
+    (g.S.Source.objects c.args.store.now) (g.S.Source.objects c.read_target.new.store) c.args.dataset.now c.args.to_key.now c.args.from.now c.in_ok-to.to
+    (g.S.Source.draft c.args.store.now) (g.S.Source.draft c.read_target.new.store) (g.S.Source.draft c.reduce_scale.new.store)
+    c.read_target.ensures.kept.same_objects c.read_target.ensures.kept.same_draft c.in_ok-to.ensures.read c.reduce_scale.ensures.begun

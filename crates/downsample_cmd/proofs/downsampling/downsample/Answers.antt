@@ -2,8 +2,11 @@ use Rattle.std.proofs.Common.{◌≡◌, false}
 use Rattle.vol_base.specs.Outside.{HaveBytes, any_under}
 use Rattle.vol_spec.specs.CellNames.{folder_of}
 use Rattle.reshard_cmd.proofs.AnswerSteps.{copy_kept, few_cells, folder_kept, scales_kept}
+use Rattle.reshard_cmd.proofs.BegunSteps.{begun_read}
 use Rattle.reshard_cmd.proofs.CopyingSteps.{told_in}
 use Rattle.downsample_cmd.proofs.AnswerSteps.{folder_judged, folder_told, reduced_judged, reduced_told, scales_judged, scales_told}
+use Rattle.downsample_cmd.specs.Downsampling.{reduced_list}
+use Rattle.shard_writer.specs.Writing.{BeginsNext}
 use Rattle.downsample_cmd.proofs.downsampling.downsample.Goals as goal
 
 pub returns-in-Err-clause-judges : goal.returns-in-Err-clause-judges
@@ -51,3 +54,9 @@ returns-clause-downsamples g c =
 pub returns-clause-kept : goal.returns-clause-kept
 returns-clause-kept g c =
     copy_kept c.write_reduced.result (g.S.Source.objects c.args.store.now) (g.S.Source.objects c.write_reduced.new.store) (g.S.Source.draft c.args.store.now) (g.S.Source.draft c.write_reduced.new.store) c.write_reduced.ensures.late
+
+pub returns-clause-begun : goal.returns-clause-begun
+returns-clause-begun g c =
+    begun_read (λ m. BeginsNext (reduced_list c.args.method m c.args.dataset.now c.args.from.now c.args.to.now) m (g.S.Source.objects c.write_reduced.new.store) (g.S.Source.draft c.write_reduced.new.store))
+    (g.S.Source.objects c.args.store.now) (g.S.Source.objects c.judge_folder.new.store) (g.S.Source.draft c.args.store.now) (g.S.Source.draft c.judge_folder.new.store) (g.S.Source.draft c.write_reduced.new.store)
+    c.judge_folder.ensures.kept.same_objects c.judge_folder.ensures.kept.same_draft c.write_reduced.ensures.begun

@@ -1,3 +1,4 @@
+use Rattle.downsample_cmd.proofs.BegunSteps.{reduced_begun}
 use Rattle.downsample_cmd.proofs.ReducingSteps.{apart_in, reduced_damaged, reduced_front, reduced_ok}
 use Rattle.downsample_cmd.proofs.downsampling.put_reduced.Goals as goal
 
@@ -25,3 +26,23 @@ returns-in-Err-Damaged-clause-reduces g c =
 
 pub returns-in-Ok-clause-cause : goal.returns-in-Ok-clause-cause
 returns-in-Ok-clause-cause g c = record { later = c.write_scale.ensures.cause.later; failed = λ told. absurd (cc told); stands = c.in-Ok.ensures.cause.stands }
+
+pub returns-in-Ok-clause-begun : goal.returns-in-Ok-clause-begun
+returns-in-Ok-clause-begun g c =
+    reduced_begun (g.S.Source.objects c.args.store.now) (g.S.Source.objects c.write_scale.new.store) c.args.reducer.now c.args.dataset.now c.args.scale.now (g.S.Source.draft c.args.store.now)
+    (g.S.Source.draft c.write_scale.new.store) c.requires.own c.requires.scale c.requires.reduced c.requires.next c.write_scale.ensures.begun
+
+pub returns-in-Err-StoreFault-clause-begun : goal.returns-in-Err-StoreFault-clause-begun
+returns-in-Err-StoreFault-clause-begun g c =
+    reduced_begun (g.S.Source.objects c.args.store.now) (g.S.Source.objects c.write_scale.new.store) c.args.reducer.now c.args.dataset.now c.args.scale.now (g.S.Source.draft c.args.store.now)
+    (g.S.Source.draft c.write_scale.new.store) c.requires.own c.requires.scale c.requires.reduced c.requires.next c.write_scale.ensures.begun
+
+pub returns-in-Err-Damaged-clause-begun : goal.returns-in-Err-Damaged-clause-begun
+returns-in-Err-Damaged-clause-begun g c =
+    reduced_begun (g.S.Source.objects c.args.store.now) (g.S.Source.objects c.write_scale.new.store) c.args.reducer.now c.args.dataset.now c.args.scale.now (g.S.Source.draft c.args.store.now)
+    (g.S.Source.draft c.write_scale.new.store) c.requires.own c.requires.scale c.requires.reduced c.requires.next c.write_scale.ensures.begun
+
+pub returns-in-Err-OutOfMemory-clause-begun : goal.returns-in-Err-OutOfMemory-clause-begun
+returns-in-Err-OutOfMemory-clause-begun g c =
+    reduced_begun (g.S.Source.objects c.args.store.now) (g.S.Source.objects c.write_scale.new.store) c.args.reducer.now c.args.dataset.now c.args.scale.now (g.S.Source.draft c.args.store.now)
+    (g.S.Source.draft c.write_scale.new.store) c.requires.own c.requires.scale c.requires.reduced c.requires.next c.write_scale.ensures.begun

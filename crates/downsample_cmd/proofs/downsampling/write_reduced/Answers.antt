@@ -3,6 +3,7 @@ use Rattle.vol_base.specs.Outside.{HaveBytes, any_under}
 use Rattle.vol_spec.specs.CellNames.{folder_of}
 use Rattle.reduce_laws.specs.Reduced.{IsNext}
 use Rattle.shard_writer.specs.Writing.{Drops}
+use Rattle.downsample_cmd.proofs.BegunSteps.{begun_in}
 use Rattle.downsample_cmd.proofs.ReducingSteps.{front_none, jobs_in, reduces_in}
 use Rattle.reshard_cmd.proofs.CopyingSteps.{told_in}
 use Rattle.downsample_cmd.proofs.downsampling.write_reduced.Goals as goal
@@ -45,3 +46,8 @@ returns-in-Ok-clause-cause g c = record {
   failed = λ failed. omega (arith, c.put_reduced.ensures.cause.failed failed, c.of.ensures.cause.later);
   stands = subst (λ n. OnOk c.put_reduced.result (g.S.Source.faults c.put_reduced.new.store ≡ n)) c.in-Ok.ensures.cause.stands c.put_reduced.ensures.cause.stands;
 }
+
+pub returns-in-Ok-clause-begun : goal.returns-in-Ok-clause-begun
+returns-in-Ok-clause-begun g c =
+    begun_in (g.S.Source.objects c.args.store.now) (g.S.Source.objects c.of.new.store) (g.S.Source.objects c.put_reduced.new.store) c.in-Ok.reducer c.args.method c.args.dataset.now c.args.from.now c.args.to.now
+    (g.S.Source.draft c.args.store.now) (g.S.Source.draft c.of.new.store) (g.S.Source.draft c.put_reduced.new.store) c.of.ensures.kept.same_objects c.of.ensures.kept.same_draft c.in-Ok.ensures.method c.in-Ok.ensures.from c.put_reduced.ensures.begun

@@ -1,5 +1,8 @@
 use Rattle.std.proofs.Common.{◌≡◌, Err, rules}
+use Rattle.reshard_cmd.proofs.BegunSteps.{target_begun}
 use Rattle.reshard_cmd.proofs.ReshardSteps.{target_copied, target_drops, target_kept, untargeted}
+use Rattle.reshard_cmd.specs.Resharding.{copy_list}
+use Rattle.shard_writer.specs.Writing.{BeginsNext}
 use Rattle.reshard_cmd.proofs.command.copy_into.Goals as goal
 
 pub returns-clause-copies : goal.returns-clause-copies
@@ -21,3 +24,10 @@ returns-clause-unsharded g c =
 pub returns-in_err-to-clause-unsharded : goal.returns-in_err-to-clause-unsharded
 returns-in_err-to-clause-unsharded g c =
     target_kept (g.S.Source.objects c.args.store.now) c.args.to_dataset.now c.args.to_key.now (g.S.Source.draft c.args.store.now) (g.S.Source.draft c.read_target.new.store) c.read_target.ensures.kept.same_draft
+
+pub returns-clause-begun : goal.returns-clause-begun
+returns-clause-begun g c =
+    target_begun (λ m from to. BeginsNext (copy_list m c.args.from_dataset.now from c.args.to_dataset.now to) m (g.S.Source.objects c.copy_scale.new.store) (g.S.Source.draft c.copy_scale.new.store))
+    (g.S.Source.objects c.args.store.now) (g.S.Source.objects c.read_target.new.store) c.args.to_dataset.now c.args.to_key.now c.args.from.now c.in_ok-to.to
+    (g.S.Source.draft c.args.store.now) (g.S.Source.draft c.read_target.new.store) (g.S.Source.draft c.copy_scale.new.store)
+    c.read_target.ensures.kept.same_objects c.read_target.ensures.kept.same_draft c.in_ok-to.ensures.read c.copy_scale.ensures.begun

@@ -1,6 +1,9 @@
 use Rattle.command_base.proofs.Choices.{err_is}
 use Rattle.reshard_cmd.specs.Refusals.{reshard_without}
+use Rattle.reshard_cmd.proofs.BegunSteps.{source_begun}
 use Rattle.reshard_cmd.proofs.ReshardSteps.{source_copied, source_drops, target_kept, unsourced}
+use Rattle.reshard_cmd.specs.Resharding.{copy_list}
+use Rattle.shard_writer.specs.Writing.{BeginsNext}
 use Rattle.reshard_cmd.proofs.command.copy_stored.Goals as goal
 
 pub returns-clause-copies : goal.returns-clause-copies
@@ -22,3 +25,10 @@ returns-clause-unsharded g c =
 pub returns-in_err-from-clause-unsharded : goal.returns-in_err-from-clause-unsharded
 returns-in_err-from-clause-unsharded g c =
     target_kept (g.S.Source.objects c.args.store.now) c.args.to_dataset.now c.args.to_key.now (g.S.Source.draft c.args.store.now) (g.S.Source.draft c.read_scale.new.store) c.read_scale.ensures.kept.same_draft
+
+pub returns-clause-begun : goal.returns-clause-begun
+returns-clause-begun g c =
+    source_begun (λ m from to. BeginsNext (copy_list m c.args.from_dataset.now from c.args.to_dataset.now to) m (g.S.Source.objects c.copy_into.new.store) (g.S.Source.draft c.copy_into.new.store))
+    (g.S.Source.objects c.args.store.now) (g.S.Source.objects c.read_scale.new.store) c.args.from_dataset.now c.args.from_key.now c.args.to_dataset.now c.args.to_key.now c.in_ok-from.from
+    (g.S.Source.draft c.args.store.now) (g.S.Source.draft c.read_scale.new.store) (g.S.Source.draft c.copy_into.new.store)
+    c.read_scale.ensures.kept.same_objects c.read_scale.ensures.kept.same_draft c.in_ok-from.ensures.read c.copy_into.ensures.begun

@@ -1,3 +1,4 @@
+use Rattle.reshard_cmd.proofs.BegunSteps.{copied_begun}
 use Rattle.reshard_cmd.proofs.CopyingSteps.{apart_in, copied_damaged, copied_front, copied_ok}
 use Rattle.reshard_cmd.proofs.copying.put_copy.Goals as goal
 
@@ -25,3 +26,23 @@ returns-in-Err-Damaged-clause-copies g c =
 
 pub returns-in-Ok-clause-cause : goal.returns-in-Ok-clause-cause
 returns-in-Ok-clause-cause g c = record { later = c.write_scale.ensures.cause.later; failed = λ told. absurd (cc told); stands = c.in-Ok.ensures.cause.stands }
+
+pub returns-in-Ok-clause-begun : goal.returns-in-Ok-clause-begun
+returns-in-Ok-clause-begun g c =
+    copied_begun (g.S.Source.objects c.args.store.now) (g.S.Source.objects c.write_scale.new.store) c.args.copier.now c.args.dataset.now c.args.scale.now (g.S.Source.draft c.args.store.now)
+    (g.S.Source.draft c.write_scale.new.store) c.requires.scale c.requires.copied c.write_scale.ensures.begun
+
+pub returns-in-Err-StoreFault-clause-begun : goal.returns-in-Err-StoreFault-clause-begun
+returns-in-Err-StoreFault-clause-begun g c =
+    copied_begun (g.S.Source.objects c.args.store.now) (g.S.Source.objects c.write_scale.new.store) c.args.copier.now c.args.dataset.now c.args.scale.now (g.S.Source.draft c.args.store.now)
+    (g.S.Source.draft c.write_scale.new.store) c.requires.scale c.requires.copied c.write_scale.ensures.begun
+
+pub returns-in-Err-Damaged-clause-begun : goal.returns-in-Err-Damaged-clause-begun
+returns-in-Err-Damaged-clause-begun g c =
+    copied_begun (g.S.Source.objects c.args.store.now) (g.S.Source.objects c.write_scale.new.store) c.args.copier.now c.args.dataset.now c.args.scale.now (g.S.Source.draft c.args.store.now)
+    (g.S.Source.draft c.write_scale.new.store) c.requires.scale c.requires.copied c.write_scale.ensures.begun
+
+pub returns-in-Err-OutOfMemory-clause-begun : goal.returns-in-Err-OutOfMemory-clause-begun
+returns-in-Err-OutOfMemory-clause-begun g c =
+    copied_begun (g.S.Source.objects c.args.store.now) (g.S.Source.objects c.write_scale.new.store) c.args.copier.now c.args.dataset.now c.args.scale.now (g.S.Source.draft c.args.store.now)
+    (g.S.Source.draft c.write_scale.new.store) c.requires.scale c.requires.copied c.write_scale.ensures.begun

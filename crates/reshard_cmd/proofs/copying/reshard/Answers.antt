@@ -2,7 +2,10 @@ use Rattle.std.proofs.Common.{◌≡◌, false}
 use Rattle.vol_base.specs.Outside.{HaveBytes, any_under}
 use Rattle.vol_spec.specs.CellNames.{folder_of}
 use Rattle.reshard_cmd.proofs.AnswerSteps.{copy_judged, copy_kept, copy_told, few_cells, folder_judged, folder_kept, folder_told, scales_judged, scales_kept, scales_told}
+use Rattle.reshard_cmd.proofs.BegunSteps.{begun_read}
 use Rattle.reshard_cmd.proofs.CopyingSteps.{told_in}
+use Rattle.reshard_cmd.specs.Resharding.{copy_list}
+use Rattle.shard_writer.specs.Writing.{BeginsNext}
 use Rattle.reshard_cmd.proofs.copying.reshard.Goals as goal
 
 pub returns-in-Err-clause-judges : goal.returns-in-Err-clause-judges
@@ -50,3 +53,9 @@ returns-clause-reshards g c =
 pub returns-clause-kept : goal.returns-clause-kept
 returns-clause-kept g c =
     copy_kept c.write_copy.result (g.S.Source.objects c.args.store.now) (g.S.Source.objects c.write_copy.new.store) (g.S.Source.draft c.args.store.now) (g.S.Source.draft c.write_copy.new.store) c.write_copy.ensures.late
+
+pub returns-clause-begun : goal.returns-clause-begun
+returns-clause-begun g c =
+    begun_read (λ m. BeginsNext (copy_list m c.args.from_dataset.now c.args.from.now c.args.to_dataset.now c.args.to.now) m (g.S.Source.objects c.write_copy.new.store) (g.S.Source.draft c.write_copy.new.store))
+    (g.S.Source.objects c.args.store.now) (g.S.Source.objects c.judge_folder.new.store) (g.S.Source.draft c.args.store.now) (g.S.Source.draft c.judge_folder.new.store) (g.S.Source.draft c.write_copy.new.store)
+    c.judge_folder.ensures.kept.same_objects c.judge_folder.ensures.kept.same_draft c.write_copy.ensures.begun

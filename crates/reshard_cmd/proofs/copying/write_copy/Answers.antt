@@ -3,6 +3,7 @@ use Rattle.vol_base.specs.Outside.{HaveBytes, any_under}
 use Rattle.vol_spec.specs.CellNames.{folder_of}
 use Rattle.vol_spec.specs.Copies.{AreOfOneVolume}
 use Rattle.shard_writer.specs.Writing.{Drops}
+use Rattle.reshard_cmd.proofs.BegunSteps.{begun_in}
 use Rattle.reshard_cmd.proofs.CopyingSteps.{copies_in, front_none, jobs_in, told_in}
 use Rattle.reshard_cmd.proofs.copying.write_copy.Goals as goal
 
@@ -44,3 +45,8 @@ returns-in-Ok-clause-cause g c = record {
   failed = λ failed. omega (arith, c.put_copy.ensures.cause.failed failed, c.of.ensures.cause.later);
   stands = subst (λ n. OnOk c.put_copy.result (g.S.Source.faults c.put_copy.new.store ≡ n)) c.in-Ok.ensures.cause.stands c.put_copy.ensures.cause.stands;
 }
+
+pub returns-in-Ok-clause-begun : goal.returns-in-Ok-clause-begun
+returns-in-Ok-clause-begun g c =
+    begun_in (g.S.Source.objects c.args.store.now) (g.S.Source.objects c.of.new.store) (g.S.Source.objects c.put_copy.new.store) c.in-Ok.copier c.args.from_dataset.now c.args.from.now c.args.to_dataset.now c.args.to.now
+    (g.S.Source.draft c.args.store.now) (g.S.Source.draft c.of.new.store) (g.S.Source.draft c.put_copy.new.store) c.of.ensures.kept.same_objects c.of.ensures.kept.same_draft c.in-Ok.ensures.dataset c.in-Ok.ensures.from c.put_copy.ensures.begun

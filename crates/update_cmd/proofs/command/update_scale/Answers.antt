@@ -1,5 +1,6 @@
 use Rattle.command_base.proofs.Choices.{err_is}
 use Rattle.update_cmd.specs.Refusals.{unstreamed}
+use Rattle.update_cmd.proofs.BegunSteps.{begun_fed}
 use Rattle.update_cmd.proofs.AnswerSteps.{made_told, refused_feed, refused_judges, refused_leaves, refused_told, unstreamed_judges, unstreamed_told}
 use Rattle.write_cmd.proofs.WriteSteps.{takes_read}
 use Rattle.update_cmd.proofs.command.update_scale.Goals as goal
@@ -41,3 +42,13 @@ returns-in-Ok-clause-took g c = takes_read (g.F.Feed.left c.args.feed.now) (g.F.
 
 pub returns-in-Err-clause-took : goal.returns-in-Err-clause-took
 returns-in-Err-clause-took g c = takes_read (g.F.Feed.left c.args.feed.now) (g.F.Feed.left c.read_writes.new.feed) c.read_writes.ensures.took
+
+pub returns-in-Ok-clause-begun : goal.returns-in-Ok-clause-begun
+returns-in-Ok-clause-begun g c =
+    begun_fed (g.S.Source.objects c.args.store.now) (g.S.Source.objects c.update.new.store) (g.F.Feed.left c.args.feed.now) c.args.dataset.now c.args.scale.now c.in_ok-writes.writes (g.S.Source.draft c.args.store.now)
+    (g.S.Source.draft c.update.new.store) c.in_ok-writes.ensures.exact c.update.ensures.begun
+
+pub returns-in-Err-clause-begun : goal.returns-in-Err-clause-begun
+returns-in-Err-clause-begun g c =
+    begun_fed (g.S.Source.objects c.args.store.now) (g.S.Source.objects c.update.new.store) (g.F.Feed.left c.args.feed.now) c.args.dataset.now c.args.scale.now c.in_ok-writes.writes (g.S.Source.draft c.args.store.now)
+    (g.S.Source.draft c.update.new.store) c.in_ok-writes.ensures.exact c.update.ensures.begun

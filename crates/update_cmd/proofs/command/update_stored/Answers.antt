@@ -1,5 +1,6 @@
 use Rattle.vol_base.specs.Outside.{HaveBytes}
 use Rattle.update_cmd.proofs.AnswerSteps.{drops_read, drops_unread, key_judges, key_told, leaves_read, unread_feed, unread_judges, unread_leaves, unread_told}
+use Rattle.update_cmd.proofs.BegunSteps.{begun_stored}
 use Rattle.update_cmd.proofs.UpdateSteps.{told_in}
 use Rattle.write_cmd.proofs.WriteSteps.{takes_none}
 use Rattle.update_cmd.proofs.command.update_stored.Goals as goal
@@ -45,3 +46,9 @@ returns-in-Err-clause-unsharded g c =
 
 pub returns-in-Err-clause-took : goal.returns-in-Err-clause-took
 returns-in-Err-clause-took g c = takes_none (g.F.Feed.left c.args.feed.now)
+
+pub returns-in-Ok-clause-begun : goal.returns-in-Ok-clause-begun
+returns-in-Ok-clause-begun g c =
+    begun_stored (g.S.Source.objects c.args.store.now) (g.S.Source.objects c.read_writable.new.store) (g.S.Source.objects c.update_scale.new.store) (g.F.Feed.left c.args.feed.now) c.args.dataset.now c.args.key.now c.in-Ok.scale
+    (g.S.Source.draft c.args.store.now) (g.S.Source.draft c.read_writable.new.store) (g.S.Source.draft c.update_scale.new.store)
+    c.read_writable.ensures.kept.same_objects c.read_writable.ensures.kept.same_draft c.in-Ok.ensures.read c.update_scale.ensures.begun

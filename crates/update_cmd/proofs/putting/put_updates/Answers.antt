@@ -1,3 +1,4 @@
+use Rattle.update_cmd.proofs.BegunSteps.{updated_begun}
 use Rattle.update_cmd.proofs.UpdatingSteps.{apart_in, updated_damaged, updated_front, updated_ok}
 use Rattle.update_cmd.proofs.putting.put_updates.Goals as goal
 
@@ -27,3 +28,23 @@ returns-in-Err-Damaged-clause-updates g c =
 
 pub returns-in-Ok-clause-cause : goal.returns-in-Ok-clause-cause
 returns-in-Ok-clause-cause g c = record { later = c.write_scale.ensures.cause.later; failed = λ told. absurd (cc told); stands = c.in-Ok.ensures.cause.stands }
+
+pub returns-in-Ok-clause-begun : goal.returns-in-Ok-clause-begun
+returns-in-Ok-clause-begun g c =
+    updated_begun (g.S.Source.objects c.args.store.now) (g.S.Source.objects c.write_scale.new.store) c.args.updater.now c.args.dataset.now c.args.scale.now (g.S.Source.draft c.args.store.now)
+    (g.S.Source.draft c.write_scale.new.store) (record { own = c.requires.own; from = c.requires.from; to = c.requires.to }) c.requires.jobs c.write_scale.ensures.begun
+
+pub returns-in-Err-StoreFault-clause-begun : goal.returns-in-Err-StoreFault-clause-begun
+returns-in-Err-StoreFault-clause-begun g c =
+    updated_begun (g.S.Source.objects c.args.store.now) (g.S.Source.objects c.write_scale.new.store) c.args.updater.now c.args.dataset.now c.args.scale.now (g.S.Source.draft c.args.store.now)
+    (g.S.Source.draft c.write_scale.new.store) (record { own = c.requires.own; from = c.requires.from; to = c.requires.to }) c.requires.jobs c.write_scale.ensures.begun
+
+pub returns-in-Err-Damaged-clause-begun : goal.returns-in-Err-Damaged-clause-begun
+returns-in-Err-Damaged-clause-begun g c =
+    updated_begun (g.S.Source.objects c.args.store.now) (g.S.Source.objects c.write_scale.new.store) c.args.updater.now c.args.dataset.now c.args.scale.now (g.S.Source.draft c.args.store.now)
+    (g.S.Source.draft c.write_scale.new.store) (record { own = c.requires.own; from = c.requires.from; to = c.requires.to }) c.requires.jobs c.write_scale.ensures.begun
+
+pub returns-in-Err-OutOfMemory-clause-begun : goal.returns-in-Err-OutOfMemory-clause-begun
+returns-in-Err-OutOfMemory-clause-begun g c =
+    updated_begun (g.S.Source.objects c.args.store.now) (g.S.Source.objects c.write_scale.new.store) c.args.updater.now c.args.dataset.now c.args.scale.now (g.S.Source.draft c.args.store.now)
+    (g.S.Source.draft c.write_scale.new.store) (record { own = c.requires.own; from = c.requires.from; to = c.requires.to }) c.requires.jobs c.write_scale.ensures.begun

@@ -1,6 +1,7 @@
 use Rattle.std.proofs.Common.{subst, sym}
 use Rattle.std.specs.Prelude.{All}
 use Rattle.vol_base.specs.Bytes.{AreBytes}
+use Rattle.update_cmd.proofs.BegunSteps.{begun_as}
 use Rattle.update_cmd.proofs.UpdateSteps.{jobs_few, jobs_told, none_put, updates_as}
 use Rattle.update_cmd.proofs.updating.put_cells.Goals as goal
 
@@ -26,3 +27,8 @@ returns-in-Ok-clause-updates g c =
 
 pub returns-in-Err-clause-updates : goal.returns-in-Err-clause-updates
 returns-in-Err-clause-updates g c = none_put c.args.dataset.now c.args.scale.now c.args.plan.writes (g.S.Source.objects c.args.store.now)
+
+pub returns-in-Ok-clause-begun : goal.returns-in-Ok-clause-begun
+returns-in-Ok-clause-begun g c =
+    begun_as (g.S.Source.objects c.args.store.now) (g.S.Source.objects c.put_updates.new.store) c.args.dataset.now c.args.scale.now _ c.args.plan.writes (g.S.Source.draft c.args.store.now) (g.S.Source.draft c.put_updates.new.store)
+    c.in-Ok.ensures.writes c.put_updates.ensures.begun

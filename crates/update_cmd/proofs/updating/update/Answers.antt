@@ -3,6 +3,7 @@ use Rattle.std.specs.Prelude.{All}
 use Rattle.vol_base.specs.Bytes.{AreBytes}
 use Rattle.write_cmd.proofs.PlanSteps.{few_pairs}
 use Rattle.write_plan.specs.Plans.{Planned, pairs}
+use Rattle.update_cmd.proofs.BegunSteps.{begun_as}
 use Rattle.update_cmd.proofs.UpdateSteps.{scale_told, unplanned_kept, unplanned_told}
 use Rattle.update_cmd.proofs.updating.update.Goals as goal
 
@@ -24,3 +25,8 @@ returns-in-Err-clause-updates g c = unplanned_told c.args.dataset.now c.args.sca
 
 pub returns-in-Err-clause-kept : goal.returns-in-Err-clause-kept
 returns-in-Err-clause-kept g c = unplanned_kept c.in-Err.refusal c.refuse_plan.result (g.S.Source.objects c.args.store.now) (g.S.Source.draft c.args.store.now) c.refuse_plan.ensures
+
+pub returns-in-Ok-clause-begun : goal.returns-in-Ok-clause-begun
+returns-in-Ok-clause-begun g c =
+    begun_as (g.S.Source.objects c.args.store.now) (g.S.Source.objects c.update_planned.new.store) c.args.dataset.now c.args.scale.now c.in-Ok.plan.writes c.args.writes (g.S.Source.draft c.args.store.now)
+    (g.S.Source.draft c.update_planned.new.store) (ap (λ (p : Planned). p.writes) c.in-Ok.ensures.plan) c.update_planned.ensures.begun

@@ -1,10 +1,12 @@
 use Rattle.std.proofs.Common.{◌≡◌, OnOk, arith, subst}
 use Rattle.vol_base.specs.Outside.{HaveBytes}
-use Rattle.shard_writer.specs.Writing.{Drops}
+use Rattle.shard_writer.specs.Writing.{BeginsNext, Drops}
 use Rattle.cell_lists.specs.Lists.{Lists}
 use Rattle.update_laws.specs.Overlaid.{is_after}
 use Rattle.write_cmd.proofs.PlanSteps.{few_cells}
+use Rattle.update_cmd.proofs.BegunSteps.{begun_read}
 use Rattle.update_cmd.proofs.UpdateSteps.{late_kept, listed_told, planned_told, refused_kept, refused_told, told_in}
+use Rattle.update_cmd.specs.Updating.{update_list}
 use Rattle.update_cmd.proofs.updating.update_planned.Goals as goal
 
 pub gather_cells-requires-clause-few : goal.gather_cells-requires-clause-few
@@ -46,3 +48,9 @@ returns-in-Ok-clause-cause g c = record {
   failed = λ failed. omega (arith, c.put_cells.ensures.cause.failed failed, c.gather_cells.ensures.cause.later);
   stands = subst (λ n. OnOk c.put_cells.result (g.S.Source.faults c.put_cells.new.store ≡ n)) c.in-Ok.ensures.cause.stands c.put_cells.ensures.cause.stands;
 }
+
+pub returns-in-Ok-clause-begun : goal.returns-in-Ok-clause-begun
+returns-in-Ok-clause-begun g c =
+    begun_read (λ m. BeginsNext (update_list m c.args.dataset.now c.args.scale.now c.args.plan.writes) m (g.S.Source.objects c.put_cells.new.store) (g.S.Source.draft c.put_cells.new.store))
+    (g.S.Source.objects c.args.store.now) (g.S.Source.objects c.gather_cells.new.store) (g.S.Source.draft c.args.store.now) (g.S.Source.draft c.gather_cells.new.store) (g.S.Source.draft c.put_cells.new.store)
+    c.gather_cells.ensures.kept.same_objects c.gather_cells.ensures.kept.same_draft c.put_cells.ensures.begun
