@@ -2,6 +2,7 @@
 ghost use Rattle.std.specs.Prelude.{◌≤◌, length};
 
 mod commands;
+mod failing;
 
 use crate::{ReshardFault, reshard};
 use command_base::Crew;

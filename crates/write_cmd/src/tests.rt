@@ -1,6 +1,8 @@
 //! Writes over stand-ins in memory. What each stores and answers was worked out by hand, what is in shards by the plain
 //! reader in `tests/model/shards.py`.
 
+mod failing;
+
 use crate::run_write;
 use command_base::{Crew, Status};
 use memory_rows::{has_all, has_none, name_of, outlet_of, put, raw_info};
@@ -518,6 +520,7 @@ fn judges_the_limits(rt: HostRuntime) -> Result<(), Fail> {
 fn check_failing<R: Threads + Wait + Abort + Sync>(
     rt: &R,
     alloc: Global,
+    workers: u32,
     faults: &Faults,
     status: Status,
     line: &str,
@@ -527,26 +530,11 @@ fn check_failing<R: Threads + Wait + Abort + Sync>(
     let mut store = store_of(alloc, &info, faults.store)?;
     let stream = stream_of(alloc, &[THREE])?;
     let line = line.as_bytes();
-    check(rt, alloc, &mut store, &stream, 1, faults, status, line)?;
+    check(
+        rt, alloc, &mut store, &stream, workers, faults, status, line,
+    )?;
     let (there, absent) = THREE_OBJECTS.split_at(count.min(3));
     assert!(rt; has_all(&store, there) && has_none(&store, absent));
-    Ok(())
-}
-
-// How many objects stand where call k of the store fails: the document is read, the folder is looked at, and each object
-// is begun, appended to and finished.
-const STORE_FAULTS: [usize; 11] = [0, 0, 0, 0, 0, 1, 1, 1, 2, 2, 2];
-
-#[test]
-fn tells_failing_stores(rt: HostRuntime) -> Result<(), Fail> {
-    for (call, count) in STORE_FAULTS.iter().enumerate() {
-        let faults = Faults {
-            store: &[call as u64],
-            ..NO_FAULTS
-        };
-        let status = Status::StoreFault;
-        check_failing(&rt, rt.alloc(), &faults, status, "store fault\n", *count)?;
-    }
     Ok(())
 }
 
@@ -558,7 +546,8 @@ fn tells_failing_streams(rt: HostRuntime) -> Result<(), Fail> {
             feed: &[call],
             ..NO_FAULTS
         };
-        check_failing(&rt, alloc, &faults, Status::FeedFault, "feed fault\n", 0)?;
+        let status = Status::FeedFault;
+        check_failing(&rt, alloc, 1, &faults, status, "feed fault\n", 0)?;
     }
     for call in 0..18 {
         let faults = Faults {
@@ -566,7 +555,8 @@ fn tells_failing_streams(rt: HostRuntime) -> Result<(), Fail> {
             piece: 1,
             ..NO_FAULTS
         };
-        check_failing(&rt, alloc, &faults, Status::OutFault, "output fault\n", 3)?;
+        let status = Status::OutFault;
+        check_failing(&rt, alloc, 1, &faults, status, "output fault\n", 3)?;
     }
     Ok(())
 }
