@@ -206,6 +206,8 @@ def is_interrupted(folder):
     slow.write_text("#!/bin/sh\ntrap 'exit 130' INT\necho >begun\nwhile :; do sleep 0.1; done\n")
     slow.chmod(0o755)
     words = ["put", "in.npy", "d", "s", "--resolution", "1,1,1"]
+    # started in the background by a script, this process ignores it, and what it starts would too
+    signal.signal(signal.SIGINT, signal.default_int_handler)
     running = subprocess.Popen(
         [sys.executable, SCRIPT, *words], cwd=folder.trial.folder, stdin=subprocess.DEVNULL, stdout=subprocess.PIPE, stderr=subprocess.PIPE,
         env={**os.environ, "VOL_TOOL": str(slow)}, start_new_session=True,
