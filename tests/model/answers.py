@@ -4,10 +4,12 @@ A plain model of what a cutout and a judgement answer of stored files.
 The cells that meet a box are taken x fastest, then y, then z. A cutout prints, before the first fault, the first channel of what
 lies below the damaged cell's layer. Of a cell in a shard a judgement goes the way to the index of its minishard, then judges every
 row of this index in order, and then the cell's own chunk. Of a row its id is judged, then its start, and then whether it stands in
-the shard and the minishard of its id. What is absent is sound, and so is all that no cell of the box asks for. (That whole indexes
-are judged and in which order is this project's profile.)
+the shard and the minishard of its id. What is absent is sound, and so is all that no cell of the box asks for. Then each further view
+of the scale is gone through by its cells: a chunk's fault comes first, then the first value in the box that isn't the first view's,
+channel by channel. (That whole indexes are judged and in which order is this project's profile.)
 """
 import functools
+import itertools
 
 from .faults import Damaged, damaged, printed, refused
 from .shards import rows_of, walk_rows
@@ -55,15 +57,54 @@ def sound(cells, stored):
     return printed(f"cells {cells} stored {stored} absent {cells - stored}")
 
 
+def read_values(volume, files, box):
+    """The values of a box, by the first view: nothing in it has a fault."""
+    values = Values(volume)
+    for cell in volume.cells_in(box):
+        if raw := volume.read(files, cell):
+            values.put(volume.box_of(cell), raw)
+    return values
+
+
+class Conflict(Exception):
+    """A value of a further view that isn't the first view's, as it is told."""
+
+
+def agree_on(number, view, values, files, cell, box):
+    """Whether a cell of a further view is stored; raises its fault, or its first value in a box that is another."""
+    raw = view.read(files, cell)
+    own = Values(view)
+    if raw is not None:
+        own.put(view.box_of(cell), raw)
+    common = [(max(a, c), min(b, d)) for (a, b), (c, d) in zip(view.box_of(cell), box)]
+    for channel, z, y, x in itertools.product(range(view.channels), *(range(*common[axis]) for axis in (2, 1, 0))):
+        found, wanted = own.at((x, y, z), channel), values.at((x, y, z), channel)
+        if found != wanted:
+            raise Conflict(f"conflict {number} {x},{y},{z} {channel} {found} {wanted}")
+    return raw is not None
+
+
 def verdict(volume, files, box=None):
     """What judging a box, or the whole scale, ends with."""
-    cells = volume.cells_in(box or volume.whole)
-    stored = 0
+    box = box or volume.whole
+    first, *further = volume.views
+    cells = first.cells_in(box)
+    count, stored = len(cells), 0
     for cell in cells:
         try:
-            stored += is_stored(volume, files, cell)
+            stored += is_stored(first, files, cell)
         except Damaged as fault:
             return refused(damaged(cell, fault))
         except Misplaced as row:
             return refused(str(row))
-    return sound(len(cells), stored)
+    values = read_values(first, files, box) if further else None
+    for number, view in enumerate(further, 1):
+        for cell in view.cells_in(box):
+            try:
+                stored += agree_on(number, view, values, files, cell, box)
+            except Damaged as fault:
+                return refused(f"damaged in {number} {damaged(cell, fault)[len('damaged '):]}")
+            except Conflict as conflict:
+                return refused(str(conflict))
+        count += len(view.cells_in(box))
+    return sound(count, stored)

@@ -6,7 +6,7 @@ OK, USAGE, INFO, REQUEST, DAMAGED, STORE, FEED, OUTPUT, MEMORY, DOOR = range(10)
 BEGINS = {
     USAGE: ("usage",),
     INFO: ("info of ",),
-    DAMAGED: ("damaged ", "misplaced ", "shard "),
+    DAMAGED: ("damaged ", "misplaced ", "shard ", "conflict "),
     STORE: ("store fault",),
     FEED: ("feed fault",),
     OUTPUT: ("output fault",),

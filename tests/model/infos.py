@@ -20,6 +20,7 @@ MOST_SIZE = MOST_OFFSET = 2**40
 MOST_BLOCK = 2**24
 MOST_CHUNK = 2**27
 MOST_PADDED = 2**24
+MOST_VIEWS = 8
 
 WIDTHS = {"uint8": 1, "uint16": 2, "uint32": 4, "uint64": 8}
 NOT_READ = ["float32", "int8", "int16", "int32", "int64"]
@@ -169,7 +170,7 @@ def pick_scale(scales, key):
 
 
 def sizes_of(scale):
-    """The size, the offset and the chunk size."""
+    """The size, the offset and the chunk sizes."""
     size = member(scale, "size", three(is_whole))
     want(0 not in size, "size bad value")
     want(max(size) <= MOST_SIZE, "limit size")
@@ -177,9 +178,9 @@ def sizes_of(scale):
     want(max(map(abs, offset)) <= MOST_OFFSET, "limit voxel_offset")
     chunks = member(scale, "chunk_sizes", is_array_of_threes)
     want(chunks and all(0 not in chunk for chunk in chunks), "chunk_sizes bad value")
-    want(all(max(chunk) <= MOST_SIZE for chunk in chunks), "limit chunk_sizes")
-    want(len(chunks) == 1, "unsupported chunk_sizes")
-    return size, tuple(offset), chunks[0]
+    want(all(max(chunk) <= MOST_SIZE for chunk in chunks) and len(chunks) <= MOST_VIEWS, "limit chunk_sizes")
+    want(len(chunks) == 1 or scale.get("sharding") is None, "unsupported chunk_sizes")
+    return size, tuple(offset), chunks
 
 
 def block_of(scale, width):
@@ -230,12 +231,17 @@ def padded_voxels(volume):
     return math.prod(-(-size // block) * block for size, block in zip(first_sizes(volume), volume.block)) * volume.channels
 
 
+def first_bytes(volume):
+    """How many bytes the values of the first cell have."""
+    return math.prod(first_sizes(volume)) * volume.channels * volume.width
+
+
 def judge_limits(volume):
-    """What the first cell and the grid have at most."""
-    want(math.prod(first_sizes(volume)) * volume.channels * volume.width <= MOST_CHUNK, "limit chunk_bytes")
+    """What the first cell of each view and the grid have at most."""
+    want(all(first_bytes(view) <= MOST_CHUNK for view in volume.views), "limit chunk_bytes")
     if volume.sharding is not None:
         want(sum((count - 1).bit_length() for count in volume.grid) <= 64, "limit morton_bits")
-    want(padded_voxels(volume) <= MOST_PADDED, "limit padded")
+    want(all(padded_voxels(view) <= MOST_PADDED for view in volume.views), "limit padded")
 
 
 def scale_in(content, key="s", dataset="d"):
@@ -245,8 +251,8 @@ def scale_in(content, key="s", dataset="d"):
     want(isinstance(info, dict), "root wrong kind")
     width, channels, scales = volume_of(info)
     scale = pick_scale(scales, key)
-    size, offset, chunk = sizes_of(scale)
+    size, offset, (chunk, *more) = sizes_of(scale)
     block = block_of(scale, width)
-    volume = Volume(size, chunk, offset, channels, width, block, sharding_of(scale), dataset, key)
+    volume = Volume(size, chunk, offset, channels, width, block, sharding_of(scale), dataset, key, tuple(more))
     judge_limits(volume)
     return volume

@@ -26,7 +26,7 @@ def info_of(size, chunk, volume=None, **scale):
 class Volume:
     """
     A scale of a data set: its size, chunk size and offset in voxels, its channels, the bytes of a value, the size of the blocks of
-    a segmentation, and the sharding where the chunks are in shards.
+    a segmentation, and the sharding where the chunks are in shards. An unsharded one may have further chunk sizes.
     """
 
     size: list
@@ -38,12 +38,19 @@ class Volume:
     sharding: Sharding = None
     dataset: str = "d"
     key: str = "s"
+    more: tuple = ()
 
     def info(self):
         volume = {"data_type": f"uint{8 * self.width}", "num_channels": self.channels}
         blocks = {**SEGMENTED, "compressed_segmentation_block_size": list(self.block)} if self.block else {}
         shards = {"sharding": self.sharding.member()} if self.sharding else {}
-        return info_of(self.size, self.chunk, volume, key=self.key, voxel_offset=list(self.offset), **blocks, **shards)
+        sizes = {"chunk_sizes": [self.chunk, *self.more]}
+        return info_of(self.size, self.chunk, volume, key=self.key, voxel_offset=list(self.offset), **sizes, **blocks, **shards)
+
+    @functools.cached_property
+    def views(self):
+        """The scale with each of its chunk sizes alone: the first one is read, and all are written."""
+        return [dataclasses.replace(self, chunk=chunk, more=()) for chunk in (self.chunk, *self.more)]
 
     def words(self, command, *more):
         """The words of a command that has this scale."""
@@ -157,6 +164,16 @@ class Volume:
         values = Values(self, writes)
         met = [cell for cell in self.cells if values.has_any(self.box_of(cell))]
         return {cell: self.spell(cell, values.of(self.box_of(cell))) for cell in met}
+
+    def files_after(self, writes):
+        """The files of writes into an empty scale, in the order in which they are put, view by view; how many are put; and cells."""
+        files, objects, cells = {}, 0, 0
+        for view in self.views:
+            chunks = view.chunks_after(writes)
+            put = view.files(chunks)
+            files |= put
+            objects, cells = objects + len(put), cells + len(chunks)
+        return files, objects, cells
 
 
 def infos_of(*volumes):

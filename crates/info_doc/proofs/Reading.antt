@@ -1,4 +1,5 @@
 -- A volume that was read step by step, and the judgement of it as a whole.
+use Rattle.std.specs.Prelude.{All}
 use Rattle.std.proofs.Common.{◌≡◌, ◌⊎◌, ℕ, ◌≤◌, Bool, true, false, List, [], ◌∷◌, length, codes, is_some, unwrap_or, Option, Some, None, Ok, Err, refl, sym, ap, ◌∙◌, subst}
 use Rattle.vol_base.specs.Grids.{AreSizes, pairs}
 use Rattle.vol_spec.specs.Limits.{IsWidth, AreOffsets, IsSeg, AreBlocks, cell_counts}
@@ -59,6 +60,9 @@ offset_fits key volume values scale shape encoding r = subst (λ (x : Shape). Ar
 pub chunk_fits : (key : List ℕ) (volume : Data) (values : Volume) (scale : Data) (shape : Shape) (encoding : Encoding) → HasRead key volume values scale shape encoding → AreSizes shape.chunk
 chunk_fits key volume values scale shape encoding r = subst (λ (x : Shape). AreSizes x.chunk) (sym r.shape_is) (fits.shape_chunk scale r.shaped)
 
+pub more_fits : (key : List ℕ) (volume : Data) (values : Volume) (scale : Data) (shape : Shape) (encoding : Encoding) → HasRead key volume values scale shape encoding → All AreSizes shape.more
+more_fits key volume values scale shape encoding r = subst (λ (x : Shape). All AreSizes x.more) (sym r.shape_is) (fits.shape_more scale r.shaped)
+
 pub width_fits : (key : List ℕ) (volume : Data) (values : Volume) (scale : Data) (shape : Shape) (encoding : Encoding) → HasRead key volume values scale shape encoding → ∥ IsWidth values.width ∥₁
 width_fits key volume values scale shape encoding r = subst (λ (v : Volume). ∥ IsWidth v.width ∥₁) (sym r.values_are) (fits.volume_width volume r.here)
 
@@ -99,6 +103,12 @@ some_sharding member sharding h = ap is_some h.is ∙ some_by (is_sharded member
 pub codes_fit : (values : Volume) (shape : Shape) (encoding : Encoding) (sharding : Option Sharding) → limit_fault values shape encoding (is_some sharding) ≡ None → (s : Sharding) → sharding ≡ Some s
     → length (pairs (cell_counts shape.size shape.chunk)) ≤ 64
 codes_fit values shape encoding sharding none s is = fits.codes_fit values shape encoding (is_some sharding) none (ap is_some is)
+
+-- a sharded scale has one chunk size
+pub alone_fits : (key : List ℕ) (volume : Data) (values : Volume) (scale : Data) (shape : Shape) (encoding : Encoding) (sharding : Option Sharding) → HasRead key volume values scale shape encoding
+    → HasSharding (get (codes "sharding") scale) sharding → (s : Sharding) → sharding ≡ Some s → length shape.more ≡ 0
+alone_fits key volume values scale shape encoding sharding r h s is =
+    subst (λ (x : Shape). length x.more ≡ 0) (sym r.shape_is) (fits.shape_alone scale r.shaped (sym (some_sharding _ sharding h) ∙ ap is_some is))
 
 -- ---- faults
 
@@ -163,7 +173,7 @@ sharding_same a b is d = subst (λ m. (e : only_if (is_sharded m) (parts_fault m
 pub scale_made : (key : List ℕ) (volume : Data) (values : Volume) (scale : Data) (shape : Shape) (encoding : Encoding) (sharding : Option Sharding) → HasRead key volume values scale shape encoding
     → HasSharding (get (codes "sharding") scale) sharding → limit_fault values shape encoding (is_some sharding) ≡ None
     → (s : Scale) → s.key ≡ key → s.width ≡ values.width → s.channels ≡ values.channels → s.size ≡ shape.size → s.offset ≡ shape.offset → s.chunk ≡ shape.chunk
-    → s.encoding ≡ encoding → s.sharding ≡ sharding → s.more ≡ [] → Ok s ≡ judged_volume key volume
+    → s.encoding ≡ encoding → s.sharding ≡ sharding → s.more ≡ shape.more → Ok s ≡ judged_volume key volume
 unfolding judged_volume scale_from
 scale_made key volume values scale shape encoding sharding r h limits s k w c size o chunk e sh alone =
     let same = some_sharding _ sharding h in
@@ -172,4 +182,4 @@ scale_made key volume values scale shape encoding sharding r h limits s k w c si
     let encoding_same : encoding ≡ encoding_in (scale_at key volume) = r.encoding_is ∙ ap encoding_in r.scale_is in
     unless_none (first (steps key volume)) (scale_from key volume) s none
     (λ clear. same_scale s (scale_from key volume clear) k (w ∙ ap (λ v. v.width) r.values_are) (c ∙ ap (λ v. v.channels) r.values_are)
-    (size ∙ ap (λ x. x.size) shape_same) (o ∙ ap (λ x. x.offset) shape_same) (chunk ∙ ap (λ x. x.chunk) shape_same) (e ∙ encoding_same) (sh ∙ h.is ∙ sharding_same _ _ (ap (get (codes "sharding")) r.scale_is) h.clear _) alone)
+    (size ∙ ap (λ x. x.size) shape_same) (o ∙ ap (λ x. x.offset) shape_same) (chunk ∙ ap (λ x. x.chunk) shape_same) (e ∙ encoding_same) (sh ∙ h.is ∙ sharding_same _ _ (ap (get (codes "sharding")) r.scale_is) h.clear _) (alone ∙ ap (λ x. x.more) shape_same))

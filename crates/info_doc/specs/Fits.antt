@@ -1,11 +1,11 @@
 -- What steps without a fault leave: each value is within its limits (this project's).
-use Rattle.std.specs.Prelude.{◌≡◌, ◌⊎◌, ℕ, ◌+◌, ◌<◌, ◌≤◌, ◌^◌, ◌==◌, ◌||◌, ◌&&◌, not, nat_lt, nat_le, zero, suc, ℤ, pos, neg_ℤ, ◌≤ℤ◌, nat_abs, Bool, true, false, codes, List, [], ◌∷◌, length, slice_get, slice_index, slice_index_or, Option, Some, None, IfSome, is_some, is_none, option_and_then, option_map, unwrap_or, if◌then◌else◌, refl}
-use Rattle.std.specs.List.{find, list_all, list_any}
+use Rattle.std.specs.Prelude.{◌≡◌, ◌⊎◌, ℕ, ◌+◌, ◌<◌, ◌≤◌, ◌^◌, ◌==◌, ◌||◌, ◌&&◌, not, nat_lt, nat_le, zero, suc, ℤ, pos, neg_ℤ, ◌≤ℤ◌, nat_abs, Bool, true, false, codes, List, [], ◌∷◌, drop, length, map, slice_get, slice_index, slice_index_or, Option, Some, None, IfSome, is_some, is_none, option_and_then, option_map, unwrap_or, if◌then◌else◌, refl}
+use Rattle.std.specs.List.{All, find, list_all, list_any}
 use Rattle.std.proofs.Common.{arith, inl, inr, subst}
 use Rattle.std.proofs.lemmas.Bool.Decides.{nat_tests}
 use Rattle.std.proofs.lemmas.Int.{ints}
 use Rattle.vol_base.specs.Grids.{AreSizes, pairs}
-use Rattle.vol_spec.specs.Limits.{IsWidth, AreOffsets, IsSeg, AreBlocks, first_bytes, cell_counts, padded_of}
+use Rattle.vol_spec.specs.Limits.{IsWidth, AreOffsets, IsSeg, AreBlocks, FitsChunk, first_bytes, cell_counts, padded_of}
 use Rattle.vol_spec.specs.declared.encoding.Encoding.{Encoding}
 use Rattle.vol_spec.specs.declared.encoding.Encoding.TheVariants.{Raw, Seg}
 use Rattle.serde_json.specs.Data.{Data}
@@ -17,7 +17,7 @@ use Rattle.info_doc.specs.declared.volume.Volume.{Volume}
 use Rattle.info_doc.specs.declared.shape.Shape.{Shape}
 use Rattle.info_doc.specs.Faults.{first}
 use Rattle.info_doc.specs.Json.{whole, signed, three, triple, elements}
-use Rattle.info_doc.specs.Steps.{triple_fault, sizes_fault, sizes_in, has_zero, passes, width_of, width_in, data_type_fault, is_unread_type, is_like, text_fault, text_in, number_fault, channels_fault, number_in, has_key, scale_of_key, key_fault, offset_fault, offsets_in, passes_either_way, chunks_fault, chunk_in, list_in, list_fault, encoding_fault, is_seg, only_if, block_fault, preshift_fault, minishard_fault, shard_fault, bytes_fault, codes_fault, padded_fault}
+use Rattle.info_doc.specs.Steps.{triple_fault, sizes_fault, sizes_in, has_zero, passes, width_of, width_in, data_type_fault, is_unread_type, is_like, text_fault, text_in, number_fault, channels_fault, number_in, has_key, scale_of_key, key_fault, offset_fault, offsets_in, passes_either_way, chunks_fault, chunk_in, more_in, list_in, list_fault, is_sharded, has_many_bytes, has_many_voxels, encoding_fault, is_seg, only_if, block_fault, preshift_fault, minishard_fault, shard_fault, bytes_fault, codes_fault, padded_fault}
 use Rattle.info_doc.specs.Groups.{volume_steps, volume_fault, volume_in, shape_steps, shape_fault, shape_in, coding_fault, encoding_in, part, parts_steps, parts_fault, limit_steps, limit_fault}
 
 -- ---- rows and steps without a fault
@@ -187,6 +187,8 @@ is_there : (b : Option (List ℕ)) → is_some b ≡ true → is_none b ≡ fals
 is_there None e = cc
 is_there (Some s) e = refl
 
+-- ---- chunk sizes
+
 chunk_by : (ds : List Data) → not (list_all (λ d. is_some (triple whole d)) ds) ≡ false →
     (length ds == 0) ≡ false → list_any (λ d. has_zero (sizes_in (Some d))) ds ≡ false
     → list_any (λ d. passes (2 ^ 40) (sizes_in (Some d))) ds ≡ false → AreSizes (sizes_in (slice_get ds 0))
@@ -197,15 +199,93 @@ chunk_by (d ∷ ds) kinds some full small =
     (neither (has_zero (sizes_in (Some d))) _ full).0
     (neither (passes (2 ^ 40) (sizes_in (Some d))) _ small).0
 
-pub chunk_fits : (member : Option Data) → chunks_fault member ≡ None → AreSizes (chunk_in member)
+pub chunk_fits : (sharded : Bool) (member : Option Data) → chunks_fault sharded member ≡ None →
+    AreSizes (chunk_in member)
 unfolding chunks_fault
-chunk_fits member none =
+chunk_fits sharded member none =
     let steps = both (list_fault items.ChunkSizes member) _ none in
     let kinds = clear (not (list_all (λ d. is_some (triple whole d)) (list_in member))) _ _ steps.1 in
     let some = clear (length (list_in member) == 0) _ _ kinds.1 in
     let full = clear (list_any (λ d. has_zero (sizes_in (Some d))) (list_in member)) _ _ some.1 in
     let small = clear (list_any (λ d. passes (2 ^ 40) (sizes_in (Some d))) (list_in member)) _ _ full.1 in
     chunk_by (list_in member) kinds.0 some.0 full.0 small.0
+
+is_true : (b : Bool) → not b ≡ false → b ≡ true
+is_true true e = refl
+is_true false e = cc
+
+true_parts : (a b : Bool) → a && b ≡ true → (a ≡ true) × (b ≡ true)
+true_parts true b e = (refl, e)
+true_parts false b e = cc
+
+sizes_at : (ds : List Data) → list_all (λ d. is_some (triple whole d)) ds ≡ true
+    → list_any (λ d. has_zero (sizes_in (Some d))) ds ≡ false
+    → list_any (λ d. passes (2 ^ 40) (sizes_in (Some d))) ds ≡ false → (k : ℕ) (x : List ℕ)
+    → k < length (map (λ d. sizes_in (Some d)) ds) → AreSizes (slice_index_or (map (λ d. sizes_in (Some d)) ds) k x)
+sizes_at [] kinds full small k x l = absurd (omega arith)
+sizes_at (d ∷ ds) kinds full small zero x l =
+    within (2 ^ 40) (sizes_in (Some d)) (sizes_long (Some d)
+    (is_there (triple whole d) (true_parts (is_some (triple whole d)) _ kinds).0))
+    (neither (has_zero (sizes_in (Some d))) _ full).0
+    (neither (passes (2 ^ 40) (sizes_in (Some d))) _ small).0
+sizes_at (d ∷ ds) kinds full small (suc k) x l = sizes_at ds
+    (true_parts (is_some (triple whole d)) _ kinds).1
+    (neither (has_zero (sizes_in (Some d))) _ full).1
+    (neither (passes (2 ^ 40) (sizes_in (Some d))) _ small).1 k x (omega arith)
+
+more_by : (ds : List Data) → list_all (λ d. is_some (triple whole d)) ds ≡ true
+    → list_any (λ d. has_zero (sizes_in (Some d))) ds ≡ false
+    → list_any (λ d. passes (2 ^ 40) (sizes_in (Some d))) ds ≡ false
+    → All AreSizes (map (λ d. sizes_in (Some d)) (drop 1 ds))
+more_by [] kinds full small k x l = absurd (omega arith)
+more_by (d ∷ ds) kinds full small k x l = sizes_at ds
+    (true_parts (is_some (triple whole d)) _ kinds).1
+    (neither (has_zero (sizes_in (Some d))) _ full).1
+    (neither (passes (2 ^ 40) (sizes_in (Some d))) _ small).1 k x l
+
+-- an array of chunk sizes without a fault: how many it has, each of three numbers
+pub record AreChunks (sharded : Bool) (ds : List Data) : Type 0 where
+  pub some : 0 < length ds
+  pub few : length ds ≤ 8
+  pub triples : list_all (λ d. is_some (triple whole d)) ds ≡ true
+  pub full : list_any (λ d. has_zero (sizes_in (Some d))) ds ≡ false
+  pub small : list_any (λ d. passes (2 ^ 40) (sizes_in (Some d))) ds ≡ false
+  pub alone : sharded ≡ true → length ds ≤ 1
+
+alone_by : (sharded : Bool) (n : ℕ) → sharded && nat_lt 1 n ≡ false → sharded ≡ true → n ≤ 1
+alone_by true n e is = not_past 1 n e
+alone_by false n e is = cc
+
+pub chunks_are : (sharded : Bool) (member : Option Data) → chunks_fault sharded member ≡ None →
+    AreChunks sharded (list_in member)
+unfolding chunks_fault
+chunks_are sharded member none =
+    let steps = both (list_fault items.ChunkSizes member) _ none in
+    let kinds = clear (not (list_all (λ d. is_some (triple whole d)) (list_in member))) _ _ steps.1 in
+    let some = clear (length (list_in member) == 0) _ _ kinds.1 in
+    let full = clear (list_any (λ d. has_zero (sizes_in (Some d))) (list_in member)) _ _ some.1 in
+    let small = clear (list_any (λ d. passes (2 ^ 40) (sizes_in (Some d))) (list_in member)) _ _ full.1 in
+    let few = clear (nat_lt 8 (length (list_in member))) _ _ small.1 in
+    let alone = clear (sharded && nat_lt 1 (length (list_in member))) _ None few.1 in
+    record {
+      some = some_size _ some.0;
+      few = not_past 8 _ few.0;
+      triples = is_true _ kinds.0;
+      full = full.0;
+      small = small.0;
+      alone = alone_by sharded (length (list_in member)) alone.0;
+    }
+
+more_fits : (sharded : Bool) (member : Option Data) → chunks_fault sharded member ≡ None →
+    All AreSizes (more_in member)
+more_fits sharded member none =
+    let are = chunks_are sharded member none in
+    more_by (list_in member) are.triples are.full are.small
+
+none_more : (ds : List Data) → length ds ≤ 1 → length (map (λ d. sizes_in (Some d)) (drop 1 ds)) ≡ 0
+none_more [] h = refl
+none_more (d ∷ []) h = refl
+none_more (d ∷ e ∷ ds) h = absurd (omega arith)
 
 -- ---- the encoding
 
@@ -276,16 +356,32 @@ shard_fits sharding none =
 
 -- ---- the limits
 
+no_many_bytes : (volume : Volume) (shape : Shape) (encoding : Encoding) (sharded : Bool) →
+    limit_fault volume shape encoding sharded ≡ None →
+    list_any (has_many_bytes volume.width volume.channels shape.size) (shape.chunk ∷ shape.more) ≡ false
+unfolding limit_fault bytes_fault
+no_many_bytes volume shape encoding sharded none =
+    let step : bytes_fault volume.width volume.channels shape.size (shape.chunk ∷ shape.more) ≡ None =
+    (all_clear (limit_steps volume shape encoding sharded) none).0 in
+    (clear (list_any (has_many_bytes volume.width volume.channels shape.size) (shape.chunk ∷ shape.more)) _ None
+    step).0
+
+no_many_voxels : (volume : Volume) (shape : Shape) (encoding : Encoding) (sharded : Bool) →
+    limit_fault volume shape encoding sharded ≡ None →
+    list_any (has_many_voxels encoding volume.channels shape.size) (shape.chunk ∷ shape.more) ≡ false
+unfolding limit_fault padded_fault
+no_many_voxels volume shape encoding sharded none =
+    let step : padded_fault encoding volume.channels shape.size (shape.chunk ∷ shape.more) ≡ None =
+    (all_clear (limit_steps volume shape encoding sharded) none).1.1.0 in
+    (clear (list_any (has_many_voxels encoding volume.channels shape.size) (shape.chunk ∷ shape.more)) _ None
+    step).0
+
 pub bytes_fit : (volume : Volume) (shape : Shape) (encoding : Encoding) (sharded : Bool) →
     limit_fault volume shape encoding sharded ≡ None →
     first_bytes volume.width volume.channels shape.size shape.chunk ≤ 2 ^ 27
-unfolding limit_fault bytes_fault
-bytes_fit volume shape encoding sharded none =
-    let step : bytes_fault volume.width volume.channels shape.size shape.chunk ≡ None =
-    (all_clear (limit_steps volume shape encoding sharded) none).0 in
-    not_past (2 ^ 27) _
-    (clear
-    (nat_lt (2 ^ 27) (first_bytes volume.width volume.channels shape.size shape.chunk)) _ None step).0
+bytes_fit volume shape encoding sharded none = not_past (2 ^ 27) _
+    (neither (has_many_bytes volume.width volume.channels shape.size shape.chunk) _
+    (no_many_bytes volume shape encoding sharded none)).0
 
 pub codes_fit : (volume : Volume) (shape : Shape) (encoding : Encoding) (sharded : Bool) →
     limit_fault volume shape encoding sharded ≡ None → sharded ≡ true →
@@ -300,12 +396,29 @@ codes_fit volume shape encoding sharded none is =
 pub padded_fits : (volume : Volume) (shape : Shape) (encoding : Encoding) (sharded : Bool) →
     limit_fault volume shape encoding sharded ≡ None →
     padded_of encoding volume.channels shape.size shape.chunk ≤ 2 ^ 24
-unfolding limit_fault padded_fault
-padded_fits volume shape encoding sharded none =
-    let step : padded_fault encoding volume.channels shape.size shape.chunk ≡ None =
-    (all_clear (limit_steps volume shape encoding sharded) none).1.1.0 in
-    not_past (2 ^ 24) _
-    (clear (nat_lt (2 ^ 24) (padded_of encoding volume.channels shape.size shape.chunk)) _ None step).0
+padded_fits volume shape encoding sharded none = not_past (2 ^ 24) _
+    (neither (has_many_voxels encoding volume.channels shape.size shape.chunk) _
+    (no_many_voxels volume shape encoding sharded none)).0
+
+none_at : {X : Type 0} (test : X → Bool) (xs : List X) → list_any test xs ≡ false → (k : ℕ) (d : X) →
+    k < length xs → test (slice_index_or xs k d) ≡ false
+none_at test [] e k d h = absurd (omega arith)
+none_at test (x ∷ xs) e zero d h = (neither (test x) _ e).0
+none_at test (x ∷ xs) e (suc k) d h = none_at test xs (neither (test x) _ e).1 k d (omega arith)
+
+-- the limits of the further chunk sizes
+pub more_fit : (volume : Volume) (shape : Shape) (encoding : Encoding) (sharded : Bool) →
+    limit_fault volume shape encoding sharded ≡ None → All AreSizes shape.more →
+    All (FitsChunk volume.width volume.channels shape.size encoding) shape.more
+more_fit volume shape encoding sharded none sizes k d l = (
+  sizes k d l,
+  not_past (2 ^ 27) _ (none_at (has_many_bytes volume.width volume.channels shape.size) shape.more
+      (neither (has_many_bytes volume.width volume.channels shape.size shape.chunk) _
+      (no_many_bytes volume shape encoding sharded none)).1 k d l),
+  not_past (2 ^ 24) _ (none_at (has_many_voxels encoding volume.channels shape.size) shape.more
+      (neither (has_many_voxels encoding volume.channels shape.size shape.chunk) _
+      (no_many_voxels volume shape encoding sharded none)).1 k d l),
+)
 
 -- ---- the same for a whole volume or scale
 
@@ -332,5 +445,19 @@ shape_offset scale none = offsets_fit (get (codes "voxel_offset") scale)
 
 pub shape_chunk : (scale : Data) → shape_fault scale ≡ None → AreSizes (shape_in scale).chunk
 unfolding shape_fault
-shape_chunk scale none = chunk_fits (get (codes "chunk_sizes") scale)
+shape_chunk scale none = chunk_fits (is_sharded (get (codes "sharding") scale)) (get (codes "chunk_sizes") scale)
     (all_clear (shape_steps scale) none).1.1.0
+
+pub shape_more : (scale : Data) → shape_fault scale ≡ None → All AreSizes (shape_in scale).more
+unfolding shape_fault
+shape_more scale none = more_fits (is_sharded (get (codes "sharding") scale)) (get (codes "chunk_sizes") scale)
+    (all_clear (shape_steps scale) none).1.1.0
+
+-- there are none with a sharding
+pub shape_alone : (scale : Data) → shape_fault scale ≡ None → is_sharded (get (codes "sharding") scale) ≡ true →
+    length (shape_in scale).more ≡ 0
+unfolding shape_fault
+shape_alone scale none is =
+    let are = chunks_are (is_sharded (get (codes "sharding") scale)) (get (codes "chunk_sizes") scale)
+    (all_clear (shape_steps scale) none).1.1.0 in
+    none_more (list_in (get (codes "chunk_sizes") scale)) (are.alone is)

@@ -9,7 +9,7 @@ use Rattle.info_doc.specs.declared.fault.Item.TheVariants as items
 use Rattle.info_doc.specs.declared.volume.Volume.{Volume}
 use Rattle.info_doc.specs.declared.shape.Shape.{Shape}
 use Rattle.info_doc.specs.Faults.{first}
-use Rattle.info_doc.specs.Steps.{root_fault, at_type_fault, type_fault, is_segmentation, data_type_fault, width_in, channels_fault, number_in, sizes_fault, sizes_in, offset_fault, offsets_in, chunks_fault, chunk_in, resolution_fault, encoding_fault, is_seg, only_if, block_fault, object_fault, sharding_type_fault, preshift_fault, hash_fault, minishard_fault, shard_fault, inner_encoding_fault, bytes_fault, codes_fault, padded_fault}
+use Rattle.info_doc.specs.Steps.{root_fault, at_type_fault, type_fault, is_segmentation, data_type_fault, width_in, channels_fault, number_in, sizes_fault, sizes_in, offset_fault, offsets_in, chunks_fault, chunk_in, more_in, is_sharded, resolution_fault, encoding_fault, is_seg, only_if, block_fault, object_fault, sharding_type_fault, preshift_fault, hash_fault, minishard_fault, shard_fault, inner_encoding_fault, bytes_fault, codes_fault, padded_fault}
 
 -- ---- the members of a volume
 
@@ -37,7 +37,7 @@ abbrev pub shape_steps : Data → List (Option InfoFault)
 shape_steps scale =
     sizes_fault items.Size (2 ^ 40) (get (codes "size") scale) ∷
     offset_fault (get (codes "voxel_offset") scale) ∷
-    chunks_fault (get (codes "chunk_sizes") scale) ∷
+    chunks_fault (is_sharded (get (codes "sharding") scale)) (get (codes "chunk_sizes") scale) ∷
     resolution_fault (get (codes "resolution") scale) ∷ []
 
 unfoldable pub shape_fault : Data → Option InfoFault
@@ -49,6 +49,7 @@ shape_in scale = record {
   offset =
       offsets_in (get (codes "voxel_offset") scale);
   chunk = chunk_in (get (codes "chunk_sizes") scale);
+  more = more_in (get (codes "chunk_sizes") scale);
 }
 
 -- its encoding,
@@ -90,9 +91,9 @@ parts_fault sharding = first (parts_steps sharding)
 
 abbrev pub limit_steps : Volume → Shape → Encoding → Bool → List (Option InfoFault)
 limit_steps volume shape encoding sharded =
-    bytes_fault volume.width volume.channels shape.size shape.chunk ∷
+    bytes_fault volume.width volume.channels shape.size (shape.chunk ∷ shape.more) ∷
     only_if sharded (codes_fault shape.size shape.chunk) ∷
-    padded_fault encoding volume.channels shape.size shape.chunk ∷ []
+    padded_fault encoding volume.channels shape.size (shape.chunk ∷ shape.more) ∷ []
 
 unfoldable pub limit_fault : Volume → Shape → Encoding → Bool → Option InfoFault
 limit_fault volume shape encoding sharded = first (limit_steps volume shape encoding sharded)

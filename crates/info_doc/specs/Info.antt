@@ -3,8 +3,6 @@
 use Rattle.std.specs.Prelude.{◌≡◌, ℕ, ◌^◌, nat_lt, codes, Bool, true, false, List, [], ◌∷◌, length, Option, Some, None, unwrap_or, Result, Err, if◌then◌else◌, refl}
 use Rattle.serde_json.specs.Data.{Data, null}
 use Rattle.serde_json.specs.Find.{get}
-use Rattle.vol_spec.specs.Limits.{FitsChunk}
-use Rattle.vol_spec.specs.Views.{no_more}
 use Rattle.vol_spec.specs.declared.scale.Scale.{Scale}
 use Rattle.vol_spec.specs.declared.sharding.Sharding.{Sharding}
 use Rattle.info_doc.specs.declared.fault.InfoFault.{InfoFault}
@@ -90,7 +88,7 @@ table key volume =
     key_fault (found_in key volume) ∷
     sizes_fault items.Size (2 ^ 40) (get (codes "size") scale) ∷
     offset_fault (get (codes "voxel_offset") scale) ∷
-    chunks_fault (get (codes "chunk_sizes") scale) ∷
+    chunks_fault sharded (get (codes "chunk_sizes") scale) ∷
     resolution_fault (get (codes "resolution") scale) ∷
     encoding_fault values.width (get (codes "encoding") scale) ∷
     only_if segmented (block_fault (get (codes "compressed_segmentation_block_size") scale)) ∷
@@ -104,9 +102,9 @@ table key volume =
     only_if sharded (inner_encoding_fault items.MinishardIndexEncoding
     (part (codes "minishard_index_encoding") sharding)) ∷
     only_if sharded (inner_encoding_fault items.DataEncoding (part (codes "data_encoding") sharding)) ∷
-    bytes_fault values.width values.channels shape.size shape.chunk ∷
+    bytes_fault values.width values.channels shape.size (shape.chunk ∷ shape.more) ∷
     only_if sharded (codes_fault shape.size shape.chunk) ∷
-    padded_fault (encoding_in scale) values.channels shape.size shape.chunk ∷ []
+    padded_fault (encoding_in scale) values.channels shape.size (shape.chunk ∷ shape.more) ∷ []
 
 -- the scale of a volume without a fault
 unfoldable pub scale_from : (key : List ℕ) (volume : Data) → first (steps key volume) ≡ None → Scale
@@ -130,7 +128,7 @@ scale_from key volume none =
       chunk = (shape_in scale).chunk;
       encoding = encoding_in scale;
       sharding = sharding_in sharding sharded;
-      more = [];
+      more = (shape_in scale).more;
       key_ok = fits.key_fits key (list_in (get (codes "scales") volume)) found;
       width_ok = fits.volume_width volume here;
       some_channels = (fits.volume_channels volume here).0;
@@ -147,9 +145,10 @@ scale_from key volume none =
       codes_ok = λ parts is. fits.codes_fit (volume_in volume) (shape_in scale) (encoding_in scale)
           (is_sharded sharding) small (where_some (is_sharded sharding) _
           (parts_in sharding) sharded parts is);
-      more_ok = no_more (FitsChunk (volume_in volume).width (volume_in volume).channels (shape_in scale).size
-          (encoding_in scale));
-      alone_ok = λ parts is. refl;
+      more_ok = fits.more_fit (volume_in volume) (shape_in scale) (encoding_in scale) (is_sharded sharding)
+          small (fits.shape_more scale shaped);
+      alone_ok = λ parts is. fits.shape_alone scale shaped (where_some (is_sharded sharding) _
+          (parts_in sharding) sharded parts is);
     }
 
 -- the first fault of the steps, or the scale

@@ -1,6 +1,6 @@
 -- The steps of the judgement of an info document (precomputed volume format, info metadata; sharded format, sharding
 -- specification; this project's profile): what each reads, and its fault.
-use Rattle.std.specs.Prelude.{ℕ, ◌+◌, ◌^◌, ◌&&◌, ◌||◌, ◌==◌, nat_lt, nat_le, not, Bool, ℤ, pos, nat_abs, is_some, is_none, codes, bytes_eq, List, [], ◌∷◌, length, slice_get, Option, Some, None, option_and_then, unwrap_or, if◌then◌else◌}
+use Rattle.std.specs.Prelude.{ℕ, ◌+◌, ◌^◌, ◌&&◌, ◌||◌, ◌==◌, nat_lt, nat_le, not, Bool, ℤ, pos, nat_abs, is_some, is_none, codes, bytes_eq, List, [], ◌∷◌, drop, length, map, slice_get, Option, Some, None, option_and_then, unwrap_or, if◌then◌else◌}
 use Rattle.std.specs.List.{find, list_all, list_any}
 use Rattle.std.specs.Str.{str_eq_ignore_ascii_case}
 use Rattle.vol_base.specs.Boxes.{on_axes}
@@ -164,16 +164,21 @@ offset_fault member = fault_by (
 abbrev pub chunk_in : Option Data → List ℕ
 chunk_in member = sizes_in (slice_get (list_in member) 0)
 
--- `chunk_sizes`: an array with one element, which is three whole numbers from 1 to 2^40
-unfoldable pub chunks_fault : Option Data → Option InfoFault
-chunks_fault member = first (
+-- and those of the others
+abbrev pub more_in : Option Data → List (List ℕ)
+more_in member = map (λ d. sizes_in (Some d)) (drop 1 (list_in member))
+
+-- `chunk_sizes`: an array of one to eight elements, or with a sharding of one, each of which is three whole numbers from 1 to 2^40
+unfoldable pub chunks_fault : Bool → Option Data → Option InfoFault
+chunks_fault sharded member = first (
     list_fault items.ChunkSizes member ∷
     fault_by (
     (not (list_all (λ d. is_some (triple whole d)) (list_in member)), Member items.ChunkSizes WrongKind) ∷
     (length (list_in member) == 0, Member items.ChunkSizes BadValue) ∷
     (list_any (λ d. has_zero (sizes_in (Some d))) (list_in member), Member items.ChunkSizes BadValue) ∷
     (list_any (λ d. passes (2 ^ 40) (sizes_in (Some d))) (list_in member), Limit items.ChunkSizes) ∷
-    (nat_lt 1 (length (list_in member)), Unsupported items.ChunkSizes) ∷ []) ∷ [])
+    (nat_lt 8 (length (list_in member)), Limit items.ChunkSizes) ∷
+    (sharded && nat_lt 1 (length (list_in member)), Unsupported items.ChunkSizes) ∷ []) ∷ [])
 
 -- `resolution`: three numbers
 unfoldable pub resolution_fault : Option Data → Option InfoFault
@@ -264,13 +269,13 @@ inner_encoding_fault item member = fault_by (
 
 -- ---- its limits
 
--- at most 2^27 bytes in the first cell
-unfoldable pub bytes_fault : ℕ → ℕ → List ℕ → List ℕ → Option InfoFault
-bytes_fault width channels size chunk = fault_by ((
-  nat_lt (2 ^ 27)
-      (first_bytes width channels size chunk),
-  Limit items.ChunkBytes,
-) ∷ [])
+-- for each chunk size at most 2^27 bytes in the first cell
+abbrev pub has_many_bytes : ℕ → ℕ → List ℕ → List ℕ → Bool
+has_many_bytes width channels size chunk = nat_lt (2 ^ 27) (first_bytes width channels size chunk)
+
+unfoldable pub bytes_fault : ℕ → ℕ → List ℕ → List (List ℕ) → Option InfoFault
+bytes_fault width channels size chunks =
+    fault_by ((list_any (has_many_bytes width channels size) chunks, Limit items.ChunkBytes) ∷ [])
 
 -- at most 64 bits in the Morton code of a cell
 unfoldable pub codes_fault : List ℕ → List ℕ → Option InfoFault
@@ -280,7 +285,10 @@ codes_fault size chunk = fault_by ((
   Limit items.MortonBits,
 ) ∷ [])
 
--- at most 2^24 padded voxels times channels in a segmentation
-unfoldable pub padded_fault : Encoding → ℕ → List ℕ → List ℕ → Option InfoFault
-padded_fault encoding channels size chunk = fault_by
-    ((nat_lt (2 ^ 24) (padded_of encoding channels size chunk), Limit items.Padded) ∷ [])
+-- for each chunk size at most 2^24 padded voxels times channels in a segmentation
+abbrev pub has_many_voxels : Encoding → ℕ → List ℕ → List ℕ → Bool
+has_many_voxels encoding channels size chunk = nat_lt (2 ^ 24) (padded_of encoding channels size chunk)
+
+unfoldable pub padded_fault : Encoding → ℕ → List ℕ → List (List ℕ) → Option InfoFault
+padded_fault encoding channels size chunks =
+    fault_by ((list_any (has_many_voxels encoding channels size) chunks, Limit items.Padded) ∷ [])

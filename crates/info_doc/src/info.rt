@@ -13,7 +13,7 @@ use crate::volume::{Volume, find_scale, read_scales, read_volume};
 use serde_json::Value;
 use std::alloc::Global;
 use vol_base::Name;
-use vol_spec::{ChunkSizes, Scale};
+use vol_spec::Scale;
 
 #[tactic(auto, using(crate::proofs::TreeSteps::tree_read, crate::proofs::TreeSteps::tree_unread))]
 fn read_tree(alloc: Global, info: &[u8]) -> Result<Value, InfoFault>
@@ -45,6 +45,7 @@ fn judge(volume: &Value, key: &Name) -> Result<Scale, InfoFault>
         size,
         offset,
         chunk,
+        more,
     } = shape;
     Ok(Scale {
         key: key.duplicate(),
@@ -55,7 +56,7 @@ fn judge(volume: &Value, key: &Name) -> Result<Scale, InfoFault>
         chunk,
         encoding,
         sharding,
-        more: ChunkSizes::none(),
+        more,
     })
 }
 

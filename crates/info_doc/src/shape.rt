@@ -1,12 +1,13 @@
 //! The shape of a scale.
-ghost use Rattle.std.specs.Prelude.{◌≡◌, ◌^◌, codes, is_some, map, option_map, Some};
+ghost use Rattle.std.specs.Prelude.{◌≡◌, ◌<◌, ◌≤◌, ◌^◌, All, IsTrue, codes, drop, is_some, length, map, option_map, slice_get, Some};
 ghost use Rattle.std.specs.List.{list_all, list_any};
+ghost use Rattle.std.specs.Result.{result_map_both};
 ghost use Rattle.serde_json.specs.Find.{get};
 ghost use Rattle.serde_json.specs.View.{view};
 ghost use Rattle.info_doc.specs.Faults.{judged};
 ghost use Rattle.info_doc.specs.Groups.{shape_fault, shape_in};
 ghost use Rattle.info_doc.specs.Json.{triple, whole};
-ghost use Rattle.info_doc.specs.Steps.{has_zero, passes, sizes_in, sizes_fault, offset_fault, offsets_in, chunks_fault, chunk_in, resolution_fault};
+ghost use Rattle.info_doc.specs.Steps.{has_zero, passes, sizes_in, sizes_fault, offset_fault, offsets_in, chunks_fault, is_sharded as is_sharded_in, list_in, resolution_fault};
 
 use crate::fault::{InfoFault, Item};
 use crate::json::{
@@ -14,13 +15,15 @@ use crate::json::{
 };
 use crate::member::{read_list, read_sizes};
 use serde_json::Value;
+use vol_spec::ChunkSizes;
 
-/// The size, the offset and the chunk size of a scale, in voxels, x first.
-#[derive(Clone, Copy)]
+/// The size, the offset and the chunk sizes of a scale, the first one and the others, in voxels, x first.
+#[derive(Drop)]
 pub(crate) struct Shape {
     pub size: [u64; 3],
     pub offset: [i64; 3],
     pub chunk: [u64; 3],
+    pub more: ChunkSizes,
 }
 
 fn read_size(scale: &Value) -> Result<[u64; 3], InfoFault>
@@ -91,18 +94,30 @@ fn are_triples(list: &[Value]) -> bool
     list.iter().all(is_triple)
 }
 
+// Whether a scale has a sharding that isn't null.
+fn is_sharded(scale: &Value) -> bool
+    ensures { result ≡ is_sharded_in (get (codes "sharding") (view scale.now)) }
+{
+    match scale.get("sharding") {
+        Some(sharding) => !sharding.is_null(),
+        None => false,
+    }
+}
+
+// The chunk sizes of a scale, as they stand in the document.
 #[tactic(auto, unfolding(crate::specs::Steps::chunks_fault))]
-fn read_chunk(scale: &Value) -> Result<[u64; 3], InfoFault>
+fn read_chunks(scale: &Value) -> Result<&[Value], InfoFault>
     ensures { let m = get (codes "chunk_sizes") (view scale.now) in
-        result ≡ judged (chunks_fault m) (chunk_in m) }
+        let sharded = is_sharded_in (get (codes "sharding") (view scale.now)) in
+        result_map_both (λ s. map view s.now) (λ e. e) result ≡ judged (chunks_fault sharded m) (list_in m) }
 {
     let list = read_list(scale.get("chunk_sizes"), Item::ChunkSizes)?;
     if !are_triples(list) {
         return Err(InfoFault::wrong_kind(Item::ChunkSizes));
     }
-    let Some(first) = list.first() else {
+    if list.is_empty() {
         return Err(InfoFault::bad_value(Item::ChunkSizes));
-    };
+    }
     if some_is_empty(list) {
         return Err(InfoFault::bad_value(Item::ChunkSizes));
     }
@@ -111,12 +126,53 @@ fn read_chunk(scale: &Value) -> Result<[u64; 3], InfoFault>
             item: Item::ChunkSizes,
         });
     }
-    if list.len() > 1 {
+    if list.len() > 8 {
+        return Err(InfoFault::Limit {
+            item: Item::ChunkSizes,
+        });
+    }
+    if is_sharded(scale) && list.len() > 1 {
         return Err(InfoFault::Unsupported {
             item: Item::ChunkSizes,
         });
     }
-    read_triple(first).ok_or(InfoFault::wrong_kind(Item::ChunkSizes))
+    Ok(list)
+}
+
+// Three whole numbers that are there.
+fn find_sizes(value: &Value) -> [u64; 3]
+    requires { IsTrue (is_some (triple whole (view value.now))) }
+    ensures { result ≡ sizes_in (Some (view value.now)) }
+{
+    match read_triple(value) {
+        Some(sizes) => sizes,
+        None => unreachable!(),
+    }
+}
+
+// The first chunk size.
+fn find_first(list: &[Value]) -> [u64; 3]
+    requires some { 0 < length list.now }
+    requires triples { All (λ v. IsTrue (is_some (triple whole (view v)))) list.now }
+    ensures { result ≡ sizes_in (slice_get (map view list.now) 0) }
+{
+    find_sizes(&list[0])
+}
+
+// The chunk sizes behind the first one.
+fn find_more(list: &[Value]) -> ChunkSizes
+    requires some { 0 < length list.now }
+    requires few { length list.now ≤ 8 }
+    requires triples { All (λ v. IsTrue (is_some (triple whole (view v)))) list.now }
+    ensures { result ≡ map (λ d. sizes_in (Some d)) (drop 1 (map view list.now)) }
+{
+    let mut more = ChunkSizes::none();
+    let mut at = 1;
+    while at < list.len() {
+        more.push(find_sizes(&list[at]));
+        at += 1;
+    }
+    more
 }
 
 #[tactic(auto, unfolding(crate::specs::Steps::resolution_fault))]
@@ -139,11 +195,12 @@ pub(crate) fn read_shape(scale: &Value) -> Result<Shape, InfoFault>
 {
     let size = read_size(scale)?;
     let offset = read_offset(scale)?;
-    let chunk = read_chunk(scale)?;
+    let chunks = read_chunks(scale)?;
     check_resolution(scale)?;
     Ok(Shape {
         size,
         offset,
-        chunk,
+        chunk: find_first(chunks),
+        more: find_more(chunks),
     })
 }

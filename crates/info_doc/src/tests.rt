@@ -197,7 +197,24 @@ fn judges_scales(rt: HostRuntime) -> Result<(), Fail> {
             "[[2,2,1],[2,2,1099511627777]]",
             "limit chunk_sizes",
         ),
-        ("[[2,2,1]]", "[[2,2,1],[2,2,1]]", "unsupported chunk_sizes"),
+        ("[[2,2,1]]", "[[2,2,1],[2,2,1]]", "accepted"),
+        ("[[2,2,1]]", "[[2,2,1],[0,2,1]]", "chunk_sizes bad value"),
+        ("[[2,2,1]]", "[[2,2,1],[2,1]]", "chunk_sizes wrong kind"),
+        (
+            "[[2,2,1]]",
+            "[[2,2,1],[2,2,1],[2,2,1],[2,2,1],[2,2,1],[2,2,1],[2,2,1],[1,1,1]]",
+            "accepted",
+        ),
+        (
+            "[[2,2,1]]",
+            "[[2,2,1],[2,2,1],[2,2,1],[2,2,1],[2,2,1],[2,2,1],[2,2,1],[2,2,1],[1,1,1]]",
+            "limit chunk_sizes",
+        ),
+        (
+            "[[2,2,1]]",
+            "[[2,2,1],[2,2,1],[2,2,1],[2,2,1],[2,2,1],[2,2,1],[2,2,1],[2,2,1],[0,1,1]]",
+            "chunk_sizes bad value",
+        ),
         ("[[2,2,1]]", "[[2,2,1099511627776]]", "accepted"),
         ("\"resolution\":[8,8,40],", "", "resolution missing"),
         ("[8,8,40]", "[8,8]", "resolution wrong kind"),
@@ -230,6 +247,16 @@ fn judges_scales(rt: HostRuntime) -> Result<(), Fail> {
         ),
         (
             "[2,2,1],\"chunk_sizes\":[[2,2,1]]",
+            "[8192,8192,3],\"chunk_sizes\":[[64,64,1],[8192,8192,2]]",
+            "accepted",
+        ),
+        (
+            "[2,2,1],\"chunk_sizes\":[[2,2,1]]",
+            "[8192,8192,3],\"chunk_sizes\":[[64,64,1],[8192,8192,2],[8192,8192,3]]",
+            "limit chunk_bytes",
+        ),
+        (
+            "[2,2,1],\"chunk_sizes\":[[2,2,1]]",
             "[1099511627776,1099511627776,1099511627776],\"chunk_sizes\":[[1099511627776,1099511627776,1099511627776]]",
             "limit chunk_bytes",
         ),
@@ -244,6 +271,21 @@ fn judges_scales(rt: HostRuntime) -> Result<(), Fail> {
 fn judges_shardings(rt: HostRuntime) -> Result<(), Fail> {
     for (old, new, wanted) in [
         ("", "", "accepted"),
+        (
+            "[[1,1,1]]",
+            "[[1,1,1],[2,1,1]]",
+            "unsupported chunk_sizes",
+        ),
+        (
+            "[[1,1,1]],\"resolution\":[8,8,40]",
+            "[[1,1,1],[2,1,1]]",
+            "unsupported chunk_sizes",
+        ),
+        (
+            "\"chunk_sizes\":[[1,1,1]],",
+            "\"chunk_sizes\":[[1,1,1],[2,1,1]],\"sharding\":null,",
+            "unsupported chunk_sizes",
+        ),
         (
             "\"sharding\":{",
             "\"sharding\":7,\"other\":{",
@@ -398,6 +440,16 @@ fn judges_segmentations(rt: HostRuntime) -> Result<(), Fail> {
             "[4194304,1,1],\"chunk_sizes\":[[4194304,1,1]]",
             "[16777217,1,1],\"chunk_sizes\":[[16777217,1,1]]",
             "limit padded",
+        ),
+        (
+            "[4194304,1,1],\"chunk_sizes\":[[4194304,1,1]]",
+            "[16777217,1,1],\"chunk_sizes\":[[64,1,1],[16777217,1,1]]",
+            "limit padded",
+        ),
+        (
+            "[4194304,1,1],\"chunk_sizes\":[[4194304,1,1]]",
+            "[16777217,1,1],\"chunk_sizes\":[[64,1,1],[16777216,1,1]]",
+            "accepted",
         ),
         (
             "[4194304,1,1],\"chunk_sizes\":[[4194304,1,1]]",

@@ -1,13 +1,10 @@
-use Rattle.std.specs.Prelude.{All}
-use Rattle.vol_spec.specs.Limits.{FitsChunk}
-use Rattle.vol_spec.specs.Views.{no_more}
-use Rattle.std.proofs.Common.{List, ℕ, length, sym, subst, ◌≡◌, codes, is_some, None, Err, map, refl, ◌∙◌, rules}
+use Rattle.std.proofs.Common.{◌≡◌, codes, is_some, None, Err, map, refl, ◌∙◌, rules}
 use Rattle.serde_json.specs.Find.{get}
 use Rattle.serde_json.specs.View.{view}
 use Rattle.info_doc.specs.Fits as fits
 use Rattle.info_doc.specs.Groups.{limit_fault}
 use Rattle.info_doc.proofs.Judging.{judged_value}
-use Rattle.info_doc.proofs.Reading.{has_read, size_fits, offset_fits, chunk_fits, width_fits, channels_fit, wide_fits, blocks_fit, has_sharding, codes_fit, sharding_fault, limits_fault, scale_made}
+use Rattle.info_doc.proofs.Reading.{has_read, size_fits, offset_fits, chunk_fits, more_fits, alone_fits, width_fits, channels_fit, wide_fits, blocks_fit, has_sharding, codes_fit, sharding_fault, limits_fault, scale_made}
 use Rattle.info_doc.proofs.info.judge.Goals as goal
 
 pub returns-in_err-sharding : goal.returns-in_err-sharding
@@ -57,8 +54,10 @@ invariant_of-result c =
       block_ok = blocks_fit c.args.key.now (view c.args.volume.now) c.in_ok-values.values (view c.in_ok-scale.scale.now) c.in_ok-shape.shape c.in_ok-encoding.encoding read;
       padded_ok = fits.padded_fits c.in_ok-values.values c.in_ok-shape.shape c.in_ok-encoding.encoding (is_some c.in_ok-sharding.sharding) limits;
       codes_ok = codes_fit c.in_ok-values.values c.in_ok-shape.shape c.in_ok-encoding.encoding c.in_ok-sharding.sharding limits;
-      more_ok = subst (All (FitsChunk c.in_ok-values.values.width c.in_ok-values.values.channels c.in_ok-shape.shape.size c.in_ok-encoding.encoding)) (sym c.none.ensures) (no_more (FitsChunk c.in_ok-values.values.width c.in_ok-values.values.channels c.in_ok-shape.shape.size c.in_ok-encoding.encoding));
-      alone_ok = λ sharding is. subst (λ (more : List (List ℕ)). length more ≡ 0) (sym c.none.ensures) refl;
+      more_ok = fits.more_fit c.in_ok-values.values c.in_ok-shape.shape c.in_ok-encoding.encoding (is_some c.in_ok-sharding.sharding) limits
+          (more_fits c.args.key.now (view c.args.volume.now) c.in_ok-values.values (view c.in_ok-scale.scale.now) c.in_ok-shape.shape c.in_ok-encoding.encoding read);
+      alone_ok = alone_fits c.args.key.now (view c.args.volume.now) c.in_ok-values.values (view c.in_ok-scale.scale.now) c.in_ok-shape.shape c.in_ok-encoding.encoding c.in_ok-sharding.sharding read
+          (has_sharding (get (codes "sharding") (view c.in_ok-scale.scale.now)) c.in_ok-sharding.sharding c.in_ok-sharding.ensures);
     }
 
 pub returns : goal.returns
@@ -66,4 +65,4 @@ returns c =
     let read = has_read c.args.key.now (view c.args.volume.now) c.in_ok-values.values c.as_bytes.result.now (map view c.in_ok-scales.scales.now) (view c.in_ok-scale.scale.now) c.in_ok-shape.shape c.in_ok-encoding.encoding c.in_ok-values.ensures c.in_ok-scales.ensures c.as_bytes.ensures.bytes c.in_ok-scale.ensures c.in_ok-shape.ensures c.in_ok-encoding.ensures in
     let limits : limit_fault c.in_ok-values.values c.in_ok-shape.shape c.in_ok-encoding.encoding (is_some c.in_ok-sharding.sharding) ≡ None = rw c.is_some.ensures at (judged_value _ _ _ c.in_ok-check_limits.ensures).0 in
     let parts = has_sharding (get (codes "sharding") (view c.in_ok-scale.scale.now)) c.in_ok-sharding.sharding c.in_ok-sharding.ensures in
-    scale_made c.args.key.now (view c.args.volume.now) c.in_ok-values.values (view c.in_ok-scale.scale.now) c.in_ok-shape.shape c.in_ok-encoding.encoding c.in_ok-sharding.sharding read parts limits _ c.duplicate.ensures refl refl refl refl refl refl refl c.none.ensures
+    scale_made c.args.key.now (view c.args.volume.now) c.in_ok-values.values (view c.in_ok-scale.scale.now) c.in_ok-shape.shape c.in_ok-encoding.encoding c.in_ok-sharding.sharding read parts limits _ c.duplicate.ensures refl refl refl refl refl refl refl refl

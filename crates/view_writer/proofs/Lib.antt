@@ -1,0 +1,4 @@
+pub mod LoopSteps
+pub mod PairSteps
+pub mod PlanSteps
+pub mod SmallSteps

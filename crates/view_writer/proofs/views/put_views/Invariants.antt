@@ -1,0 +1,16 @@
+use Rattle.std.proofs.Common.{◌≡◌, ◌+◌, ◌-◌, ◌≤◌, length}
+use Rattle.shard_writer.specs.Writing.{Drops}
+use Rattle.view_writer.proofs.LoopSteps.{IsDone}
+use Rattle.view_writer.proofs.views.put_views.Given as goal
+
+abbrev pub invariant-loop-k : goal.invariant-loop-k
+invariant-loop-k g l = record {
+  within : l.k ≤ length l.scale.more;
+  done : IsDone (l.k + 1) (g.S.Source.objects l.fn.store) (g.S.Source.objects l.store) l.dataset l.scale l.fn.writes l.written;
+  same : l.left ≡ l.fn.writes;
+  draft : Drops (g.S.Source.draft l.fn.store) (g.S.Source.draft l.store);
+  stands : g.S.Source.faults l.store ≡ g.S.Source.faults l.fn.store;
+}
+
+abbrev pub decreases-loop-k : goal.decreases-loop-k
+decreases-loop-k g l = length l.scale.more - l.k
