@@ -1,9 +1,9 @@
 //! Calls of the tool over stand-ins in memory: what each command is handed, and what one command leaves for the next. What
 //! each answers was worked out by hand; what a command says of more than that is tried in its crate.
-mod sizes;
-
 ghost use Rattle.std.specs.Prelude.{◌≡◌, IfOk, None};
 ghost use Rattle.vol_base.specs.Peers.{IsFresh};
+
+mod sizes;
 
 use crate::top::run;
 use command_base::Status;
@@ -91,7 +91,12 @@ const LINES: &[(&str, u8, &[u8], &str)] = &[
     ("cutout h s [0:2,0:2,0:1]", 0, &[1, 2, 3, 4], ""),
     ("update h s", 3, &[], "several chunk sizes\n"),
     ("reshard d s h s", 3, &[], "several chunk sizes\n"),
-    ("downsample h s t --method=mean", 3, &[], "several chunk sizes\n"),
+    (
+        "downsample h s t --method=mean",
+        3,
+        &[],
+        "several chunk sizes\n",
+    ),
     ("reshard h s f s", 3, &[], "differs size\n"),
     ("serve d --port=80 --connections=1", 9, &[], "door fault\n"),
 ];

@@ -31,7 +31,9 @@ const COPIES: [Copies; 18] = [
         written: "objects 3 cells 3\n",
         verified: "cells 3 stored 3 absent 0\n",
         part: "[4:8,0:3,0:2]",
-        values: &[149, 186, 0, 0, 0, 0, 0, 0, 0, 0, 0, 0, 0, 0, 0, 0, 0, 1, 38, 75, 0, 112, 149, 186],
+        values: &[
+            149, 186, 0, 0, 0, 0, 0, 0, 0, 0, 0, 0, 0, 0, 0, 0, 0, 1, 38, 75, 0, 112, 149, 186,
+        ],
     },
     // halves and quarters of cubes
     Copies {
@@ -41,7 +43,10 @@ const COPIES: [Copies; 18] = [
         written: "objects 36 cells 36\n",
         verified: "cells 73 stored 36 absent 37\n",
         part: "[3:5,0:4,1:5]",
-        values: &[13, 50, 198, 235, 127, 164, 56, 93, 170, 207, 99, 136, 28, 65, 213, 250, 71, 108, 0, 37, 185, 222, 114, 151, 228, 9, 157, 194, 86, 123, 15, 52],
+        values: &[
+            13, 50, 198, 235, 127, 164, 56, 93, 170, 207, 99, 136, 28, 65, 213, 250, 71, 108, 0,
+            37, 185, 222, 114, 151, 228, 9, 157, 194, 86, 123, 15, 52,
+        ],
     },
     // sizes that don't divide
     Copies {
@@ -51,7 +56,10 @@ const COPIES: [Copies; 18] = [
         written: "objects 16 cells 16\n",
         verified: "cells 24 stored 16 absent 8\n",
         part: "[1:5,1:4,0:2]",
-        values: &[41, 78, 115, 1, 44, 81, 118, 155, 0, 0, 0, 0, 50, 87, 124, 4, 53, 90, 127, 164, 0, 0, 0, 0],
+        values: &[
+            41, 78, 115, 1, 44, 81, 118, 155, 0, 0, 0, 0, 50, 87, 124, 4, 53, 90, 127, 164, 0, 0,
+            0, 0,
+        ],
     },
     // one size twice
     Copies {
@@ -61,7 +69,10 @@ const COPIES: [Copies; 18] = [
         written: "objects 10 cells 10\n",
         verified: "cells 24 stored 10 absent 14\n",
         part: "[1:5,0:3,0:3]",
-        values: &[0, 0, 1, 38, 0, 0, 75, 112, 0, 0, 149, 186, 0, 0, 41, 78, 0, 0, 115, 152, 0, 0, 189, 226, 0, 0, 0, 75, 0, 0, 0, 112, 0, 0, 0, 0],
+        values: &[
+            0, 0, 1, 38, 0, 0, 75, 112, 0, 0, 149, 186, 0, 0, 41, 78, 0, 0, 115, 152, 0, 0, 189,
+            226, 0, 0, 0, 75, 0, 0, 0, 112, 0, 0, 0, 0,
+        ],
     },
     // the first size again at the end
     Copies {
@@ -71,7 +82,10 @@ const COPIES: [Copies; 18] = [
         written: "objects 16 cells 16\n",
         verified: "cells 28 stored 16 absent 12\n",
         part: "[0:3,0:3,0:3]",
-        values: &[1, 38, 75, 112, 149, 186, 0, 0, 0, 223, 4, 41, 78, 115, 152, 0, 0, 0, 0, 0, 0, 0, 0, 0, 0, 0, 0],
+        values: &[
+            1, 38, 75, 112, 149, 186, 0, 0, 0, 223, 4, 41, 78, 115, 152, 0, 0, 0, 0, 0, 0, 0, 0, 0,
+            0, 0, 0,
+        ],
     },
     // sizes that are clipped to one box
     Copies {
@@ -81,7 +95,9 @@ const COPIES: [Copies; 18] = [
         written: "objects 3 cells 3\n",
         verified: "cells 3 stored 3 absent 0\n",
         part: "[0:3,0:3,0:2]",
-        values: &[1, 38, 75, 112, 149, 186, 0, 0, 0, 223, 4, 41, 78, 115, 152, 0, 0, 0],
+        values: &[
+            1, 38, 75, 112, 149, 186, 0, 0, 0, 223, 4, 41, 78, 115, 152, 0, 0, 0,
+        ],
     },
     // sizes of which some boxes are the same
     Copies {
@@ -91,7 +107,9 @@ const COPIES: [Copies; 18] = [
         written: "objects 8 cells 8\n",
         verified: "cells 9 stored 8 absent 1\n",
         part: "[2:5,1:4,1:3]",
-        values: &[0, 0, 0, 0, 0, 0, 0, 0, 0, 38, 0, 0, 1, 38, 75, 112, 149, 186],
+        values: &[
+            0, 0, 0, 0, 0, 0, 0, 0, 0, 38, 0, 0, 1, 38, 75, 112, 149, 186,
+        ],
     },
     // cubes and slabs
     Copies {
@@ -101,7 +119,10 @@ const COPIES: [Copies; 18] = [
         written: "objects 9 cells 9\n",
         verified: "cells 24 stored 9 absent 15\n",
         part: "[3:7,1:5,1:3]",
-        values: &[216, 253, 34, 71, 0, 37, 74, 111, 40, 77, 114, 151, 80, 117, 154, 191, 24, 61, 98, 135, 64, 101, 138, 175, 104, 141, 178, 215, 144, 181, 218, 255],
+        values: &[
+            216, 253, 34, 71, 0, 37, 74, 111, 40, 77, 114, 151, 80, 117, 154, 191, 24, 61, 98, 135,
+            64, 101, 138, 175, 104, 141, 178, 215, 144, 181, 218, 255,
+        ],
     },
     // voxels and one box
     Copies {
@@ -121,7 +142,9 @@ const COPIES: [Copies; 18] = [
         written: "objects 40 cells 40\n",
         verified: "cells 149 stored 40 absent 109\n",
         part: "[2:6,2:4,0:3]",
-        values: &[0, 0, 0, 0, 1, 38, 75, 112, 0, 0, 0, 0, 149, 186, 223, 4, 0, 0, 0, 0, 149, 186, 223, 4],
+        values: &[
+            0, 0, 0, 0, 1, 38, 75, 112, 0, 0, 0, 0, 149, 186, 223, 4, 0, 0, 0, 0, 149, 186, 223, 4,
+        ],
     },
     // an offset below 0
     Copies {
@@ -131,7 +154,10 @@ const COPIES: [Copies; 18] = [
         written: "objects 7 cells 7\n",
         verified: "cells 24 stored 7 absent 17\n",
         part: "[-2:2,-6:-3,3:5]",
-        values: &[78, 115, 152, 0, 44, 81, 118, 0, 10, 47, 84, 0, 198, 235, 16, 0, 164, 201, 1, 38, 130, 167, 204, 0],
+        values: &[
+            78, 115, 152, 0, 44, 81, 118, 0, 10, 47, 84, 0, 198, 235, 16, 0, 164, 201, 1, 38, 130,
+            167, 204, 0,
+        ],
     },
     // 16 bits, 3 channels, another offset
     Copies {
@@ -141,7 +167,10 @@ const COPIES: [Copies; 18] = [
         written: "objects 9 cells 9\n",
         verified: "cells 20 stored 9 absent 11\n",
         part: "[2:5,0:2,-1:0]",
-        values: &[195, 232, 13, 50, 87, 124, 235, 16, 1, 38, 75, 112, 179, 216, 253, 34, 71, 108, 219, 0, 161, 198, 235, 16, 163, 200, 237, 18, 55, 92, 203, 240, 65, 102, 139, 176],
+        values: &[
+            195, 232, 13, 50, 87, 124, 235, 16, 1, 38, 75, 112, 179, 216, 253, 34, 71, 108, 219, 0,
+            161, 198, 235, 16, 163, 200, 237, 18, 55, 92, 203, 240, 65, 102, 139, 176,
+        ],
     },
     // 64 bits, 2 channels
     Copies {
@@ -151,7 +180,10 @@ const COPIES: [Copies; 18] = [
         written: "objects 4 cells 4\n",
         verified: "cells 11 stored 4 absent 7\n",
         part: "[5:6,1:3,1:2]",
-        values: &[161, 198, 235, 16, 53, 90, 127, 164, 201, 238, 19, 56, 93, 130, 167, 204, 145, 182, 219, 0, 37, 74, 111, 148, 185, 222, 3, 40, 77, 114, 151, 188],
+        values: &[
+            161, 198, 235, 16, 53, 90, 127, 164, 201, 238, 19, 56, 93, 130, 167, 204, 145, 182,
+            219, 0, 37, 74, 111, 148, 185, 222, 3, 40, 77, 114, 151, 188,
+        ],
     },
     // labels of 32 bits
     Copies {
@@ -161,7 +193,10 @@ const COPIES: [Copies; 18] = [
         written: "objects 9 cells 9\n",
         verified: "cells 17 stored 9 absent 8\n",
         part: "[0:3,1:4,0:1]",
-        values: &[121, 158, 195, 232, 13, 50, 87, 124, 161, 198, 235, 16, 241, 22, 59, 96, 133, 170, 207, 244, 25, 62, 99, 136, 105, 142, 179, 216, 253, 34, 71, 108, 145, 182, 219, 0],
+        values: &[
+            121, 158, 195, 232, 13, 50, 87, 124, 161, 198, 235, 16, 241, 22, 59, 96, 133, 170, 207,
+            244, 25, 62, 99, 136, 105, 142, 179, 216, 253, 34, 71, 108, 145, 182, 219, 0,
+        ],
     },
     // labels of 64 bits
     Copies {
@@ -171,7 +206,10 @@ const COPIES: [Copies; 18] = [
         written: "objects 16 cells 16\n",
         verified: "cells 31 stored 16 absent 15\n",
         part: "[-1:1,3:4,0:2]",
-        values: &[49, 86, 123, 160, 197, 234, 15, 52, 89, 126, 163, 200, 237, 18, 55, 92, 177, 214, 251, 32, 69, 106, 143, 180, 217, 254, 35, 72, 109, 146, 183, 220],
+        values: &[
+            49, 86, 123, 160, 197, 234, 15, 52, 89, 126, 163, 200, 237, 18, 55, 92, 177, 214, 251,
+            32, 69, 106, 143, 180, 217, 254, 35, 72, 109, 146, 183, 220,
+        ],
     },
     // labels in blocks that are larger, 2 channels
     Copies {
@@ -181,7 +219,10 @@ const COPIES: [Copies; 18] = [
         written: "objects 7 cells 7\n",
         verified: "cells 15 stored 7 absent 8\n",
         part: "[3:5,2:4,0:1]",
-        values: &[229, 10, 47, 84, 0, 0, 0, 0, 0, 0, 0, 0, 1, 38, 75, 112, 213, 250, 31, 68, 0, 0, 0, 0, 0, 0, 0, 0, 149, 186, 223, 4],
+        values: &[
+            229, 10, 47, 84, 0, 0, 0, 0, 0, 0, 0, 0, 1, 38, 75, 112, 213, 250, 31, 68, 0, 0, 0, 0,
+            0, 0, 0, 0, 149, 186, 223, 4,
+        ],
     },
     // labels of eight sizes
     Copies {
@@ -191,7 +232,10 @@ const COPIES: [Copies; 18] = [
         written: "objects 52 cells 52\n",
         verified: "cells 149 stored 52 absent 97\n",
         part: "[-5:-3,10:12,-6:-5]",
-        values: &[1, 38, 75, 112, 149, 186, 223, 4, 41, 78, 115, 152, 189, 226, 7, 44, 81, 118, 155, 192, 229, 10, 47, 84, 121, 158, 195, 232, 13, 50, 87, 124],
+        values: &[
+            1, 38, 75, 112, 149, 186, 223, 4, 41, 78, 115, 152, 189, 226, 7, 44, 81, 118, 155, 192,
+            229, 10, 47, 84, 121, 158, 195, 232, 13, 50, 87, 124,
+        ],
     },
     // rows and boxes
     Copies {
@@ -201,7 +245,9 @@ const COPIES: [Copies; 18] = [
         written: "objects 7 cells 7\n",
         verified: "cells 13 stored 7 absent 6\n",
         part: "[1:4,-2:1,9:11]",
-        values: &[1, 38, 112, 75, 112, 4, 149, 186, 0, 0, 0, 0, 0, 0, 0, 0, 0, 0],
+        values: &[
+            1, 38, 112, 75, 112, 4, 149, 186, 0, 0, 0, 0, 0, 0, 0, 0, 0, 0,
+        ],
     },
 ];
 
@@ -262,7 +308,12 @@ fn check_copies<R: Threads + Wait + Abort + Sync>(
     let info = copies.info;
     assert_eq!(rt; status.number(), 0, "at {info}");
     assert!(rt; out.written() == copies.written.as_bytes(), "out at {info}");
-    check(rt, alloc, &mut store, &("verify d s", 0, copies.verified.as_bytes(), ""))?;
+    check(
+        rt,
+        alloc,
+        &mut store,
+        &("verify d s", 0, copies.verified.as_bytes(), ""),
+    )?;
     check_part(rt, alloc, &mut store, copies)
 }
 
