@@ -26,6 +26,11 @@ def line_of(cells, chunk=1, **scale):
     return info_of([cells, 1, 1], [chunk, 1, 1], None, **{"sharding": SHARDING, **scale})
 
 
+def sizes(length, *chunks):
+    """A line of so many voxels, with chunks of these lengths."""
+    return info_of([length, 1, 1], None, chunk_sizes=[[chunk, 1, 1] for chunk in chunks])
+
+
 def wide(chunk):
     """As large as a scale in shards can be."""
     return info_of([2**40] * 3, [chunk, 1, 1], None, sharding=SHARDING)
@@ -60,6 +65,12 @@ RUNS = [
     ("a pair more", [LINE], WRITE, refused(f"too many cells {PAIRS + 1}"), pairs(65, 64)),
     ("2^22 pairs of an update", [LINE], UPDATE, stored(64, 64), pairs(64, 64)),
     ("a pair more of an update", [LINE], UPDATE, refused(f"too many cells {PAIRS + 1}"), pairs(65, 64)),
+    # of several chunk sizes cells are counted together, and pairs size by size, each before anything is put
+    ("verify of 2^22 cells of two sizes", [sizes(CELLS, 2, 2)], VERIFY, printed(f"cells {CELLS} stored 0 absent {CELLS}"), b""),
+    ("verify of a cell more of two sizes", [sizes(CELLS, CELLS, 1)], VERIFY, TOO_MANY, b""),
+    ("2^22 pairs of a further size", [sizes(65, 65, 1)], WRITE, stored(65, 65), pairs(64, 64)),
+    ("a pair more of a further size", [sizes(65, 65, 1)], WRITE, refused(f"too many cells {PAIRS + 1}"), pairs(65, 64)),
+    ("too many pairs of both sizes", [sizes(130, 2, 1)], WRITE, refused(f"too many cells {PAIRS + 1}"), pairs(130, 128)),
     # 1,321 x 793 x 1,025 is one more
     ("a cutout of a byte more", [info_of([1321, 793, 1025], [64, 64, 64])], "cutout d s [0:1321,0:793,0:1025]",
      refused(f"box too large {BYTES + 1}"), b""),
