@@ -6,8 +6,8 @@
 # and no higher peak. The objects are compared at the end. Then `verify` of it, against the whole cutouts of the three. Wanted: a ratio
 # of at most 1.3. All outputs are dropped.
 #
-# The scales are 512 x 512 x 512 bytes in cubes of 64, in bars of 64 x 64 x 512 and in slabs of 512 x 512 x 8; and 256 x 256 x 256 labels
-# of 64 bits, in blocks of 8 x 8 x 8, in cubes of 64, in bars of 64 x 64 x 256 and in slabs of 256 x 256 x 8.
+# The scales are 512 x 512 x 512 bytes, and 256 x 256 x 256 labels of 64 bits in blocks of 8 x 8 x 8. Each is tried in sizes that divide
+# one another (64 x 64 x 64, 128 x 128 x 64, 128 x 128 x 128), and in cubes of 64 with slabs across them, which are 8 voxels thick.
 #
 #     bench/sizes.sh [PROGRAM [TRIES]]
 #
@@ -28,7 +28,7 @@ with_sizes() {
 
 # NAME BOX FIRST SECOND THIRD: the stream's scale with these chunk sizes
 compare() {
-    echo "write of $1 in three chunk sizes"
+    echo "write of $1 in the chunk sizes $3,$4,$5"
     with_sizes ours "$3,$4,$5" && with_sizes one "$3" && with_sizes two "$4" && with_sizes three "$5" || exit
     cat >apart <<END
 for scale in one two three; do '$program' write \$scale s <stream || exit; done >/dev/null
@@ -38,14 +38,22 @@ for scale in one two three; do '$program' cutout \$scale s '$2' || exit; done >/
 END
     python3 "$root/bench/compare.py" "$tries" "sh -c 'exec \"$program\" write ours s >/dev/null'" 'sh apart' stream \
         'rm -rf ours/s one/s two/s three/s' || exit
-    rm -rf ours/s && "$program" write ours s <stream >/dev/null && mkdir all && cp one/s/* two/s/* three/s/* all && diff -r ours/s all || exit
-    echo "verify of $1 in three chunk sizes, against cutouts"
+    rm -rf ours/s && "$program" write ours s <stream >/dev/null || exit
+    mkdir all && cp one/s/* two/s/* three/s/* all && diff -r ours/s all || exit
+    echo "verify of it, against cutouts"
     cat ours/s/* all/* >/dev/null || exit
     python3 "$root/bench/compare.py" "$tries" "sh -c 'exec \"$program\" verify ours s >/dev/null'" 'sh cutouts' stream || exit
-    rm -rf base ours one two three all stream
+    rm -rf ours one two three all
+}
+
+# NAME SIDE
+both() {
+    compare "$1" "[0:$2,0:$2,0:$2]" '[64,64,64]' '[128,128,64]' '[128,128,128]'
+    compare "$1" "[0:$2,0:$2,0:$2]" '[64,64,64]' "[$2,$2,8]" "[8,$2,$2]"
+    rm -rf base stream
 }
 
 ./plain_write bytes make base && ./plain_write bytes stream whole >stream || exit
-compare bytes '[0:512,0:512,0:512]' '[64,64,64]' '[64,64,512]' '[512,512,8]'
+both bytes 512
 ./plain_sharded labels info base && ./plain_segmentation labels stream pieces >stream || exit
-compare labels '[0:256,0:256,0:256]' '[64,64,64]' '[64,64,256]' '[256,256,8]'
+both labels 256
