@@ -18,9 +18,9 @@ stored in each of them, and at once: so its array has at most 1 GiB, nothing is 
 `get` reads a box, as [x0:x1,y0:y1,z0:z1] or `all`. `add` adds to DATASET/info a scale KEY2 of the same voxels as KEY in another layout,
 and stores nothing: `vol_tool reshard DATASET KEY DATASET KEY2` fills it. `pyramid` adds the coarser scales of KEY to DATASET/info and
 makes them by `vol_tool downsample`, each of half the size of the one before, with its layout: N of them, or as many as it takes until one
-has one chunk. A scale that is there already stays; of several chunk sizes the first is read, and goes on. Labels are taken by `mode` (the
-value that occurs most often), where the volume is a segmentation or the chunks are, and images by `mean`. `view` shows slices through the
-scales on a page of this machine alone, whose address it prints, until it is ended by Ctrl-C.
+has one chunk. A scale that is there already stays. Of several chunk sizes the first is read, and the coarser scales have it alone. Labels
+are taken by `mode` (the value that occurs most often), where the volume is a segmentation or the chunks are, and images by `mean`. `view`
+shows slices through the scales on a page of this machine alone, whose address it prints, until it is ended by Ctrl-C.
 
 As a module (its folder is named in PYTHONPATH) it has `read`, `write` and `pyramid`; the first two are for arrays of numpy, where that is
 installed, or for files as numpy.save writes them:

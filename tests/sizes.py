@@ -13,7 +13,7 @@ import random
 
 from harness import answers, contents, main, standing, want, want_files
 from model import (
-    SEGMENTED, SHARDING, Values, Volume, answer, box_in, copy_of, generated, info_of, infos_of, printed, refused, sound, spell, stored,
+    SEGMENTED, SHARDING, Values, Volume, answer, copy_of, generated, info_of, infos_of, printed, refused, sound, spell, stored,
     stream_of, sum_of, verdict,
 )
 from model.chance import damage_some, pick_box, pick_boxes, pick_writes
