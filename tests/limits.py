@@ -9,7 +9,7 @@ import subprocess
 import tempfile
 
 from harness import main
-from model import SEGMENTED, SHARDING, along, box_in, bytes_of, head_of, info_of, printed, refused, stored, stream_of
+from model import OK, SEGMENTED, SHARDING, along, box_in, bytes_of, head_of, info_of, printed, refused, stored, stream_of
 from model.small import shards
 
 # The most cells that a box or a grid of a copy may have, the most pairs of a write and a cell, and the most bytes of a cutout or of
@@ -83,9 +83,10 @@ RUNS = [
 
 
 def ends_so(trial, infos, words, wanted, feed):
-    """A run over data sets that have nothing but an info document each."""
+    """A run over data sets that have nothing but an info document each; one that is refused puts nothing."""
     trial.lay_out({f"{dataset}/info": info for dataset, info in zip("de", infos)})
-    trial.want(words, wanted, feed)
+    judge = trial.want if wanted[0] == OK else trial.want_unchanged
+    judge(words, wanted, feed)
 
 
 def takes_stream(trial, behind, wanted):
