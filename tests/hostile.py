@@ -17,7 +17,7 @@ import time
 
 from harness import main, want, want_files
 from model import copy_of, cutout, infos_of, printed, refused, sound, spell, stored, stream_of, verdict
-from model.chance import FORMS, damage_some, form_of, pick_box, pick_layouts, pick_stored, pick_writes
+from model.chance import FORMS, damage_some, form_of, pick_box, pick_layouts, pick_sizes, pick_stored, pick_writes
 from model.heads import replies_to
 from model.infos import Refused as BadInfo
 from model.infos import padded_voxels, scale_in
@@ -85,6 +85,9 @@ def want_written(trial, volume, content):
 
 def want_updated(trial, volume, content):
     """A stream that is put over what stands."""
+    if volume.more:
+        trial.want_unchanged(volume.words("update"), refused("several chunk sizes"), content)
+        return
     try:
         writes = writes_in(volume, content)
     except BadStream as fault:
@@ -95,7 +98,7 @@ def want_updated(trial, volume, content):
 
 def judges_streams(trial, seed):
     chance = random.Random(f"streams {seed}")
-    (volume,) = pick_layouts(chance, [form_of(seed)])
+    volume = pick_sizes(chance, *pick_layouts(chance, [form_of(seed)]))
     trial.lay_out(infos_of(volume))
     want_written(trial, volume, pick_stream(chance, volume))
     want_updated(trial, volume, pick_stream(chance, volume))

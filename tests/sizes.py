@@ -159,10 +159,25 @@ ROW, NEXT_ROW, COLUMN = "d/s/0-2_0-1_0-1", "d/s/0-2_1-2_0-1", "d/s/1-2_0-2_0-1"
 IN_ORDER = [
     ("channels apart", {ROW: bytes([0, 1, 2, 9, 9, 9, 10, 11])}, "conflict 1 1,0,0 0 2306 770"),
     ("the second channel", {ROW: bytes([0, 1, 2, 3, 8, 8, 10, 11])}, "conflict 1 0,0,0 1 2056 2312"),
-    ("x before y", {COLUMN: None, ROW: None, NEXT_ROW: None}, "conflict 1 0,0,0 0 0 256"),
+    ("all copies are gone", {COLUMN: None, ROW: None, NEXT_ROW: None}, "conflict 1 0,0,0 0 0 256"),
     ("the second copy", {COLUMN: bytes([2, 3, 6, 7, 10, 11, 14, 0])}, "conflict 2 1,1,0 1 14 3854"),
     ("the fault of the second copy", {COLUMN: bytes(1)}, "damaged in 2 1,0,0: chunk length 1 wanted 8"),
     ("both copies", {COLUMN: bytes(1), NEXT_ROW: bytes([4, 5, 6, 7, 12, 13, 14, 16])}, "conflict 1 1,1,0 1 4110 3854"),
+]
+
+# Voxels, and copies of two voxels and of eight, with the values 1 to 8.
+CUBE = Volume([2, 2, 2], [1, 1, 1], (-1, 4, -7), more=([1, 1, 2], [2, 2, 2]))
+EIGHT_VOXELS = "d/s/-1-1_4-6_-7--5"
+LINE_OF = "d/s/{}_{}_-7--5"
+
+OF_AXES = [
+    ("x first", {EIGHT_VOXELS: bytes([1, 9, 9, 4, 9, 6, 7, 8])}, "conflict 2 0,4,-7 0 9 2"),
+    ("y before z", {EIGHT_VOXELS: bytes([1, 2, 9, 4, 9, 6, 7, 8])}, "conflict 2 -1,5,-7 0 9 3"),
+    ("z at last", {EIGHT_VOXELS: bytes([1, 2, 3, 4, 9, 6, 7, 9])}, "conflict 2 -1,4,-6 0 9 5"),
+    ("cells with x first", {LINE_OF.format("0-1", "4-5"): b"", LINE_OF.format("-1-0", "5-6"): b""},
+     "damaged in 1 1,0,0: chunk length 0 wanted 2"),
+    ("a further size, and one behind it", {LINE_OF.format("0-1", "5-6"): b"\4\7", EIGHT_VOXELS: b""}, "conflict 1 0,5,-6 0 7 8"),
+    ("a box in the middle", {EIGHT_VOXELS: bytes([9, 9, 9, 9, 9, 9, 9, 7])}, "conflict 2 0,5,-6 0 7 8", "[0:1,5:6,-6:-5]"),
 ]
 
 # Labels, of 64 bits in blocks of two voxels.
@@ -352,6 +367,8 @@ def rows():
         yield title, tells, FOUR, bytes([1, 2, 3, 4]), *case
     for title, *case in IN_ORDER:
         yield title, tells, SQUARE, bytes(range(16)), *case
+    for title, *case in OF_AXES:
+        yield title, tells, CUBE, bytes(range(1, 9)), *case
     for title, *case in OF_LABELS:
         yield title, tells, LABELS, labels_of(1, 2, 7, LARGEST), *case
     for title, info, told in INFOS:
