@@ -17,6 +17,20 @@ pub enum VerifyRefusal {
     /// Or else a row of its index whose id belongs into another: the shard and the minishard that have the row, and the
     /// id.
     Misplaced { shard: u64, minishard: u64, id: u64 },
+    /// Nothing is wrong with the first view, and the first that is with a further one is the fault of a chunk.
+    ViewDamaged {
+        view: u32,
+        cell: [u64; 3],
+        fault: Fault,
+    },
+    /// Or else a value that isn't the first view's: the one that was found, and the first view's.
+    Conflict {
+        view: u32,
+        at: [i64; 3],
+        channel: u32,
+        found: u64,
+        wanted: u64,
+    },
     StoreFault,
     NoMemory,
 }
