@@ -1,5 +1,5 @@
 -- All views of a scale: how many cells meet a part, and what is found in them.
-use Rattle.std.proofs.Common.{◌≡◌, ◌↔◌, ◌∙◌, ◌≤◌, ℕ, ◌+◌, ◌*◌, ◌^◌, length, map, Option, Some, None, IfSome, Ok, Err, ap, sym, subst, arith, lit<}
+use Rattle.std.proofs.Common.{◌≡◌, ◌↔◌, ◌∙◌, ◌≤◌, ℕ, ◌+◌, ◌*◌, ◌^◌, length, Option, Some, None, IfSome, Ok, Err, ap, sym, subst, arith, lit<}
 use Rattle.std.specs.Prelude.{All, Result}
 use Rattle.std.specs.List.{range_with_len}
 use Rattle.std.proofs.lemmas.Nat.{mul-le}

@@ -58,9 +58,9 @@ impl Refusal for VerifyRefusal {
                 channel,
                 found,
                 wanted,
-            } => Ok(
-                write_conflict_line(alloc, *view, *at, *channel, *found, *wanted)?.into_bytes(),
-            ),
+            } => Ok(write_conflict_line(
+                alloc, *view, *at, *channel, *found, *wanted,
+            )?.into_bytes()),
             VerifyRefusal::StoreFault | VerifyRefusal::NoMemory => unreachable!(),
         }
     }

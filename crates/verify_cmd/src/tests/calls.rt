@@ -207,7 +207,10 @@ fn check(
     let ended = call(alloc, objects, part, failing)?;
     let [printed, told] = texts;
     assert_eq!(rt; ended.status, status, "at {printed}{told}");
-    assert!(rt; ended.out.written() == printed.as_bytes(), "out at {printed}");
+    assert!(rt;
+        ended.out.written() == printed.as_bytes(),
+        "out at {printed}"
+    );
     assert!(rt; ended.err.written() == told.as_bytes(), "err at {told}");
     Ok(())
 }
@@ -249,7 +252,10 @@ fn tells_each_failing_call(rt: HostRuntime) -> Result<(), Fail> {
         }
         assert_eq!(rt; ended.status, 5, "call {k}");
         assert!(rt; ended.out.written().is_empty(), "out at {k}");
-        assert!(rt; ended.err.written() == b"store fault\n".as_slice(), "err at {k}");
+        assert!(rt;
+            ended.err.written() == b"store fault\n".as_slice(),
+            "err at {k}"
+        );
     }
     Err(Fail::from("a call too many"))
 }
