@@ -16,7 +16,9 @@ use Rattle.cutout.proofs.CostSteps.{costs, costs-front, costs-next, costs-one}
 use Rattle.cutout.specs.Keeping.{cell_cost, rows_of, search_by}
 use Rattle.index_judge.specs.Judging.{index_cost}
 use Rattle.command_base.specs.Scales.{stored_scale}
+use Rattle.view_judge.specs.Judging.{views_cost}
 use Rattle.verify_cmd.specs.Verified.{AsksTwice, judgement_cost, part_in}
+use Rattle.verify_cmd.specs.Verifying.{part_cost}
 
 -- numbers
 most : (was now a b : ℕ) → now ≤ was + a → a ≤ b → now ≤ was + b
@@ -101,13 +103,24 @@ asked_next o same dataset s part cells left rest cell begin was now e first is h
     let next = costs-next m dataset s part cells left rest cell first is in
     omega (arith, so_far, more, next))
 
--- a part that is refused, and one of a scale
-pub asked_nothing : (o : Option Objects) (dataset : Name) (s : Scale) (part : Box3) (was : ℕ) → IfSome o (λ m. was ≤ was + 2 * cost m dataset s part)
-asked_nothing o dataset s part was = in_told o _ (λ m told. nothing_more was _)
+-- the first view alone, and all views
+pub asked_cells : (o : Option Objects) (dataset : Name) (s : Scale) (part : Box3) (was now : ℕ) → IfSome o (λ m. now ≤ was + 2 * cost m dataset s part) → IfSome o (λ m. now ≤ was + part_cost m dataset s part)
+asked_cells o dataset s part was now h = in_told o _ (λ m told. most was now _ _ (from_told o _ m told h) (nothing_more (2 * cost m dataset s part) (views_cost m dataset s part)))
 
-pub asked_part : (o : Option Objects) (dataset : Name) (s : Scale) (chosen : Box3) (part : Option Box3) (was now : ℕ) → chosen ≡ part_in s part → IfSome o (λ m. now ≤ was + 2 * cost m dataset s chosen)
-    → IfSome o (λ m. now ≤ was + 2 * cost m dataset s (part_in s part))
-asked_part o dataset s chosen part was now is h = subst (λ b. IfSome o (λ m. now ≤ was + 2 * cost m dataset s b)) is h
+more : (was between now a b : ℕ) → between ≤ was + a → now ≤ between + b → now ≤ was + (a + b)
+more was between now a b h k = omega arith
+
+pub asked_views : (o same : Option Objects) (dataset d : Name) (s t : Scale) (part : Box3) (was between now : ℕ) → same ≡ o → d ≡ dataset → t ≡ s → IfSome o (λ m. between ≤ was + 2 * cost m dataset s part)
+    → IfSome same (λ m. now ≤ between + views_cost m d t part) → IfSome o (λ m. now ≤ was + part_cost m dataset s part)
+asked_views o same dataset d s t part was between now e of_dataset of_scale h k =
+    in_told o _ (λ m told.
+    let own : now ≤ between + views_cost m dataset s part = subst (λ x. now ≤ between + views_cost m x s part) of_dataset (subst (λ x. now ≤ between + views_cost m d x part) of_scale (from_told same _ m (e ∙ told) k)) in
+    more was between now _ _ (from_told o _ m told h) own)
+
+-- a part that is chosen
+pub asked_part : (o : Option Objects) (dataset : Name) (s : Scale) (chosen : Box3) (part : Option Box3) (was now : ℕ) → chosen ≡ part_in s part → IfSome o (λ m. now ≤ was + part_cost m dataset s chosen)
+    → IfSome o (λ m. now ≤ was + part_cost m dataset s (part_in s part))
+asked_part o dataset s chosen part was now is h = subst (λ b. IfSome o (λ m. now ≤ was + part_cost m dataset s b)) is h
 
 -- the info document alone
 pub asks_info : (o : Option Objects) (dataset key : Name) (part : Option Box3) (old new : ℕ) → new ≤ old + (2 ^ 20 + 1) → IfSome o (λ m. AsksTwice m dataset key part old new)
@@ -115,9 +128,9 @@ asks_info o dataset key part old new h = in_told o _ (λ m told. omega (arith, h
 
 -- and the cells
 pub asks_cells : (o same : Option Objects) (dataset key : Name) (s : Scale) (part : Option Box3) (old read new : ℕ) → same ≡ o → IfSome o (λ m. stored_scale m dataset key ≡ Ok s) → read ≤ old + (2 ^ 20 + 1)
-    → IfSome same (λ m. new ≤ read + 2 * cost m dataset s (part_in s part)) → IfSome o (λ m. AsksTwice m dataset key part old new)
+    → IfSome same (λ m. new ≤ read + part_cost m dataset s (part_in s part)) → IfSome o (λ m. AsksTwice m dataset key part old new)
 asks_cells o same dataset key s part old read new e is h cells =
     in_told o _ (λ m told.
     let more = from_told same _ m (e ∙ told) cells in
-    let costs_so : judgement_cost (stored_scale m dataset key) m dataset part ≡ 2 * cost m dataset s (part_in s part) = ap (λ found. judgement_cost found m dataset part) (from_told o _ m told is) in
+    let costs_so : judgement_cost (stored_scale m dataset key) m dataset part ≡ part_cost m dataset s (part_in s part) = ap (λ found. judgement_cost found m dataset part) (from_told o _ m told is) in
     omega (arith, h, more, costs_so))

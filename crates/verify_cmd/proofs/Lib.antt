@@ -5,3 +5,4 @@ pub mod PartSteps
 pub mod ServeSteps
 pub mod VerifySteps
 pub mod UnreadSteps
+pub mod ViewSteps

@@ -22,7 +22,8 @@ use Rattle.index_judge.specs.declared.fault.JudgeFault.{JudgeFault}
 use Rattle.index_judge.specs.declared.fault.JudgeFault.TheVariants.{NotRead, Damaged, Misplaced}
 use Rattle.verify_cmd.specs.Counting.{counted}
 use Rattle.verify_cmd.specs.Verified.{IsUndamaged}
-use Rattle.verify_cmd.specs.Verifying.{JudgesCell, Verifies, IsReport, first_wrong, flawed, found_at, is_absent, is_stored}
+use Rattle.view_judge.specs.Judging.{is_absent, is_stored}
+use Rattle.verify_cmd.specs.Verifying.{IsCellReport, JudgesCell, JudgesCells, first_wrong, flawed, found_at}
 use Rattle.verify_cmd.specs.declared.fault.VerifyFault.{VerifyFault}
 use Rattle.verify_cmd.specs.declared.report.Report.{Report}
 use Rattle.verify_cmd.proofs.JudgeSteps.{sound_chunk}
@@ -101,18 +102,18 @@ wrong_first m dataset s b cells left rest cell wrong all e is here =
     ap (λ xs. first_some (map (flawed m dataset s) xs)) (sym is ∙ ap (λ r. cells ++ r) e) ∙ first_behind (judge m dataset s) cells rest cell wrong all here
 
 by_cell : (m : Objects) (dataset : Name) (s : Scale) (b : Box3) (cells left rest : List Cell) (cell : Cell) (fault : JudgeFault) → All (λ c. judge m dataset s c ≡ None) cells → left ≡ cell ∷ rest → cells ++ left ≡ cells_in s b
-    → JudgesCell (Err fault) m dataset s cell → Verifies (Err (found_at cell fault)) m dataset s b
+    → JudgesCell (Err fault) m dataset s cell → JudgesCells (Err (found_at cell fault)) m dataset s b
 by_cell m dataset s b cells left rest cell NotRead all e is h = tt
 by_cell m dataset s b cells left rest cell (Damaged fault) all e is h = wrong_first m dataset s b cells left rest cell (DamagedBy fault) all e is h
 by_cell m dataset s b cells left rest cell (Misplaced shard k id) all e is h = (cell, wrong_first m dataset s b cells left rest cell (MisplacedAt shard k id) all e is h)
 
 pub cell_refused : (m : Objects) (dataset : Name) (s : Scale) (b : Box3) (cells left rest : List Cell) (cell : Cell) (report : Report) (r : Result Bool JudgeFault) (fault : JudgeFault) (told : VerifyFault) → r ≡ Err fault → told ≡ found_at cell fault
-    → SoundSoFar m dataset s cells report → left ≡ cell ∷ rest → cells ++ left ≡ cells_in s b → JudgesCell r m dataset s cell → Verifies (Err told) m dataset s b
+    → SoundSoFar m dataset s cells report → left ≡ cell ∷ rest → cells ++ left ≡ cells_in s b → JudgesCell r m dataset s cell → JudgesCells (Err told) m dataset s b
 cell_refused m dataset s b cells left rest cell report r fault told err as_told was e is h =
-    subst (λ t. Verifies (Err t) m dataset s b) (sym as_told) (by_cell m dataset s b cells left rest cell fault was.sound e is (subst (λ x. JudgesCell x m dataset s cell) err h))
+    subst (λ t. JudgesCells (Err t) m dataset s b) (sym as_told) (by_cell m dataset s b cells left rest cell fault was.sound e is (subst (λ x. JudgesCell x m dataset s cell) err h))
 
 -- the whole part is sound
-pub part_sound : (m : Objects) (dataset : Name) (s : Scale) (b : Box3) (cells : List Cell) (report : Report) → cells ≡ cells_in s b → report.cells ≡ length cells → SoundSoFar m dataset s cells report → IsReport m dataset s b report
+pub part_sound : (m : Objects) (dataset : Name) (s : Scale) (b : Box3) (cells : List Cell) (report : Report) → cells ≡ cells_in s b → report.cells ≡ length cells → SoundSoFar m dataset s cells report → IsCellReport m dataset s b report
 part_sound m dataset s b cells report all count was =
     let whole : SoundSoFar m dataset s (cells_in s b) report = subst (λ xs. SoundSoFar m dataset s xs report) all was in
     record { sound = whole.sound; cells = count ∙ ap length all; stored = whole.stored; absent = whole.absent }

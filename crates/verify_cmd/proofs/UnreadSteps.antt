@@ -5,7 +5,7 @@ use Rattle.command_base.specs.Statuses.{refuses}
 use Rattle.verify_cmd.specs.Refusals.{verify_status}
 use Rattle.verify_cmd.specs.Verified.{unverified}
 use Rattle.verify_cmd.specs.declared.fault.VerifyFault.{VerifyFault}
-use Rattle.verify_cmd.specs.declared.fault.VerifyFault.TheVariants.{OutsideScale, TooManyCells, Damaged, Misplaced, StoreFault, OutOfMemory}
+use Rattle.verify_cmd.specs.declared.fault.VerifyFault.TheVariants.{OutsideScale, TooManyCells, Damaged, Misplaced, ViewDamaged, Conflict, StoreFault, OutOfMemory}
 use Rattle.verify_cmd.specs.declared.refusal.VerifyRefusal.{VerifyRefusal}
 use Rattle.verify_cmd.specs.declared.report.Report.{Report}
 
@@ -16,6 +16,8 @@ refused_part r OutsideScale part all P is outside many told = outside is
 refused_part r (TooManyCells n) part all P is outside many told = many n is
 refused_part r (Damaged cell fault) part all P is outside many told = cc told
 refused_part r (Misplaced shard minishard id) part all P is outside many told = cc told
+refused_part r (ViewDamaged view cell fault) part all P is outside many told = cc told
+refused_part r (Conflict view place channel found wanted) part all P is outside many told = cc told
 refused_part r StoreFault part all P is outside many told = cc told
 refused_part r OutOfMemory part all P is outside many told = cc told
 

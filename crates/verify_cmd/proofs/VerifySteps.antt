@@ -7,6 +7,7 @@ use Rattle.vol_spec.specs.Grid.{Inside, whole}
 use Rattle.vol_spec.specs.Types.{Name}
 use Rattle.vol_spec.specs.declared.scale.Scale.{Scale}
 use Rattle.verify_cmd.proofs.PartSteps.{sound_first, sound_undamaged}
+use Rattle.verify_cmd.proofs.ViewSteps.{all_sound}
 use Rattle.verify_cmd.specs.Verifying.{CanJudge, IsTooMany, Verifies}
 use Rattle.verify_cmd.specs.declared.fault.VerifyFault.{VerifyFault}
 use Rattle.verify_cmd.specs.declared.fault.VerifyFault.TheVariants as fault
@@ -46,11 +47,13 @@ module _ (r : Result Report VerifyFault) (s : Scale) (b : Box3) (bounds : Bounds
   refused_part (fault.TooManyCells n) m dataset is verified = bounds.many n is
   refused_part (fault.Damaged cell found) m dataset is verified = (bounds.judged (λ e. cc (is, e)) (λ n e. cc (is, e)), verified)
   refused_part (fault.Misplaced shard minishard id) m dataset is verified = (bounds.judged (λ e. cc (is, e)) (λ n e. cc (is, e)), verified.0, verified.1)
+  refused_part (fault.ViewDamaged view cell found) m dataset is verified = (bounds.judged (λ e. cc (is, e)) (λ n e. cc (is, e)), verified.0, verified.1)
+  refused_part (fault.Conflict view place channel found wanted) m dataset is verified = (bounds.judged (λ e. cc (is, e)) (λ n e. cc (is, e)), verified.0, verified.1)
   refused_part fault.StoreFault m dataset is verified = tt
   refused_part fault.OutOfMemory m dataset is verified = tt
 
   found_part : (report : Report) (m : Objects) (dataset : Name) → r ≡ Ok report → Verifies (Ok report) m dataset s b → JudgesScale (Ok report) m dataset s b
-  found_part report m dataset is verified = (bounds.judged (λ e. cc (is, e)) (λ n e. cc (is, e)), verified, sound_undamaged m dataset s b verified.sound)
+  found_part report m dataset is verified = (bounds.judged (λ e. cc (is, e)) (λ n e. cc (is, e)), verified, sound_undamaged m dataset s b verified.sound.first_sound)
 
   -- a fault, as a refusal
   pub refused_judges : (found : VerifyFault) (refusal : VerifyRefusal) (o : Option Objects) (dataset : Name) (part : Option Box3) → r ≡ Err found → refusal ≡ unverified b (whole s) found → b ≡ part_in s part
@@ -70,6 +73,8 @@ module _ (r : Result Report VerifyFault) (s : Scale) (b : Box3) (bounds : Bounds
   asked_part (fault.TooManyCells n) part is chosen = tt
   asked_part (fault.Damaged cell found) part is chosen = tt
   asked_part (fault.Misplaced shard minishard id) part is chosen = tt
+  asked_part (fault.ViewDamaged view cell found) part is chosen = tt
+  asked_part (fault.Conflict view place channel found wanted) part is chosen = tt
   asked_part fault.StoreFault part is chosen = tt
   asked_part fault.OutOfMemory part is chosen = tt
 
@@ -84,6 +89,8 @@ of_scale (Err (refused.Outside told all)) m dataset s part h = h
 of_scale (Err (refused.TooManyCells cells)) m dataset s part h = h
 of_scale (Err (refused.Damaged cell found)) m dataset s part h = h
 of_scale (Err (refused.Misplaced shard minishard id)) m dataset s part h = h
+of_scale (Err (refused.ViewDamaged view cell found)) m dataset s part h = h
+of_scale (Err (refused.Conflict view place channel found wanted)) m dataset s part h = h
 of_scale (Err refused.StoreFault) m dataset s part h = tt
 of_scale (Err refused.NoMemory) m dataset s part h = tt
 
@@ -136,10 +143,16 @@ refused_sound (refused.TooManyCells cells) m dataset key part judges can =
     (λ s h k. omega (arith, h.many, k.0.1)))
 refused_sound (refused.Damaged cell found) m dataset key part judges can =
     absurd (clash (stored_scale m dataset key) (λ s. JudgesScale (Err (refused.Damaged cell found)) m dataset s (part_in s part)) (λ s. IsFoundSound m dataset s (part_in s part)) judges can
-    (λ s h k. let none = (sound_first m dataset s (part_in s part)).0 k.1 in cc (none, h.1)))
+    (λ s h k. let none = (sound_first m dataset s (part_in s part)).0 k.1.first_sound in cc (none, h.1)))
 refused_sound (refused.Misplaced shard minishard id) m dataset key part judges can =
     absurd (clash (stored_scale m dataset key) (λ s. JudgesScale (Err (refused.Misplaced shard minishard id)) m dataset s (part_in s part)) (λ s. IsFoundSound m dataset s (part_in s part)) judges can
-    (λ s h k. let none = (sound_first m dataset s (part_in s part)).0 k.1 in cc (none, h.2)))
+    (λ s h k. let none = (sound_first m dataset s (part_in s part)).0 k.1.first_sound in cc (none, h.2)))
+refused_sound (refused.ViewDamaged view cell found) m dataset key part judges can =
+    absurd (clash (stored_scale m dataset key) (λ s. JudgesScale (Err (refused.ViewDamaged view cell found)) m dataset s (part_in s part)) (λ s. IsFoundSound m dataset s (part_in s part)) judges can
+    (λ s h k. let none = ((all_sound m dataset s (part_in s part) k.0.0).0 k.1).1 in cc (none, h.2)))
+refused_sound (refused.Conflict view place channel found wanted) m dataset key part judges can =
+    absurd (clash (stored_scale m dataset key) (λ s. JudgesScale (Err (refused.Conflict view place channel found wanted)) m dataset s (part_in s part)) (λ s. IsFoundSound m dataset s (part_in s part)) judges can
+    (λ s h k. let none = ((all_sound m dataset s (part_in s part) k.0.0).0 k.1).1 in cc (none, h.2)))
 refused_sound refused.StoreFault m dataset key part judges can = inl refl
 refused_sound refused.NoMemory m dataset key part judges can = inr refl
 

@@ -13,5 +13,7 @@ verify_fixed dataset (verify.Outside part whole) = tt
 verify_fixed dataset (verify.TooManyCells cells) = tt
 verify_fixed dataset (verify.Damaged cell fault) = tt
 verify_fixed dataset (verify.Misplaced shard minishard id) = tt
+verify_fixed dataset (verify.ViewDamaged view cell fault) = tt
+verify_fixed dataset (verify.Conflict view place channel found wanted) = tt
 verify_fixed dataset verify.StoreFault = refl
 verify_fixed dataset verify.NoMemory = refl

@@ -1,16 +1,18 @@
 -- What `verify` answers (this project's profile).
-use Rattle.std.specs.Prelude.{◌≡◌, ℕ, ◌+◌, ◌*◌, ◌^◌, ◌≤◌, Option, Some, None, Result, Ok as Done, Err, IfSome, IsOkAnd, IsSomeAnd}
+use Rattle.std.specs.Prelude.{◌≡◌, ℕ, ◌+◌, ◌^◌, ◌≤◌, Option, Some, None, Result, Ok as Done, Err, IfSome, IsOkAnd, IsSomeAnd}
 use Rattle.vol_base.specs.declared.boxes.Box3.{Box3}
 use Rattle.vol_base.specs.Boxes.{Within}
 use Rattle.vol_base.specs.Outside.{Objects}
-use Rattle.vol_spec.specs.Costs.{cost}
 use Rattle.vol_spec.specs.Cut.{first_fault}
 use Rattle.vol_spec.specs.Grid.{Inside, whole}
 use Rattle.vol_spec.specs.Types.{Bytes, Cell, Name}
-use Rattle.vol_spec.specs.Verdicts.{Sound}
 use Rattle.vol_spec.specs.Verdicts.Wrong.{Damaged as DamagedBy, Misplaced as MisplacedAt}
 use Rattle.vol_spec.specs.declared.scale.Scale.{Scale}
-use Rattle.verify_cmd.specs.Verifying.{CanJudge, first_wrong, IsReport, IsTooMany}
+use Rattle.size_laws.specs.Findings.{first_finding}
+use Rattle.size_laws.specs.Findings.Finding.{Damaged as DamagedIn, Differs as DiffersIn}
+use Rattle.size_laws.specs.Further.{further}
+use Rattle.size_laws.specs.Sizes.{AllSound}
+use Rattle.verify_cmd.specs.Verifying.{CanJudge, first_wrong, IsReport, IsTooMany, part_cost}
 use Rattle.verify_cmd.specs.declared.fault.VerifyFault.{VerifyFault}
 use Rattle.verify_cmd.specs.declared.fault.VerifyFault.TheVariants as fault
 use Rattle.verify_cmd.specs.declared.report.Report.{Report}
@@ -29,9 +31,9 @@ abbrev pub part_in : Scale → Option Box3 → Box3
 part_in s (Some part) = part
 part_in s None = whole s
 
--- a part that can be judged, and with no cell of which anything is wrong
+-- a part that can be judged, and with no cell of which anything is wrong in any view
 abbrev pub IsFoundSound : Objects → Name → Scale → Box3 → Type 0
-IsFoundSound m dataset s part = CanJudge s part × Sound m dataset s part
+IsFoundSound m dataset s part = CanJudge s part × AllSound m dataset s (further s) part
 
 -- the scale is there, and the part of it is found sound
 abbrev pub CanVerify : Objects → Name → Name → Option Box3 → Type 0
@@ -44,6 +46,9 @@ unverified part all fault.OutsideScale = refused.Outside part all
 unverified part all (fault.TooManyCells cells) = refused.TooManyCells cells
 unverified part all (fault.Damaged cell found) = refused.Damaged cell found
 unverified part all (fault.Misplaced shard minishard id) = refused.Misplaced shard minishard id
+unverified part all (fault.ViewDamaged view cell found) = refused.ViewDamaged view cell found
+unverified part all (fault.Conflict view place channel found wanted) =
+    refused.Conflict view place channel found wanted
 unverified part all fault.StoreFault = refused.StoreFault
 unverified part all fault.OutOfMemory = refused.NoMemory
 
@@ -64,6 +69,12 @@ JudgesScale (Err (refused.Damaged cell found)) m dataset s part = CanJudge s par
 JudgesScale (Err (refused.Misplaced shard minishard id)) m dataset s part =
     CanJudge s part × (cell : Cell) × (first_wrong m dataset s part
     ≡ Some (cell, MisplacedAt shard minishard id))
+JudgesScale (Err (refused.ViewDamaged view cell found)) m dataset s part = CanJudge s part ×
+    (first_wrong m dataset s part ≡ None) ×
+    (first_finding m dataset s (further s) part ≡ Some (DamagedIn view cell found))
+JudgesScale (Err (refused.Conflict view place channel found wanted)) m dataset s part = CanJudge s part ×
+    (first_wrong m dataset s part ≡ None) ×
+    (first_finding m dataset s (further s) part ≡ Some (DiffersIn view place channel found wanted))
 JudgesScale (Err refused.StoreFault) m dataset s part = Unit {0}
 JudgesScale (Err refused.NoMemory) m dataset s part = Unit {0}
 
@@ -97,9 +108,10 @@ abbrev pub Verified : Status → Option Objects → Name → Name → Option Box
 Verified status told dataset key part o = (answer : Result Report VerifyRefusal) ×
     IsRight answer told dataset key part × Ends report_line verify_status (verify_line dataset) answer status o
 
--- how many bytes of the store judging a part costs at most: twice what its cells cost, and none where there is no scale
+-- how many bytes of the store judging a part costs at most: twice what the cells of the first view cost, what the further
+-- views cost beside it, and none where there is no scale
 abbrev pub judgement_cost : Result Scale NoScale → Objects → Name → Option Box3 → ℕ
-judgement_cost (Done s) m dataset part = 2 * cost m dataset s (part_in s part)
+judgement_cost (Done s) m dataset part = part_cost m dataset s (part_in s part)
 judgement_cost (Err why) m dataset part = 0
 
 -- it asks for no more: one byte more than an info document has at most, and what the judgement costs

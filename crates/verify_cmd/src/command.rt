@@ -1,8 +1,7 @@
 //! The command `verify`.
-ghost use Rattle.std.specs.Prelude.{◌≡◌, ◌≤◌, ◌+◌, ◌*◌, ◌^◌, true, false, length, Err, IfErr, IfSome, Some};
+ghost use Rattle.std.specs.Prelude.{◌≡◌, ◌≤◌, ◌+◌, ◌^◌, true, false, length, Err, IfErr, IfSome, Some};
 ghost use Rattle.vol_base.specs.Causes.{HasCauseOf, Rose};
 ghost use Rattle.vol_base.specs.Outside.{Objects, OnlyReads};
-ghost use Rattle.vol_spec.specs.Costs.{cost};
 ghost use Rattle.vol_spec.specs.Grid.{whole as whole_of};
 ghost use Rattle.command_base.specs.Ending.{EndsWell, IsCaused};
 ghost use Rattle.command_base.specs.Outlets.{outlets_of};
@@ -10,6 +9,7 @@ ghost use Rattle.command_base.specs.Scales.{stored_scale};
 ghost use Rattle.command_base.specs.Statuses.{prints, refuses};
 ghost use Rattle.verify_cmd.specs.Refusals.{verify_status};
 ghost use Rattle.verify_cmd.specs.Verified.{AsksTwice, CanVerify, IsAsked, JudgesScale, JudgesStored, part_in, unverified, Verified};
+ghost use Rattle.verify_cmd.specs.Verifying.{part_cost};
 
 use crate::lines::write_verified_line;
 use crate::refusal::VerifyRefusal;
@@ -50,6 +50,22 @@ fn refuse(scale: &Scale, part: &Box3, fault: VerifyFault) -> VerifyRefusal
             minishard,
             id,
         },
+        VerifyFault::ViewDamaged { view, cell, fault } => {
+            VerifyRefusal::ViewDamaged { view, cell, fault }
+        }
+        VerifyFault::Conflict {
+            view,
+            at,
+            channel,
+            found,
+            wanted,
+        } => VerifyRefusal::Conflict {
+            view,
+            at,
+            channel,
+            found,
+            wanted,
+        },
         VerifyFault::StoreFault => VerifyRefusal::StoreFault,
         VerifyFault::OutOfMemory => VerifyRefusal::NoMemory,
     }
@@ -70,7 +86,7 @@ fn judge_scale<S: Source>(
     ensures unread { IfErr result (λ refusal. refuses (verify_status refusal) ≡ true →
         S.asked store.new ≡ S.asked store.old) }
     ensures cost { IfSome (S.objects store.old) (λ m. S.asked store.new ≤ S.asked store.old
-        + 2 * cost m dataset.now scale.now (part_in scale.now part.now)) }
+        + part_cost m dataset.now scale.now (part_in scale.now part.now)) }
     ensures kept { OnlyReads (S.objects store.old) (S.objects store.new) (S.draft store.old)
         (S.draft store.new) }
     ensures cause { HasCauseOf VerifyRefusal.StoreFault (S.faults store.old) (S.faults store.new) result }
@@ -128,7 +144,8 @@ pub fn run_verify<S: Source, O: Outlet, E: Outlet>(
         → (Rose (S.faults store.old) (S.faults store.new) → ⊥)
         → (Rose (O.faults out.old) (O.faults out.new) → ⊥)
         → EndsWell result }
-    // It asks for the document, and for no more than twice what the cells cost.
+    // It asks for the document, and for no more than twice what the cells of the first view cost, and what the further
+    // views cost beside it.
     ensures cost { IfSome (S.objects store.old) (λ m.
         AsksTwice m dataset.now key.now part.now (S.asked store.old) (S.asked store.new)) }
     // A box that is refused asks for the document alone, and what isn't printed calls no output.

@@ -1,25 +1,39 @@
 //! The judgement of a part of a scale.
-ghost use Rattle.std.specs.Prelude.{◌≡◌, ◌≢◌, ◌↔◌, ◌+◌, ◌*◌, ◌<◌, ◌≤◌, ◌^◌, ℕ, length, Err, IfOk, IfSome, None};
+ghost use Rattle.std.specs.Prelude.{◌≡◌, ◌≢◌, ◌↔◌, ◌+◌, ◌*◌, ◌<◌, ◌≤◌, ◌^◌, ℕ, length, Err, IfOk, IfSome, None, Some};
 ghost use Rattle.vol_base.specs.Causes.{HasCauseOf};
 ghost use Rattle.vol_base.specs.Outside.{Objects, OnlyReads};
 ghost use Rattle.vol_spec.specs.Costs.{cost};
 ghost use Rattle.vol_spec.specs.Grid.{cells_in, Inside};
 ghost use Rattle.vol_spec.specs.Verdicts.{Sound};
+ghost use Rattle.size_laws.specs.Findings.{first_finding};
+ghost use Rattle.size_laws.specs.Further.{all_views, further};
+ghost use Rattle.size_laws.specs.Sizes.{AllSound};
+ghost use Rattle.view_judge.specs.Judging.{cells_of};
 ghost use Rattle.verify_cmd.specs.Judges.{Serves};
 ghost use Rattle.verify_cmd.specs.Verified.{IsUndamaged};
-ghost use Rattle.verify_cmd.specs.Verifying.{CanJudge, first_wrong, found_at, IsTooMany, Verifies};
+ghost use Rattle.verify_cmd.specs.Verifying.{CanJudge, first_wrong, found_at, found_in, IsTooMany, JudgesCells, part_cost, Verifies};
 
 use crate::cell::CellJudge;
-use crate::report::count_cell;
+use crate::report::{count_cell, join_reports};
 use crate::{Report, VerifyFault};
 use chunk_grid::{cells, count_cells, inside, tell_cells};
 use index_judge::JudgeFault;
 use std::alloc::Global;
+use view_judge::{ViewFault, ViewJudge, count_view_cells};
 use vol_base::{Box3, Name, Source};
 use vol_spec::Scale;
 
-// The most cells that are judged at once.
+// The most cells that are judged at once, of all views together.
 const MOST_CELLS: u128 = 1 << 22;
+
+// How many cells of all views meet a part.
+fn count_all(scale: &Scale, part: &Box3) -> u128
+    requires { Inside scale.now part.now }
+    ensures { result ≡ cells_of (all_views scale.now) part.now }
+{
+    let _sizes = scale.more.len();
+    count_cells(scale, part) + count_view_cells(scale, part)
+}
 
 // What is told of a part, by what is wrong with a cell.
 fn place_fault(cell: [u64; 3], fault: JudgeFault) -> VerifyFault
@@ -43,7 +57,34 @@ fn place_fault(cell: [u64; 3], fault: JudgeFault) -> VerifyFault
     }
 }
 
-// Judges the cells that meet the part, x fastest, up to and with the first with which something is wrong.
+// What is told of a part, by what is wrong with a further view.
+fn place_view_fault(fault: ViewFault) -> VerifyFault
+    ensures value { result ≡ found_in fault }
+    ensures inside { result ≢ VerifyFault.OutsideScale }
+    ensures few { (n : ℕ) → result ≢ VerifyFault.TooManyCells n }
+    ensures memory { result ≢ VerifyFault.OutOfMemory }
+{
+    match fault {
+        ViewFault::StoreFault => VerifyFault::StoreFault,
+        ViewFault::First { cell, fault } => VerifyFault::Damaged { cell, fault },
+        ViewFault::Damaged { view, cell, fault } => VerifyFault::ViewDamaged { view, cell, fault },
+        ViewFault::Differs {
+            view,
+            at,
+            channel,
+            found,
+            wanted,
+        } => VerifyFault::Conflict {
+            view,
+            at,
+            channel,
+            found,
+            wanted,
+        },
+    }
+}
+
+// Judges the cells of the first view that meet the part, x fastest, up to and with the first with which something is wrong.
 fn judge_cells<S: Source>(
     judge: &mut CellJudge,
     store: &mut S,
@@ -55,7 +96,8 @@ fn judge_cells<S: Source>(
     requires inside { Inside scale.now part.now }
     requires few { length (cells_in scale.now part.now) ≤ 2 ^ 22 }
     requires serves { Serves (S.objects store.old) dataset.now scale.now judge.old }
-    ensures verified { IfSome (S.objects store.old) (λ m. Verifies result m dataset.now scale.now part.now) }
+    ensures judged { IfSome (S.objects store.old) (λ m.
+        JudgesCells result m dataset.now scale.now part.now) }
     ensures cells { IfOk result (λ report. report.cells ≡ length (cells_in scale.now part.now)) }
     ensures both { IfOk result (λ report. report.stored + report.absent ≡ report.cells) }
     ensures inside { result ≢ Err VerifyFault.OutsideScale }
@@ -82,10 +124,49 @@ fn judge_cells<S: Source>(
     Ok(report)
 }
 
+// Judges the part by all views: the cells of the first one, and then each further one beside it.
+fn judge_views<S: Source>(
+    judge: &mut CellJudge,
+    others: &mut ViewJudge,
+    store: &mut S,
+    dataset: &Name,
+    scale: &Scale,
+    part: &Box3,
+) -> Result<Report, VerifyFault>
+    requires dataset { length dataset.now ≤ 200 }
+    requires inside { Inside scale.now part.now }
+    requires few { cells_of (all_views scale.now) part.now ≤ 2 ^ 22 }
+    requires serves { Serves (S.objects store.old) dataset.now scale.now judge.old }
+    requires of_dataset { others.old.dataset ≡ dataset.now }
+    requires of_scale { others.old.scale ≡ scale.now }
+    ensures verified { IfSome (S.objects store.old) (λ m. Verifies result m dataset.now scale.now part.now) }
+    ensures cells { IfOk result (λ report. report.cells ≡ cells_of (all_views scale.now) part.now) }
+    ensures both { IfOk result (λ report. report.stored + report.absent ≡ report.cells) }
+    ensures inside { result ≢ Err VerifyFault.OutsideScale }
+    ensures within { (n : ℕ) → result ≢ Err (VerifyFault.TooManyCells n) }
+    ensures memory { result ≢ Err VerifyFault.OutOfMemory }
+    ensures kept { OnlyReads (S.objects store.old) (S.objects store.new) (S.draft store.old)
+        (S.draft store.new) }
+    ensures asked { IfSome (S.objects store.old) (λ m.
+        S.asked store.new ≤ S.asked store.old + part_cost m dataset.now scale.now part.now) }
+    ensures cause { HasCauseOf VerifyFault.StoreFault (S.faults store.old) (S.faults store.new) result }
+{
+    let first = match judge_cells(judge, store, dataset, scale, part) {
+        Ok(first) => first,
+        Err(fault) => return Err(fault),
+    };
+    match others.judge(store, part) {
+        Ok(found) => Ok(join_reports(first, found)),
+        Err(fault) => Err(place_view_fault(fault)),
+    }
+}
+
 /// Judges the stored chunks of the cells that meet a part, x fastest: of each cell the way to its minishard
 /// index and all rows of that index, where the scale is sharded, and then its chunk, decoded (this project's
-/// profile). The part is refused where it isn't inside the scale, or where more than 2^22 cells meet it. Else
-/// the first cell with which something is wrong is told, with that; or how many chunks are stored and absent.
+/// profile). A scale of several chunk sizes is judged so by the first; and then, size by size, each cell of a
+/// further one by its chunk, and by its values in the part, which have to be those of the first. The part is
+/// refused where it isn't inside the scale, or where more than 2^22 cells of all sizes meet it. Else the first
+/// that is wrong is told; or how many chunks are stored and absent, of all sizes together.
 ///
 /// Memory is taken before the first read; where there is none, the answer is `OutOfMemory`.
 pub fn verify<S: Source>(
@@ -101,13 +182,13 @@ pub fn verify<S: Source>(
     ensures judged { result ≢ Err VerifyFault.OutsideScale →
         ((n : ℕ) → result ≢ Err (VerifyFault.TooManyCells n)) → CanJudge scale.now part.now }
     ensures verified { IfSome (S.objects store.old) (λ m. Verifies result m dataset.now scale.now part.now) }
-    ensures cells { IfOk result (λ report. report.cells ≡ length (cells_in scale.now part.now)) }
+    ensures cells { IfOk result (λ report. report.cells ≡ cells_of (all_views scale.now) part.now) }
     ensures both { IfOk result (λ report. report.stored + report.absent ≡ report.cells) }
     ensures kept { OnlyReads (S.objects store.old) (S.objects store.new) (S.draft store.old)
         (S.draft store.new) }
-    // It asks for no more than twice what the cells cost.
+    // It asks for no more than twice what the cells of the first view cost, and what the further views cost beside it.
     ensures asked { IfSome (S.objects store.old) (λ m.
-        S.asked store.new ≤ S.asked store.old + 2 * cost m dataset.now scale.now part.now) }
+        S.asked store.new ≤ S.asked store.old + part_cost m dataset.now scale.now part.now) }
     ensures cause { HasCauseOf VerifyFault.StoreFault (S.faults store.old) (S.faults store.new) result }
     // Where there is no memory, nothing was read.
     ensures unread { result ≡ Err VerifyFault.OutOfMemory → (S.asked store.new ≡ S.asked store.old) ×
@@ -120,21 +201,29 @@ pub fn verify<S: Source>(
     if !inside(scale, part) {
         return Err(VerifyFault::OutsideScale);
     }
-    let count = count_cells(scale, part);
+    let count = count_all(scale, part);
     if count > MOST_CELLS {
         return Err(VerifyFault::TooManyCells { cells: count });
     }
     let Ok(mut judge) = CellJudge::reserve(alloc, scale) else {
         return Err(VerifyFault::OutOfMemory);
     };
-    judge_cells(&mut judge, store, dataset, scale, part)
+    let Ok(mut others) = ViewJudge::reserve(alloc, dataset, scale) else {
+        return Err(VerifyFault::OutOfMemory);
+    };
+    judge_views(&mut judge, &mut others, store, dataset, scale, part)
 }
 
-/// Does nothing: its clauses say that a part is sound exactly where there is no first cell with which something
-/// is wrong, and that no cutout of a box in it is damaged then.
+/// Does nothing: its clauses say that a part is sound in the first view exactly where there is no first cell with which
+/// something is wrong; in all views exactly where, besides, there is no finding in the further ones; and that no cutout
+/// of a box in it is damaged where it is sound in the first.
 pub fn tell_sound(dataset: &Name, scale: &Scale, part: &Box3)
     ensures sound { (m : Objects) → Sound m dataset.now scale.now part.now ↔
         (first_wrong m dataset.now scale.now part.now ≡ None) }
+    ensures all_sound { (m : Objects) → Inside scale.now part.now →
+        AllSound m dataset.now scale.now (further scale.now) part.now ↔
+        (first_wrong m dataset.now scale.now part.now ≡ None)
+        × (first_finding m dataset.now scale.now (further scale.now) part.now ≡ None) }
     ensures undamaged { (m : Objects) → Sound m dataset.now scale.now part.now →
         IsUndamaged m dataset.now scale.now part.now }
 {}

@@ -2,7 +2,7 @@
 ghost use Rattle.verify_cmd.specs.Fixed.{verify_fixed};
 ghost use Rattle.verify_cmd.specs.Refusals.{verify_line, verify_status};
 
-use crate::lines::write_misplaced_line;
+use crate::lines::{write_conflict_line, write_misplaced_line, write_view_damaged_line};
 use crate::refusal::VerifyRefusal;
 use command_base::{
     Refusal, Status, write_cells_line, write_damaged_line, write_outside_line, write_why,
@@ -23,7 +23,10 @@ impl Refusal for VerifyRefusal {
             VerifyRefusal::Outside { .. } | VerifyRefusal::TooManyCells(_) => {
                 Status::RequestRefused
             }
-            VerifyRefusal::Damaged { .. } | VerifyRefusal::Misplaced { .. } => Status::Damaged,
+            VerifyRefusal::Damaged { .. }
+            | VerifyRefusal::Misplaced { .. }
+            | VerifyRefusal::ViewDamaged { .. }
+            | VerifyRefusal::Conflict { .. } => Status::Damaged,
             VerifyRefusal::StoreFault => Status::StoreFault,
             VerifyRefusal::NoMemory => Status::NoMemory,
         }
@@ -46,6 +49,18 @@ impl Refusal for VerifyRefusal {
                 minishard,
                 id,
             } => Ok(write_misplaced_line(alloc, *shard, *minishard, *id)?.into_bytes()),
+            VerifyRefusal::ViewDamaged { view, cell, fault } => {
+                Ok(write_view_damaged_line(alloc, *view, *cell, *fault)?.into_bytes())
+            }
+            VerifyRefusal::Conflict {
+                view,
+                at,
+                channel,
+                found,
+                wanted,
+            } => Ok(write_conflict_line(
+                alloc, *view, *at, *channel, *found, *wanted,
+            )?.into_bytes()),
             VerifyRefusal::StoreFault | VerifyRefusal::NoMemory => unreachable!(),
         }
     }

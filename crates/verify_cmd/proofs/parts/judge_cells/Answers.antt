@@ -51,15 +51,15 @@ loop-cell-preserved g c =
       later = omega (arith, c.in-Ok.ensures.cause.stands, c.loop-cell.invariant.later);
     }
 
-pub returns-in-Err-clause-verified : goal.returns-in-Err-clause-verified
-returns-in-Err-clause-verified g c =
+pub returns-in-Err-clause-judged : goal.returns-in-Err-clause-judged
+returns-in-Err-clause-judged g c =
     in_told _ _ (λ m told.
     cell_refused m c.args.dataset.now c.args.scale.now c.args.part.now c.loop-cell.yielded c.loop-cell.cell-iterator c.next.new.self c.in-Some.cell c.loop-cell.report c.judge.result c.in-Err.fault c.place_fault.result c.in-Err.is c.place_fault.ensures.value
     (c.loop-cell.invariant.sound m told) c.in-Some.ensures.steps c.loop-cell.invariant.left
     (from_told _ _ m (c.loop-cell.invariant.kept.same_objects ∙ told) c.judge.ensures.judged))
 
-pub returns-clause-verified : goal.returns-clause-verified
-returns-clause-verified g c =
+pub returns-clause-judged : goal.returns-clause-judged
+returns-clause-judged g c =
     in_told _ _ (λ m told.
     part_sound m c.args.dataset.now c.args.scale.now c.args.part.now c.loop-cell.yielded c.loop-cell.report
     (at_end c.loop-cell.yielded c.loop-cell.cell-iterator (cells_in c.args.scale.now c.args.part.now) c.in-None.ensures.steps.0 c.loop-cell.invariant.left) c.loop-cell.invariant.cells (c.loop-cell.invariant.sound m told))

@@ -1,0 +1,12 @@
+//! Judges the further views of a scale of several chunk sizes: whether each says what the first one does.
+#![tactic(auto)]
+
+mod counts;
+mod fault;
+mod judge;
+mod report;
+
+pub use counts::count_view_cells;
+pub use fault::ViewFault;
+pub use judge::ViewJudge;
+pub use report::ViewsReport;
