@@ -1,0 +1,5 @@
+pub mod BoxSteps
+pub mod CellSteps
+pub mod SharedSteps
+pub mod SumSteps
+pub mod ValueSteps
