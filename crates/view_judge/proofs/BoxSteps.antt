@@ -1,7 +1,8 @@
 -- A box of a view that was read, beside the first view.
-use Rattle.std.proofs.Common.{◌≡◌, ◌≢◌, ℕ, ◌+◌, ◌*◌, ◌^◌, ◌<◌, ◌==◌, Bool, true, false, if◌then◌else◌, List, length, map, Option, Some, None, Result, Ok, Err, refl, ap, ◌∙◌, sym, subst, arith, eq-eqb, eqb-true}
+use Rattle.std.proofs.Common.{◌≡◌, ◌≢◌, ◌≤◌, IfSome, ℕ, ◌+◌, ◌*◌, ◌^◌, ◌<◌, ◌==◌, Bool, true, false, if◌then◌else◌, List, length, map, Option, Some, None, Result, Ok, Err, refl, ap, ◌∙◌, sym, subst, arith, eq-eqb, eqb-true}
 use Rattle.std.specs.Prelude.{flat_map, ⊤}
 use Rattle.std.specs.List.{range_with_len}
+use Rattle.vol_base.specs.Causes.{HasCauseOf, Rose}
 use Rattle.vol_base.specs.declared.boxes.Box3.{Box3}
 use Rattle.vol_base.specs.Boxes.{value, voxels}
 use Rattle.vol_base.specs.Outside.{HaveBytes, Objects}
@@ -15,6 +16,8 @@ use Rattle.vol_spec.specs.StoredCells.{raw_bytes}
 use Rattle.vol_spec.specs.Types.{Bytes, Name, Position}
 use Rattle.vol_spec.specs.declared.scale.Scale.{Scale}
 use Rattle.vol_spec.proofs.CutSteps.{flat_map-map, none_faulty, position_covered}
+use Rattle.vol_spec.proofs.Told.{from_told, in_told}
+use Rattle.vol_spec.specs.Costs.{cost}
 use Rattle.vol_spec.proofs.RawSteps.{length-bytes_of, number_again, value-pieces}
 use Rattle.chunk_grid.proofs.ListingSteps.{cells_in-covered}
 use Rattle.copy_laws.proofs.CopyLaw.{value_in-narrow}
@@ -22,12 +25,16 @@ use Rattle.copy_laws.proofs.CopyValues.{none_in, value_sound}
 use Rattle.size_laws.specs.Findings.{Finding, difference_in, differs_at, differs_by}
 use Rattle.size_laws.specs.Findings.Finding.{Differs}
 use Rattle.compare_values.specs.Differences.{IsFirst}
+use Rattle.cutout.specs.Opened.{Opened}
 use Rattle.cutout.specs.Reading.{HasCut}
 use Rattle.cutout.specs.declared.fault.CutFault.{CutFault}
 use Rattle.cutout.specs.declared.fault.CutFault.TheVariants as cutting
 use Rattle.view_judge.specs.Answers.{Compares, IsDifference, JudgesBox, of_first, of_view}
+use Rattle.view_judge.specs.Further.{IsBeside}
+use Rattle.view_judge.specs.Judging.{pair_cost}
 use Rattle.view_judge.specs.declared.fault.ViewFault.{ViewFault}
 use Rattle.view_judge.specs.declared.fault.ViewFault.TheVariants as fault
+use Rattle.view_judge.proofs.CellSteps.{beside_inside}
 use Rattle.view_judge.proofs.SumSteps.{first_number, no_number}
 
 -- a box without a fault is cut out as the values of its positions
@@ -132,3 +139,58 @@ pub first_refused : (m : Objects) (dataset : Name) (s : Scale) (view : ℕ) (v :
 first_refused m dataset s view v b out (cutting.Damaged cell found) h = h
 first_refused m dataset s view v b out cutting.StoreFault h = tt
 first_refused m dataset s view v b out cutting.OutsideScale h = tt
+
+-- the same where the objects may be untold, by a reader of the view and one of the first view
+module _ (o : Option Objects) (reader first : Opened) (k : ℕ) (v : Scale) (b : Box3) (reads : reader.scale ≡ v) (one : reader.dataset ≡ first.dataset) where
+  of_reader : (P : Name → Scale → Type 0) → P reader.dataset reader.scale → P first.dataset v
+  of_reader P h = subst (λ s. P first.dataset s) reads (subst (λ d. P d reader.scale) one h)
+
+  pub view_told : (out : Bytes) (why : CutFault) (told : ViewFault) → told ≡ of_view k why → IfSome o (λ m. HasCut (Err why) m reader.dataset reader.scale b out)
+      → IfSome o (λ m. JudgesBox (Err told) m first.dataset first.scale k v b)
+  view_told out why told e h =
+      in_told o _ (λ m is.
+      subst (λ x. JudgesBox (Err x) m first.dataset first.scale k v b) (sym e)
+      (view_refused m first.dataset first.scale k v b out why (of_reader (λ d s. HasCut (Err why) m d s b out) (from_told o _ m is h))))
+
+  pub first_told : (same : Option Objects) (out : Bytes) (why : CutFault) (told : ViewFault) → same ≡ o → told ≡ of_first why → IfSome same (λ m. HasCut (Err why) m first.dataset first.scale b out)
+      → IfSome o (λ m. JudgesBox (Err told) m first.dataset first.scale k v b)
+  first_told same out why told kept e h =
+      in_told o _ (λ m is.
+      subst (λ x. JudgesBox (Err x) m first.dataset first.scale k v b) (sym e) (first_refused m first.dataset first.scale k v b out why (from_told same _ m (kept ∙ is) h)))
+
+  pub compared_told : (same : Option Objects) (found wanted : Bytes) (done also : ⊤) (result : Result ⊤ ViewFault) → same ≡ o → IsBeside first.scale v → Inside v b → IfSome o HaveBytes
+      → IfSome o (λ m. HasCut (Ok done) m reader.dataset reader.scale b found) → IfSome same (λ m. HasCut (Ok also) m first.dataset first.scale b wanted)
+      → Compares result k b v.channels v.width found wanted → IfSome o (λ m. JudgesBox result m first.dataset first.scale k v b)
+  compared_told same found wanted done also result kept beside inside have cut_v cut_s h =
+      in_told o _ (λ m is.
+      let own : HasCut (Ok done) m first.dataset v b found = of_reader (λ d s. HasCut (Ok done) m d s b found) (from_told o _ m is cut_v) in
+      let theirs : HasCut (Ok also) m first.dataset first.scale b wanted = from_told same _ m (kept ∙ is) cut_s in
+      compared m first.dataset first.scale k v b found wanted (from_told o _ m is have) beside.widths beside.channel_counts inside (beside_inside first.scale v b beside inside) own.0 theirs.0 own.1 theirs.1 result h)
+
+  pub asked_view : (was now : ℕ) → IfSome o (λ m. now ≤ was + cost m reader.dataset reader.scale b) → IfSome o (λ m. now ≤ was + pair_cost m first.dataset first.scale v b)
+  asked_view was now h =
+      in_told o _ (λ m is. let own : now ≤ was + cost m first.dataset v b = of_reader (λ d s. now ≤ was + cost m d s b) (from_told o _ m is h) in omega (arith, own))
+
+  pub asked_both : (same : Option Objects) (was between now : ℕ) → same ≡ o → IfSome o (λ m. between ≤ was + cost m reader.dataset reader.scale b) → IfSome same (λ m. now ≤ between + cost m first.dataset first.scale b)
+      → IfSome o (λ m. now ≤ was + pair_cost m first.dataset first.scale v b)
+  asked_both same was between now kept h l =
+      in_told o _ (λ m is.
+      let own : between ≤ was + cost m first.dataset v b = of_reader (λ d s. between ≤ was + cost m d s b) (from_told o _ m is h) in
+      let more : now ≤ between + cost m first.dataset first.scale b = from_told same _ m (kept ∙ is) l in
+      omega (arith, own, more))
+
+-- what failed, and what didn't
+pub first_cause : (why : CutFault) (told : ViewFault) (before between now : ℕ) → told ≡ of_first why → (why ≡ cutting.OutsideScale → ⊥) → between ≡ before → HasCauseOf {T = ⊤} cutting.StoreFault between now (Err why)
+    → HasCauseOf {T = ⊤} fault.StoreFault before now (Err told)
+first_cause (cutting.Damaged cell found) told before between now e inside same h = let later = h.later in record { later = omega (arith, later, same); failed = λ is. absurd (cc (e, is)); stands = tt }
+first_cause cutting.StoreFault told before between now e inside same h =
+    let later = h.later in
+    record { later = omega (arith, later, same); failed = λ is. subst (λ n. Rose n now) same (h.failed refl); stands = tt }
+first_cause cutting.OutsideScale told before between now e inside same h = absurd (inside refl)
+
+pub compared_cause : (result : Result ⊤ ViewFault) (view : ℕ) (b : Box3) (channels w : ℕ) (found wanted : Bytes) (before now : ℕ) → now ≡ before → Compares result view b channels w found wanted → HasCauseOf fault.StoreFault before now result
+compared_cause (Ok done) view b channels w found wanted before now e h = record { later = omega (arith, e); failed = λ is. absurd (cc is); stands = e }
+compared_cause (Err (fault.Differs k place c u v)) view b channels w found wanted before now e h = record { later = omega (arith, e); failed = λ is. absurd (cc is); stands = tt }
+compared_cause (Err (fault.Damaged k cell why)) view b channels w found wanted before now e h = absurd h
+compared_cause (Err (fault.First cell why)) view b channels w found wanted before now e h = absurd h
+compared_cause (Err fault.StoreFault) view b channels w found wanted before now e h = absurd h

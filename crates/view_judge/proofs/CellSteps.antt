@@ -36,19 +36,28 @@ record IsOf (f : Cell → Option Fault) (cells : List Cell) (cell : Cell) (found
   pub listed : Contains cells cell
   pub faulty : f cell ≡ Some found
 
+cell_in : Cell → Option (Cell × Fault) → Cell
+cell_in d None = d
+cell_in d (Some both) = both.0
+
+fault_from : Fault → Option (Cell × Fault) → Fault
+fault_from d None = d
+fault_from d (Some both) = both.1
+
 module _ (f : Cell → Option Fault) where
   abbrev with_cell : Cell → Option (Cell × Fault)
   with_cell cell = option_map (λ found. (cell, found)) (f cell)
 
   listed_first : (cells : List Cell) (cell : Cell) (found : Fault) → first_some (map with_cell cells) ≡ Some (cell, found) → IsOf f cells cell found
+  unfolding cell_in fault_from
   listed_first [] cell found e = absurd (cc e)
-  listed_first (x ∷ xs) cell found e = by (f x) refl e
+  listed_first (x ∷ xs) cell found e = by (f x) refl (listed_first xs cell found) e
     where
-      by : (o : Option Fault) → f x ≡ o → first_some (option_map (λ found. (x, found)) o ∷ map with_cell xs) ≡ Some (cell, found) → IsOf f (x ∷ xs) cell found
-      by None is e = let rest = listed_first xs cell found e in record { listed = Contains-cons x xs cell rest.listed; faulty = rest.faulty }
-      by (Some own) is e =
-          let same : x ≡ cell = cc e in
-          let same_fault : own ≡ found = cc e in
+      by : (o : Option Fault) → f x ≡ o → (first_some (map with_cell xs) ≡ Some (cell, found) → IsOf f xs cell found) → first_some (option_map (λ found. (x, found)) o ∷ map with_cell xs) ≡ Some (cell, found) → IsOf f (x ∷ xs) cell found
+      by None is behind e = let rest : IsOf f xs cell found = behind e in record { listed = Contains-cons x xs cell rest.listed; faulty = rest.faulty }
+      by (Some own) is behind e =
+          let same : x ≡ cell = ap (cell_in x) e in
+          let same_fault : own ≡ found = ap (fault_from own) e in
           record { listed = (0, omega arith, same); faulty = ap f (sym same) ∙ is ∙ ap (λ k. Some k) same_fault }
 
 first_of : (m : Objects) (dataset : Name) (s : Scale) (b : Box3) (cell : Cell) (found : Fault) → first_fault m dataset s b ≡ Some (cell, found) → IsOf (fault_in m dataset s) (cells_in s b) cell found

@@ -3,3 +3,5 @@ pub mod CellSteps
 pub mod SharedSteps
 pub mod SumSteps
 pub mod ValueSteps
+pub mod ViewSteps
+pub mod WalkSteps

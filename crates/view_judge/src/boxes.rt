@@ -81,11 +81,13 @@ pub(crate) fn judge_box<S: Source>(
         (S.draft store.new) }
     ensures cause { HasCauseOf ViewFault.StoreFault (S.faults store.old) (S.faults store.new) result }
 {
-    if let Err(fault) = reader.cutout(store, part, found) {
-        return Err(of_view(number, fault));
+    match reader.cutout(store, part, found) {
+        Ok(()) => {}
+        Err(fault) => return Err(of_view(number, fault)),
     }
-    if let Err(fault) = first.cutout(store, part, wanted) {
-        return Err(of_first(fault));
+    match first.cutout(store, part, wanted) {
+        Ok(()) => {}
+        Err(fault) => return Err(of_first(fault)),
     }
     compare_box(number, view, part, found, wanted)
 }

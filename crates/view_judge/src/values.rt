@@ -1,5 +1,7 @@
 //! The first value in which a view differs from the first view.
-ghost use Rattle.std.specs.Prelude.{◌≡◌, ◌+◌, ◌*◌, ◌<◌, ◌≤◌, ◌^◌, length};
+ghost use Rattle.std.specs.Prelude.{◌≡◌, ◌+◌, ◌*◌, ◌<◌, ◌≤◌, ◌^◌, pos, ◌+ℤ◌, length};
+ghost use Rattle.chunk_grid.specs.Axes.{IsSmallOn};
+ghost use Rattle.vol_base.specs.Boxes.{at, size};
 ghost use Rattle.vol_spec.specs.BoxValues.{channel_of, position_of};
 ghost use Rattle.vol_spec.specs.Grid.{Inside};
 ghost use Rattle.vol_spec.specs.Raw.{digit, raw_len};
@@ -21,6 +23,16 @@ fn read_value(values: &[u8], width: usize, n: usize) -> u64
     LittleEndian::read_uint(&values[width * n..], width)
 }
 
+// A place of a box on an axis, so far from its begin.
+fn place_on(part: &Box3, axis: usize, by: u64) -> i64
+    requires axis { axis < 3 }
+    requires small { IsSmallOn part.now axis }
+    requires within { by < size part.now axis }
+    ensures { result ≡ at part.now.begin axis +ℤ pos by }
+{
+    part.begin[axis] + by as i64
+}
+
 // The position and the channel of the n-th value of a box.
 fn find_place(scale: &Scale, part: &Box3, n: u64) -> ([i64; 3], u32)
     requires inside { Inside scale.now part.now }
@@ -32,9 +44,9 @@ fn find_place(scale: &Scale, part: &Box3, n: u64) -> ([i64; 3], u32)
     let row = n / x;
     let plane = row / y;
     let at = [
-        part.begin[0] + (n % x) as i64,
-        part.begin[1] + (row % y) as i64,
-        part.begin[2] + (plane % z) as i64,
+        place_on(part, 0, n % x),
+        place_on(part, 1, row % y),
+        place_on(part, 2, plane % z),
     ];
     (at, (plane / z) as u32)
 }
