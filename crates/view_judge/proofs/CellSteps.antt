@@ -1,13 +1,15 @@
 -- A cell of a view, as far as it lies in a part.
-use Rattle.std.proofs.Common.{◌≡◌, ℕ, ◌+◌, ◌<◌, Bool, true, false, List, [], ◌∷◌, length, map, take, Option, Some, None, Result, Ok, Err, refl, ap, ◌∙◌, sym, subst, arith}
+use Rattle.std.proofs.Common.{◌≡◌, ℕ, ◌+◌, ◌-◌, ◌*◌, ◌^◌, ◌≤◌, ◌<◌, pos, ◌+ℤ◌, ◌≤ℤ◌, IfSome, lit<, min, Bool, true, false, List, [], ◌∷◌, length, map, take, Option, Some, None, Result, Ok, Err, refl, ap, ◌∙◌, sym, subst, arith}
 use Rattle.std.specs.Prelude.{All, Contains, not, ⊤, ℤ}
 use Rattle.std.specs.FinMap as fin
 use Rattle.std.specs.Option.{is_some, option_map}
+use Rattle.std.proofs.lemmas.Int.{ints}
 use Rattle.std.proofs.lemmas.List.Elements.{All-contains}
+use Rattle.std.proofs.lemmas.Nat.{mul-le}
 use Rattle.vol_base.specs.declared.boxes.Box3.{Box3}
 use Rattle.vol_base.specs.declared.faults.ChunkFault.{ChunkFault}
 use Rattle.vol_base.specs.declared.faults.Fault.{Fault}
-use Rattle.vol_base.specs.Boxes.{Covers}
+use Rattle.vol_base.specs.Boxes.{Covers, size}
 use Rattle.vol_base.specs.Outside.{Objects}
 use Rattle.vol_spec.specs.BoxValues.{first_some}
 use Rattle.vol_spec.specs.CellNames.{cell_name}
@@ -15,18 +17,24 @@ use Rattle.vol_spec.specs.Chunks.{chunk_in, fault_in, fault_of, judged, unless}
 use Rattle.vol_spec.specs.Cut.{faulty, first_fault}
 use Rattle.vol_spec.specs.Encodings.{cell_limit, chunk_fault}
 use Rattle.vol_spec.specs.Grid.{Inside, IsCell, Meets, cell_at, cell_box, cells_in, whole}
+use Rattle.vol_spec.specs.Limits.{first_bytes}
 use Rattle.vol_spec.specs.Places.{id_of}
+use Rattle.vol_spec.specs.Raw.{raw_len}
+use Rattle.vol_spec.proofs.Told.{from_told, in_told}
 use Rattle.vol_spec.specs.StoredBytes.{held, held_by, object_by, object_of, stored_bytes}
 use Rattle.vol_spec.specs.Types.{Bytes, Cell, Name}
 use Rattle.vol_spec.specs.Verdicts.{Sound, damage, index_wrong, judge}
 use Rattle.vol_spec.specs.declared.scale.Scale.{Scale}
-use Rattle.chunk_grid.proofs.GridSteps.{cell_at-only}
+use Rattle.voxel_raw.proofs.Parts.{lies_in}
+use Rattle.chunk_grid.proofs.GridSteps.{cell_at-only, cell_box-short}
+
 use Rattle.chunk_grid.proofs.ListingSteps.{Contains-cons, cells_in-Contains, cells_in-IsCell, cells_in-Meets}
 use Rattle.copy_laws.proofs.CopyValues.{none_in}
 use Rattle.size_laws.specs.Findings.{Finding, common, difference_in, finding_in}
 use Rattle.size_laws.specs.Findings.Finding.{Damaged}
 use Rattle.view_judge.specs.Answers.{HasStored, JudgesBox, JudgesCell}
 use Rattle.view_judge.specs.Further.{IsBeside}
+use Rattle.view_judge.specs.Judging.{pair_cost}
 use Rattle.view_judge.specs.declared.fault.ViewFault.{ViewFault}
 use Rattle.view_judge.specs.declared.fault.ViewFault.TheVariants as fault
 use Rattle.view_judge.proofs.SharedSteps.{common_covers, common_left, common_right, common_some}
@@ -175,3 +183,53 @@ beside_inside s v b beside h = record { some = h.some; within = λ p covered. su
 
 pub beside_inside_back : (s v : Scale) (b : Box3) → IsBeside s v → Inside s b → Inside v b
 beside_inside_back s v b beside h = record { some = h.some; within = λ p covered. subst (λ w. Covers w p) (sym beside.boxes) (h.within p covered) }
+
+-- the box of what is common has no more bytes than the cell, so no more than a chunk
+less_on : (a b : ℤ) (n m : ℕ) → b ≤ℤ a → (a +ℤ pos n) ≤ℤ (b +ℤ pos m) → n ≤ m
+less_on a b n m h k = omega (arith, ints)
+
+shorter : (x y z c w x' y' z' : ℕ) → x ≤ x' → y ≤ y' → z ≤ z' → x * y * z * c * w ≤ x' * y' * z' * c * w
+shorter x y z c w x' y' z' hx hy hz = mul-le (x * y * z * c) w (x' * y' * z' * c) w (mul-le (x * y * z) c (x' * y' * z') c (mul-le (x * y) z (x' * y') z' (mul-le x y x' y' hx hy) hz) (omega arith)) (omega arith)
+
+pub shared_short : (v : Scale) (part : Box3) (cell : Cell) → Meets v cell part → raw_len (common (cell_box v cell) part) v.channels v.width ≤ first_bytes v.width v.channels v.size v.chunk
+shared_short v part cell meets =
+    let some = common_some (cell_box v cell) part meets.0 meets.1 meets.2 in
+    let lies = lies_in (common (cell_box v cell) part) (cell_box v cell) some (common_left (cell_box v cell) part) in
+    let less : (axis : ℕ) → axis < 3 → size (common (cell_box v cell) part) axis ≤ size (cell_box v cell) axis = λ axis l. less_on _ _ _ _ (lies axis l).0 (lies axis l).1 in
+    let all = shorter _ _ _ v.channels v.width _ _ _ (less 0 (lit< tt)) (less 1 (lit< tt)) (less 2 (lit< tt)) in
+    let short = cell_box-short v cell in
+    omega (arith, all, short)
+
+-- what a reader and the lengths of its buffers are asked for
+pub record IsShort (v : Scale) (b : Box3) (len : ℕ) : Type 0 where
+  pub is : len ≡ raw_len b v.channels v.width
+  pub room : len ≤ first_bytes v.width v.channels v.size v.chunk
+  pub few : len ≤ 2 ^ 27
+
+pub is_short : (v : Scale) (part : Box3) (cell : Cell) (b : Box3) (len : ℕ) → Meets v cell part → b ≡ common (cell_box v cell) part → len ≡ min (raw_len b v.channels v.width) (2 ^ 128 - 1) → IsShort v b len
+is_short v part cell b len meets e is =
+    let short : raw_len b v.channels v.width ≤ first_bytes v.width v.channels v.size v.chunk = subst (λ x. raw_len x v.channels v.width ≤ first_bytes v.width v.channels v.size v.chunk) (sym e) (shared_short v part cell meets) in
+    let most = v.first_ok in
+    record { is = omega (arith, is, short, most); room = omega (arith, is, short, most); few = omega (arith, is, short, most) }
+
+-- the same where the objects may be untold
+module _ (o same : Option Objects) (dataset : Name) (s : Scale) (view : ℕ) (v : Scale) (part : Box3) (cell : Cell) (b : Box3) (inside : Inside v part) (is : IsCell v cell) (meets : Meets v cell part) (e : b ≡ common (cell_box v cell) part) (kept : same ≡ o) where
+  pub refused_told : (why : ViewFault) → IfSome same (λ m. JudgesBox (Err why) m dataset s view v b) → IfSome o (λ m. JudgesCell (Err why) m dataset s view v part cell)
+  refused_told why h =
+      in_told o _ (λ m told.
+      cell_refused v part cell inside is meets m dataset s view why (subst (λ x. JudgesBox (Err why) m dataset s view v x) e (from_told same _ m (kept ∙ told) h)))
+
+  pub sound_told : (done : ⊤) (stored : Bool) → v.sharding ≡ None → IfSome o (λ m. stored ≡ is_some (fin.get m (cell_name dataset v cell))) → IfSome same (λ m. JudgesBox (Ok done) m dataset s view v b)
+      → IfSome o (λ m. JudgesCell (Ok stored) m dataset s view v part cell)
+  sound_told done stored alone found h =
+      in_told o _ (λ m told.
+      cell_sound v part cell inside is meets m dataset s view done stored alone (from_told o _ m told found) (subst (λ x. JudgesBox (Ok done) m dataset s view v x) e (from_told same _ m (kept ∙ told) h)))
+
+  pub asked_cell : (was between now : ℕ) → between ≡ was → IfSome same (λ m. now ≤ between + pair_cost m dataset s v b) → IfSome o (λ m. now ≤ was + pair_cost m dataset s v (common (cell_box v cell) part))
+  asked_cell was between now stands h =
+      in_told o _ (λ m told.
+      let own : now ≤ between + pair_cost m dataset s v (common (cell_box v cell) part) = subst (λ x. now ≤ between + pair_cost m dataset s v x) e (from_told same _ m (kept ∙ told) h) in
+      omega (arith, own, stands))
+
+  pub box_inside : Inside v b
+  box_inside = subst (Inside v) (sym e) (shared_inside v part cell inside is meets)
