@@ -27,7 +27,6 @@ use Rattle.vol_spec.specs.Verdicts.{Sound, damage, index_wrong, judge}
 use Rattle.vol_spec.specs.declared.scale.Scale.{Scale}
 use Rattle.voxel_raw.proofs.Parts.{lies_in}
 use Rattle.chunk_grid.proofs.GridSteps.{cell_at-only, cell_box-short}
-
 use Rattle.chunk_grid.proofs.ListingSteps.{Contains-cons, cells_in-Contains, cells_in-IsCell, cells_in-Meets}
 use Rattle.copy_laws.proofs.CopyValues.{none_in}
 use Rattle.size_laws.specs.Findings.{Finding, common, difference_in, finding_in}

@@ -1,5 +1,5 @@
 -- The cells of a view, one after the other.
-use Rattle.std.proofs.Common.{◌≡◌, ◌≤◌, ℕ, ◌+◌, Bool, true, false, List, [], ◌∷◌, ◌++◌, length, map, Option, Some, None, Result, Ok, Err, IfSome, if◌then◌else◌, refl, ap, ◌∙◌, sym, arith}
+use Rattle.std.proofs.Common.{◌≡◌, ◌≤◌, ℕ, ◌+◌, Bool, true, false, List, [], ◌∷◌, ◌++◌, length, map, Option, Some, None, Result, Ok, Err, IfSome, if◌then◌else◌, refl, ap, ◌∙◌, sym, subst, arith}
 use Rattle.std.specs.Prelude.{filter, not}
 use Rattle.std.specs.List.{sum_by}
 use Rattle.std.proofs.lemmas.List.{length-append}
@@ -13,6 +13,7 @@ use Rattle.vol_spec.specs.Grid.{cell_box, cells_in}
 use Rattle.vol_spec.specs.Types.{Bytes, Cell, Name}
 use Rattle.vol_spec.specs.declared.scale.Scale.{Scale}
 use Rattle.vol_spec.proofs.Told.{from_told, in_told}
+use Rattle.cutout.specs.Opened.{Opened}
 use Rattle.size_laws.specs.Findings.{common, finding_in}
 use Rattle.view_judge.specs.Answers.{AreCells, HasStored, JudgesCell, JudgesView}
 use Rattle.view_judge.specs.Judging.{is_absent, is_stored, pair_cost, view_cost}
@@ -123,3 +124,11 @@ module _ (o : Option Objects) (dataset : Name) (s v : Scale) (part : Box3) where
       let more = from_told same _ m (e ∙ told) one in
       let next = sum_next (one_cost m) cells left rest (cells_in v part) cell first is in
       omega (arith, so_far, more, next))
+
+-- what is said of what is as before
+pub moved : (P : Objects → Opened → Opened → Type 0) (o same : Option Objects) (first self was_first was_self : Opened) → same ≡ o → first ≡ was_first → self ≡ was_self → IfSome same (λ m. P m first self) → (m : Objects) → o ≡ Some m
+    → P m was_first was_self
+moved P o same first self was_first was_self kept ef es h m told = subst (λ x. P m x was_self) ef (subst (λ y. P m first y) es (from_told same _ m (kept ∙ told) h))
+
+pub moved_told : (P : Objects → Opened → Opened → Type 0) (o same : Option Objects) (first self was_first was_self : Opened) → same ≡ o → first ≡ was_first → self ≡ was_self → IfSome same (λ m. P m first self) → IfSome o (λ m. P m was_first was_self)
+moved_told P o same first self was_first was_self kept ef es h = in_told o _ (λ m told. moved P o same first self was_first was_self kept ef es h m told)

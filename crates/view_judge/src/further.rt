@@ -97,7 +97,7 @@ impl FurtherView {
         let len = byte_len(&shared, self.scale.channels, self.scale.width) as usize;
         let found = &mut self.found.room()[..len];
         let wanted = &mut self.wanted.room()[..len];
-        judge_box(
+        match judge_box(
             number,
             &self.scale,
             &mut self.reader,
@@ -106,7 +106,10 @@ impl FurtherView {
             &shared,
             found,
             wanted,
-        )?;
+        ) {
+            Ok(()) => {}
+            Err(fault) => return Err(fault),
+        }
         Ok(is_stored)
     }
 
@@ -137,8 +140,10 @@ impl FurtherView {
         let mut report = NONE;
         tell_cells(&self.scale, part);
         for cell in cells(&self.scale, part) {
-            let is_stored = self.judge_cell(number, first, store, cell, part)?;
-            report = add(report, one_cell(is_stored));
+            match self.judge_cell(number, first, store, cell, part) {
+                Ok(is_stored) => report = add(report, one_cell(is_stored)),
+                Err(fault) => return Err(fault),
+            }
         }
         Ok(report)
     }

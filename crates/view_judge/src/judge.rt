@@ -81,8 +81,10 @@ fn judge_views<S: Source>(
     let mut report = NONE;
     let mut k = 0;
     while k < further.len() {
-        let more = further[k].judge(k as u32 + 1, first, store, part)?;
-        report = add(report, more);
+        match further[k].judge(k as u32 + 1, first, store, part) {
+            Ok(more) => report = add(report, more),
+            Err(fault) => return Err(fault),
+        }
         k += 1;
     }
     Ok(report)
@@ -90,11 +92,7 @@ fn judge_views<S: Source>(
 
 impl ViewJudge {
     /// A judge of the further views of a scale. Where there is no memory, it is refused.
-    pub fn reserve(
-        alloc: Global,
-        dataset: &Name,
-        scale: &Scale,
-    ) -> Result<ViewJudge, OutOfMemory>
+    pub fn reserve(alloc: Global, dataset: &Name, scale: &Scale) -> Result<ViewJudge, OutOfMemory>
         requires dataset { length dataset.now ≤ 200 }
         ensures dataset { IfOk result (λ judge. judge.dataset ≡ dataset.now) }
         ensures scale { IfOk result (λ judge. judge.scale ≡ scale.now) }
@@ -107,11 +105,7 @@ impl ViewJudge {
     /// Judges the cells of the further views that meet a part, view by view, x fastest: of each cell its chunk, and then
     /// its values in the part beside the first view's. The first that is wrong is told; else how many chunks are stored
     /// and absent.
-    pub fn judge<S: Source>(
-        &mut self,
-        store: &mut S,
-        part: &Box3,
-    ) -> Result<ViewsReport, ViewFault>
+    pub fn judge<S: Source>(&mut self, store: &mut S, part: &Box3) -> Result<ViewsReport, ViewFault>
         requires inside { Inside self.old.scale part.now }
         requires few { cells_of (further_of self.old.scale) part.now ≤ 2 ^ 22 }
         ensures found { IfSome (S.objects store.old) (λ m. Sound m self.old.dataset self.old.scale part.now →

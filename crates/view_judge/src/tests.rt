@@ -106,7 +106,11 @@ fn judges_a_row(rt: HostRuntime) -> Result<(), Fail> {
         begin: [0, 0, 0],
         size: [3, 1, 1],
     };
-    for (objects, part, answer) in [(&FOUR, ROW, sound), (&OTHER, ROW, differs), (&OTHER, three, sound)] {
+    for (objects, part, answer) in [
+        (&FOUR, ROW, sound),
+        (&OTHER, ROW, differs),
+        (&OTHER, three, sound),
+    ] {
         let row = Row {
             objects,
             failing: &[],
@@ -123,7 +127,11 @@ fn judges_chunks(rt: HostRuntime) -> Result<(), Fail> {
     let alloc = rt.alloc();
     let scale = row_scale(name_of("s")?);
     let short = Row {
-        objects: &[("d/s/0-4_0-1_0-1", &[1, 2, 3, 4]), ("d/s/0-2_0-1_0-1", &[1, 2]), ("d/s/2-4_0-1_0-1", &[3])],
+        objects: &[
+            ("d/s/0-4_0-1_0-1", &[1, 2, 3, 4]),
+            ("d/s/0-2_0-1_0-1", &[1, 2]),
+            ("d/s/2-4_0-1_0-1", &[3]),
+        ],
         failing: &[],
         part: ROW,
         answer: Err(ViewFault::Damaged {
@@ -136,7 +144,10 @@ fn judges_chunks(rt: HostRuntime) -> Result<(), Fail> {
         }),
     };
     let zeros = Row {
-        objects: &[("d/s/0-4_0-1_0-1", &[1, 2, 0, 0]), ("d/s/0-2_0-1_0-1", &[1, 2])],
+        objects: &[
+            ("d/s/0-4_0-1_0-1", &[1, 2, 0, 0]),
+            ("d/s/0-2_0-1_0-1", &[1, 2]),
+        ],
         failing: &[],
         part: ROW,
         answer: Ok(ViewsReport {
@@ -181,9 +192,13 @@ fn tells_calls_that_fail(rt: HostRuntime) -> Result<(), Fail> {
 
 // The values 1 to 4 of channel 0 and 5 to 8 of channel 1, in one cell, in columns and in rows.
 const SQUARE: (&str, &[u8]) = ("d/s/0-2_0-2_0-1", &[1, 2, 3, 4, 5, 6, 7, 8]);
+
 const LEFT: (&str, &[u8]) = ("d/s/0-1_0-2_0-1", &[1, 3, 5, 7]);
+
 const RIGHT: (&str, &[u8]) = ("d/s/1-2_0-2_0-1", &[2, 4, 6, 8]);
+
 const UPPER: (&str, &[u8]) = ("d/s/0-2_0-1_0-1", &[1, 2, 5, 6]);
+
 const LOWER: (&str, &[u8]) = ("d/s/0-2_1-2_0-1", &[3, 4, 7, 8]);
 
 #[test]
@@ -206,7 +221,13 @@ fn judges_a_square(rt: HostRuntime) -> Result<(), Fail> {
     };
     // A later position of channel 0 is told before channel 1 of the first one.
     let channels = Row {
-        objects: &[SQUARE, ("d/s/0-1_0-2_0-1", &[1, 8, 9, 7]), RIGHT, UPPER, LOWER],
+        objects: &[
+            SQUARE,
+            ("d/s/0-1_0-2_0-1", &[1, 8, 9, 7]),
+            RIGHT,
+            UPPER,
+            LOWER,
+        ],
         failing: &[],
         part,
         answer: Err(ViewFault::Differs {
@@ -218,7 +239,13 @@ fn judges_a_square(rt: HostRuntime) -> Result<(), Fail> {
         }),
     };
     let second = Row {
-        objects: &[SQUARE, LEFT, RIGHT, UPPER, ("d/s/0-2_1-2_0-1", &[3, 4, 7, 9])],
+        objects: &[
+            SQUARE,
+            LEFT,
+            RIGHT,
+            UPPER,
+            ("d/s/0-2_1-2_0-1", &[3, 4, 7, 9]),
+        ],
         failing: &[],
         part,
         answer: Err(ViewFault::Differs {

@@ -21,11 +21,15 @@ read_value-requires-2-clause-within c =
     (is_there c.args.view.now c.args.part.now c.args.found.now c.args.wanted.now c.in-Some.n c.requires.inside c.requires.found c.requires.wanted c.in-Some.ensures).wanted_fits
 
 pub returns : goal.returns
-returns c = (refl, c.in-Some.n, record {
-  within = (is_there c.args.view.now c.args.part.now c.args.found.now c.args.wanted.now c.in-Some.n c.requires.inside c.requires.found c.requires.wanted c.in-Some.ensures).within;
-  first = c.in-Some.ensures;
-  place_is = c.find_place-channel.ensures.position;
-  channel_is = c.find_place-channel.ensures.channel;
-  found_is = c.read_value.ensures;
-  wanted_is = c.read_value-2.ensures;
-})
+returns c = (
+  refl,
+  c.in-Some.n,
+  record {
+    within = (is_there c.args.view.now c.args.part.now c.args.found.now c.args.wanted.now c.in-Some.n c.requires.inside c.requires.found c.requires.wanted c.in-Some.ensures).within;
+    first = c.in-Some.ensures;
+    place_is = c.find_place-channel.ensures.position;
+    channel_is = c.find_place-channel.ensures.channel;
+    found_is = c.read_value.ensures;
+    wanted_is = c.read_value-2.ensures;
+  },
+)
