@@ -1,5 +1,5 @@
 -- A box of a view that was read, beside the first view.
-use Rattle.std.proofs.Common.{◌≡◌, ◌≢◌, ◌≤◌, IfSome, ℕ, ◌+◌, ◌*◌, ◌^◌, ◌<◌, ◌==◌, Bool, true, false, if◌then◌else◌, List, length, map, Option, Some, None, Result, Ok, Err, refl, ap, ◌∙◌, sym, subst, arith, eq-eqb, eqb-true}
+use Rattle.std.proofs.Common.{◌≡◌, ◌≢◌, ◌≤◌, IfSome, ℕ, ◌+◌, ◌*◌, ◌^◌, ◌<◌, ◌==◌, Bool, true, false, if◌then◌else◌, List, length, map, Option, Some, None, Result, Ok, Err, refl, ap, ◌∙◌, sym, subst, arith, eq-eqb, eqb-true, ◌-◌, length-take, min, take}
 use Rattle.std.specs.Prelude.{flat_map, ⊤}
 use Rattle.std.specs.List.{range_with_len}
 use Rattle.vol_base.specs.Causes.{HasCauseOf, Rose}
@@ -178,6 +178,10 @@ module _ (o : Option Objects) (reader first : Opened) (k : ℕ) (v : Scale) (b :
       let own : between ≤ was + cost m first.dataset v b = of_reader (λ d s. between ≤ was + cost m d s b) (from_told o _ m is h) in
       let more : now ≤ between + cost m first.dataset first.scale b = from_told same _ m (kept ∙ is) l in
       omega (arith, own, more))
+
+-- the front of a room, as long as a box's values
+pub front_len : (room : Bytes) (raw len : ℕ) → raw ≤ length room → raw ≤ 2 ^ 30 → len ≡ min raw (2 ^ 128 - 1) → length (take len room) ≡ raw
+front_len room raw len h few is = let cut = length-take len room in omega (arith, cut, h, few, is)
 
 -- what failed, and what didn't
 pub first_cause : (why : CutFault) (told : ViewFault) (before between now : ℕ) → told ≡ of_first why → (why ≡ cutting.OutsideScale → ⊥) → between ≡ before → HasCauseOf {T = ⊤} cutting.StoreFault between now (Err why)

@@ -2,6 +2,7 @@
 use Rattle.std.proofs.Common.{◌≡◌, ℕ, ◌+◌, ◌-◌, ◌*◌, ◌^◌, ◌≤◌, ◌<◌, pos, ◌+ℤ◌, ◌≤ℤ◌, IfSome, lit<, min, Bool, true, false, List, [], ◌∷◌, length, map, take, Option, Some, None, Result, Ok, Err, refl, ap, ◌∙◌, sym, subst, arith}
 use Rattle.std.specs.Prelude.{All, Contains, not, ⊤, ℤ}
 use Rattle.std.specs.FinMap as fin
+use Rattle.std.specs.List.{length_refill, refill}
 use Rattle.std.specs.Option.{is_some, option_map}
 use Rattle.std.proofs.lemmas.Int.{ints}
 use Rattle.std.proofs.lemmas.List.Elements.{All-contains}
@@ -10,6 +11,7 @@ use Rattle.vol_base.specs.declared.boxes.Box3.{Box3}
 use Rattle.vol_base.specs.declared.faults.ChunkFault.{ChunkFault}
 use Rattle.vol_base.specs.declared.faults.Fault.{Fault}
 use Rattle.vol_base.specs.Boxes.{Covers, size}
+use Rattle.vol_base.specs.Causes.{HasCauseOf, Rose}
 use Rattle.vol_base.specs.Outside.{Objects}
 use Rattle.vol_spec.specs.BoxValues.{first_some}
 use Rattle.vol_spec.specs.CellNames.{cell_name}
@@ -28,11 +30,13 @@ use Rattle.vol_spec.specs.declared.scale.Scale.{Scale}
 use Rattle.voxel_raw.proofs.Parts.{lies_in}
 use Rattle.chunk_grid.proofs.GridSteps.{cell_at-only, cell_box-short}
 use Rattle.chunk_grid.proofs.ListingSteps.{Contains-cons, cells_in-Contains, cells_in-IsCell, cells_in-Meets}
+use Rattle.chunk_pool.specs.Frames.{Filled}
+use Rattle.cutout.specs.Opened.{Opened}
 use Rattle.copy_laws.proofs.CopyValues.{none_in}
 use Rattle.size_laws.specs.Findings.{Finding, common, difference_in, finding_in}
 use Rattle.size_laws.specs.Findings.Finding.{Damaged}
 use Rattle.view_judge.specs.Answers.{HasStored, JudgesBox, JudgesCell}
-use Rattle.view_judge.specs.Further.{IsBeside}
+use Rattle.view_judge.specs.Further.{IsBeside, IsHeld}
 use Rattle.view_judge.specs.Judging.{pair_cost}
 use Rattle.view_judge.specs.declared.fault.ViewFault.{ViewFault}
 use Rattle.view_judge.specs.declared.fault.ViewFault.TheVariants as fault
@@ -199,17 +203,16 @@ shared_short v part cell meets =
     let short = cell_box-short v cell in
     omega (arith, all, short)
 
--- what a reader and the lengths of its buffers are asked for
-pub record IsShort (v : Scale) (b : Box3) (len : ℕ) : Type 0 where
-  pub is : len ≡ raw_len b v.channels v.width
-  pub room : len ≤ first_bytes v.width v.channels v.size v.chunk
-  pub few : len ≤ 2 ^ 27
+-- so a room for a chunk has place for it
+pub record IsShort (v : Scale) (b : Box3) : Type 0 where
+  pub room : raw_len b v.channels v.width ≤ first_bytes v.width v.channels v.size v.chunk
+  pub few : raw_len b v.channels v.width ≤ 2 ^ 30
 
-pub is_short : (v : Scale) (part : Box3) (cell : Cell) (b : Box3) (len : ℕ) → Meets v cell part → b ≡ common (cell_box v cell) part → len ≡ min (raw_len b v.channels v.width) (2 ^ 128 - 1) → IsShort v b len
-is_short v part cell b len meets e is =
+pub is_short : (v : Scale) (part : Box3) (cell : Cell) (b : Box3) → Meets v cell part → b ≡ common (cell_box v cell) part → IsShort v b
+is_short v part cell b meets e =
     let short : raw_len b v.channels v.width ≤ first_bytes v.width v.channels v.size v.chunk = subst (λ x. raw_len x v.channels v.width ≤ first_bytes v.width v.channels v.size v.chunk) (sym e) (shared_short v part cell meets) in
     let most = v.first_ok in
-    record { is = omega (arith, is, short, most); room = omega (arith, is, short, most); few = omega (arith, is, short, most) }
+    record { room = short; few = omega (arith, short, most) }
 
 -- the same where the objects may be untold
 module _ (o same : Option Objects) (dataset : Name) (s : Scale) (view : ℕ) (v : Scale) (part : Box3) (cell : Cell) (b : Box3) (inside : Inside v part) (is : IsCell v cell) (meets : Meets v cell part) (e : b ≡ common (cell_box v cell) part) (kept : same ≡ o) where
@@ -232,3 +235,26 @@ module _ (o same : Option Objects) (dataset : Name) (s : Scale) (view : ℕ) (v 
 
   pub box_inside : Inside v b
   box_inside = subst (Inside v) (sym e) (shared_inside v part cell inside is meets)
+
+-- its buffers are as long as before, once they were lent
+pub held_again : (dataset : Name) (v : Scale) (reader now : Opened) (found wanted : Filled) (new_found new_wanted : Bytes) → IsHeld dataset v reader found wanted → now ≡ reader
+    → IsHeld dataset v now (record { bytes = refill (length found.bytes) found.bytes new_found; used = found.used }) (record { bytes = refill (length wanted.bytes) wanted.bytes new_wanted; used = wanted.used })
+held_again dataset v reader now found wanted new_found new_wanted h e = record {
+  short = h.short;
+  unsharded = h.unsharded;
+  reads = e ∙ h.reads;
+  room = sym (length_refill (length found.bytes) found.bytes new_found refl) ∙ h.room;
+  beside = sym (length_refill (length wanted.bytes) wanted.bytes new_wanted refl) ∙ h.beside;
+}
+
+-- what failed, and what didn't, after a call that didn't
+pub cause_again : (why : ViewFault) (before between now : ℕ) → between ≡ before → HasCauseOf {T = ⊤} fault.StoreFault between now (Err why) → HasCauseOf {T = Bool} fault.StoreFault before now (Err why)
+cause_again why before between now same h =
+    let later = h.later in
+    record { later = omega (arith, later, same); failed = λ is. subst (λ n. Rose n now) same (h.failed (ap (λ e. Err e) (err_same why is))); stands = tt }
+  where
+    err_same : (why : ViewFault) → ◌≡◌ {A = Result Bool ViewFault} (Err why) (Err fault.StoreFault) → why ≡ fault.StoreFault
+    err_same why is = cc
+
+pub stood_again : (stored : Bool) (before between now : ℕ) → between ≡ before → now ≡ between → HasCauseOf fault.StoreFault before now (Ok stored)
+stood_again stored before between now same also = record { later = omega (arith, same, also); failed = λ is. absurd (cc is); stands = also ∙ same }

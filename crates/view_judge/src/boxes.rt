@@ -12,6 +12,7 @@ ghost use Rattle.view_judge.specs.Judging.{pair_cost};
 
 use crate::ViewFault;
 use crate::values::compare_box;
+use chunk_grid::byte_len;
 use cutout::{CutFault, Reader};
 use vol_base::{Box3, Source};
 use vol_spec::Scale;
@@ -51,8 +52,8 @@ fn of_first(fault: CutFault) -> ViewFault
     }
 }
 
-/// Judges a box of a view: its values are read, and those of the first view beside them. A fault of the view is told
-/// before one of the first view, and both before a value that differs.
+/// Judges a box of a view, with room for its values twice: they are read, and those of the first view beside them. A
+/// fault of the view is told before one of the first view, and both before a value that differs.
 pub(crate) fn judge_box<S: Source>(
     number: u32,
     view: &Scale,
@@ -67,9 +68,9 @@ pub(crate) fn judge_box<S: Source>(
     requires beside { IsBeside first.old.scale view.now }
     requires dataset { reader.old.dataset ≡ first.old.dataset }
     requires inside { Inside view.now part.now }
-    requires found { length found.old ≡ raw_len part.now view.now.channels view.now.width }
-    requires wanted { length wanted.old ≡ raw_len part.now view.now.channels view.now.width }
-    requires limit { length found.old ≤ 2 ^ 30 }
+    requires found { raw_len part.now view.now.channels view.now.width ≤ length found.old }
+    requires wanted { raw_len part.now view.now.channels view.now.width ≤ length wanted.old }
+    requires limit { raw_len part.now view.now.channels view.now.width ≤ 2 ^ 30 }
     requires bytes { IfSome (S.objects store.old) HaveBytes }
     ensures judged { IfSome (S.objects store.old) (λ m.
         JudgesBox result m first.old.dataset first.old.scale number view.now part.now) }
@@ -81,6 +82,9 @@ pub(crate) fn judge_box<S: Source>(
         (S.draft store.new) }
     ensures cause { HasCauseOf ViewFault.StoreFault (S.faults store.old) (S.faults store.new) result }
 {
+    let len = byte_len(part, view.channels, view.width) as usize;
+    let found = &mut found[..len];
+    let wanted = &mut wanted[..len];
     match reader.cutout(store, part, found) {
         Ok(()) => {}
         Err(fault) => return Err(of_view(number, fault)),

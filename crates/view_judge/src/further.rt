@@ -13,7 +13,7 @@ use crate::boxes::{judge_box, shared_box};
 use crate::report::{NONE, add, one_cell};
 use crate::stored::find_stored;
 use crate::{ViewFault, ViewsReport};
-use chunk_grid::{byte_len, cell_box, cells, tell_cells};
+use chunk_grid::{cell_box, cells, tell_cells};
 use chunk_pool::Frame;
 use cutout::Reader;
 use std::alloc::Global;
@@ -94,9 +94,8 @@ impl FurtherView {
     {
         let is_stored = find_stored(store, &self.dataset, &self.scale, cell)?;
         let shared = shared_box(&cell_box(&self.scale, cell), part);
-        let len = byte_len(&shared, self.scale.channels, self.scale.width) as usize;
-        let found = &mut self.found.room()[..len];
-        let wanted = &mut self.wanted.room()[..len];
+        let found = self.found.room();
+        let wanted = self.wanted.room();
         match judge_box(
             number,
             &self.scale,

@@ -1,13 +1,18 @@
-use Rattle.std.proofs.Common.{◌≡◌, ◌∙◌, Err, ap, subst, sym}
+use Rattle.std.proofs.Common.{◌≡◌, ◌≤◌, ◌∙◌, ◌^◌, ◌-◌, Err, ap, arith, length, length-take, min, subst, sym, take}
 use Rattle.vol_spec.specs.Grid.{Inside}
 use Rattle.vol_spec.specs.Raw.{raw_len}
 use Rattle.vol_spec.specs.declared.scale.Scale.{Scale}
-use Rattle.view_judge.proofs.BoxSteps.{asked_both, asked_view, compared_cause, compared_told, first_cause, first_told, view_told}
+use Rattle.view_judge.proofs.BoxSteps.{asked_both, asked_view, compared_cause, compared_told, first_cause, first_told, front_len, view_told}
 use Rattle.view_judge.proofs.CellSteps.{beside_inside}
 use Rattle.view_judge.proofs.boxes.judge_box.Goals as goal
 
+pub overflow_cast-len : goal.overflow_cast-len
+overflow_cast-len g c = let is = c.byte_len-len.ensures in let few = c.requires.limit in omega (arith, is, few)
+
 pub cutout-requires-clause-len : goal.cutout-requires-clause-len
-cutout-requires-clause-len g c = c.requires.found ∙ ap (λ (s : Scale). raw_len c.args.part.now s.channels s.width) (sym c.requires.reads)
+cutout-requires-clause-len g c =
+    front_len c.args.found.now (raw_len c.args.part.now c.args.view.now.channels c.args.view.now.width) c.byte_len-len.result c.requires.found c.requires.limit c.byte_len-len.ensures
+    ∙ ap (λ (s : Scale). raw_len c.args.part.now s.channels s.width) (sym c.requires.reads)
 
 pub of_view-requires : goal.of_view-requires
 of_view-requires g c = λ e. c.cutout.ensures.outside.0 (c.in-Err.is ∙ ap (λ x. Err x) e) (subst (λ (s : Scale). Inside s c.args.part.now) (sym c.requires.reads) c.requires.inside)
@@ -21,7 +26,9 @@ returns-in-Err-clause-asked g c =
     asked_view (g.S.Source.objects c.args.store.now) c.args.reader.now c.args.first.now c.args.number c.args.view.now c.args.part.now c.requires.reads c.requires.dataset (g.S.Source.asked c.args.store.now) _ c.cutout.ensures.asked
 
 pub cutout-requires-2-clause-len : goal.cutout-requires-2-clause-len
-cutout-requires-2-clause-len g c = c.requires.wanted ∙ (λ i. raw_len c.args.part.now (c.requires.beside.channel_counts i) (c.requires.beside.widths i))
+cutout-requires-2-clause-len g c =
+    front_len c.args.wanted.now (raw_len c.args.part.now c.args.view.now.channels c.args.view.now.width) c.byte_len-len.result c.requires.wanted c.requires.limit c.byte_len-len.ensures
+    ∙ (λ i. raw_len c.args.part.now (c.requires.beside.channel_counts i) (c.requires.beside.widths i))
 
 pub of_first-requires : goal.of_first-requires
 of_first-requires g c =
