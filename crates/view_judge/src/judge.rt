@@ -49,8 +49,9 @@ fn reserve_views(
     let mut views = Vec::new(alloc);
     for k in 0..scale.more.len() {
         let view = FurtherView::reserve(alloc, dataset, scale.view(k + 1))?;
-        if views.push(view).is_err() {
-            return Err(OutOfMemory);
+        match views.push(view) {
+            Ok(()) => {}
+            Err(_) => return Err(OutOfMemory),
         }
     }
     Ok(views)
