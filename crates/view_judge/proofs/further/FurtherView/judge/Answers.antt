@@ -1,4 +1,5 @@
 use Rattle.std.proofs.Common.{◌≡◌, ◌≤◌, ◌∙◌, ◌+◌, Err, Ok, arith, ap, length, refl, subst, sym}
+use Rattle.std.specs.List.{All}
 use Rattle.std.proofs.lemmas.List.{length-append}
 use Rattle.std.proofs.lemmas.List.Elements.{All-contains}
 use Rattle.vol_base.specs.Outside.{Objects}
@@ -15,7 +16,7 @@ use Rattle.view_judge.proofs.further.FurtherView.judge.Goals as goal
 
 pub loop-cell-init : goal.loop-cell-init
 loop-cell-init g c = record {
-  left = c.into_iter-cell-iterator.ensures.into_iter_gives ∙ c.cells-cell-items.ensures;
+  left = c.into_iter-cell-iterator.ensures.into_iter_gives ∙ c.cells-cell-items.ensures ∙ ap (λ (r : Opened). cells_in r.scale c.args.part.now) c.self.view_is;
   cells = refl;
   both = refl;
   agree = λ m told. record { agree = refl; stored = refl; absent = refl };
@@ -39,13 +40,13 @@ judge_cell-requires-clause-inside g c = subst (λ (r : Opened). Inside r.scale c
 pub judge_cell-requires-clause-cell : goal.judge_cell-requires-clause-cell
 judge_cell-requires-clause-cell g c =
     subst (λ (r : Opened). IsCell r.scale c.in-Some.cell) (sym c.loop-cell.invariant.same)
-    (All-contains (IsCell c.args.self.now.scale) (cells_in c.args.self.now.scale c.args.part.now) c.in-Some.cell c.tell_cells.ensures.in_grid
+    (All-contains (IsCell c.args.self.now.scale) (cells_in c.args.self.now.scale c.args.part.now) c.in-Some.cell (subst (λ (r : Opened). All (IsCell r.scale) (cells_in r.scale c.args.part.now)) c.self.view_is c.tell_cells.ensures.in_grid)
     (here c.loop-cell.yielded c.loop-cell.cell-iterator c.next.new.self (cells_in c.args.self.now.scale c.args.part.now) c.in-Some.cell c.in-Some.ensures.steps c.loop-cell.invariant.left))
 
 pub judge_cell-requires-clause-meets : goal.judge_cell-requires-clause-meets
 judge_cell-requires-clause-meets g c =
     subst (λ (r : Opened). Meets r.scale c.in-Some.cell c.args.part.now) (sym c.loop-cell.invariant.same)
-    (All-contains (λ cell. Meets c.args.self.now.scale cell c.args.part.now) (cells_in c.args.self.now.scale c.args.part.now) c.in-Some.cell c.tell_cells.ensures.meet
+    (All-contains (λ cell. Meets c.args.self.now.scale cell c.args.part.now) (cells_in c.args.self.now.scale c.args.part.now) c.in-Some.cell (subst (λ (r : Opened). All (λ cell. Meets r.scale cell c.args.part.now) (cells_in r.scale c.args.part.now)) c.self.view_is c.tell_cells.ensures.meet)
     (here c.loop-cell.yielded c.loop-cell.cell-iterator c.next.new.self (cells_in c.args.self.now.scale c.args.part.now) c.in-Some.cell c.in-Some.ensures.steps c.loop-cell.invariant.left))
 
 pub loop-cell-preserved : goal.loop-cell-preserved
