@@ -1,9 +1,10 @@
 -- The further views, one after the other.
-use Rattle.std.proofs.Common.{◌≡◌, ◌≤◌, ◌<◌, ℕ, zero, suc, ◌+◌, ◌*◌, ◌^◌, List, [], ◌∷◌, ◌++◌, length, map, take, get_or, Option, Some, None, Result, Ok, Err, IfSome, refl, ap, ◌∙◌, sym, subst, arith}
+use Rattle.std.proofs.Common.{lit<, ◌≡◌, ◌≤◌, ◌<◌, ℕ, zero, suc, ◌+◌, ◌*◌, ◌^◌, List, [], ◌∷◌, ◌++◌, length, map, take, get_or, Option, Some, None, Result, Ok, Err, IfSome, refl, ap, ◌∙◌, sym, subst, arith}
 use Rattle.std.specs.List.{range_with_len, sum_by}
 use Rattle.std.proofs.lemmas.List.{length-map, map-append, take_all}
 use Rattle.std.proofs.lemmas.List.FromFn.{get_or-map-range_with_len, length-map-range_with_len, map-range_with_len_more}
 use Rattle.std.proofs.lemmas.List.Sums.{get_or-le-sum_by, sum_by-take-le, sum_by_more, sum_by_more_le}
+use Rattle.std.proofs.lemmas.Nat.{mul-le}
 use borrow.Author.Count.{below_more}
 use Rattle.vol_base.specs.declared.boxes.Box3.{Box3}
 use Rattle.vol_base.specs.Boxes.{size, voxels}
@@ -15,6 +16,8 @@ use Rattle.vol_spec.specs.Views.{view}
 use Rattle.vol_spec.specs.declared.scale.Scale.{Scale}
 use Rattle.vol_spec.specs.declared.sharding.Sharding.{Sharding}
 use Rattle.vol_spec.proofs.Told.{from_told, in_told}
+use Rattle.chunk_grid.proofs.CountSteps.{cells_in-voxels}
+use Rattle.chunk_grid.proofs.GridSteps.{Inside-small}
 use Rattle.cutout.specs.Opened.{Opened}
 use Rattle.size_laws.specs.Findings.{Finding, first_finding, view_finding}
 use Rattle.size_laws.specs.Further.{further}
@@ -176,3 +179,25 @@ module _ (o : Option Objects) (dataset : Name) (s : Scale) (part : Box3) where
       let more = from_told same _ m (e ∙ told) one in
       let next = sum_by_more_le (view_cost m dataset s part) (further s) k s (omega (arith, n, l)) in
       omega (arith, so_far, more, next))
+
+-- a view has at most 2^120 cells in a part
+pub cells_most : (s : Scale) (b : Box3) → Inside s b → length (cells_in s b) ≤ 2 ^ 120
+cells_most s b h =
+    let sized : (axis : ℕ) → axis < 3 → size b axis ≤ 2 ^ 40 = λ axis l. (Inside-small s b h axis l).sized in
+    let all : voxels b ≤ 2 ^ 40 * 2 ^ 40 * 2 ^ 40 = mul-le _ _ _ _ (mul-le _ _ _ _ (sized 0 (lit< tt)) (sized 1 (lit< tt))) (sized 2 (lit< tt)) in
+    let few = cells_in-voxels s b h in
+    omega (arith, all, few)
+
+-- what a view's cells are counted with
+pub record IsCounted (s : Scale) (part : Box3) (k new : ℕ) : Type 0 where
+  pub counted : new ≡ cells_of (take (k + 1) (further s)) part
+  pub small : new ≤ (k + 1) * 2 ^ 121
+
+pub counted_more : (s v : Scale) (part : Box3) (k was here : ℕ) → k < length s.more → Inside s part → v ≡ view s (k + 1) → was ≡ cells_of (take k (further s)) part → was ≤ k * 2 ^ 121
+    → here ≡ length (cells_in v part) → IsCounted s part k (was + here)
+counted_more s v part k was here l inside is h small e =
+    let n = further_length s in
+    let own : v ≡ get_or (further s) k s = is ∙ sym (further_at s k (k + 1) s l (omega arith)) in
+    let sum = sum_by_more (λ w. length (cells_in w part)) (further s) k s (omega (arith, n, l)) in
+    let most = cells_most v part (subst (λ w. Inside w part) (sym is) (inside_view s (k + 1) part inside)) in
+    record { counted = (λ i. h i + (e ∙ ap (λ w. length (cells_in w part)) own) i) ∙ sym sum; small = omega (arith, small, e, most) }
