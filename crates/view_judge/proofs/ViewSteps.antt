@@ -3,7 +3,7 @@ use Rattle.std.proofs.Common.{lit<, ◌≡◌, ◌≤◌, ◌<◌, ℕ, zero, su
 use Rattle.std.specs.List.{range_with_len, sum_by}
 use Rattle.std.proofs.lemmas.List.{length-map, map-append, take_all}
 use Rattle.std.proofs.lemmas.List.FromFn.{get_or-map-range_with_len, length-map-range_with_len, map-range_with_len_more}
-use Rattle.std.proofs.lemmas.List.Sums.{get_or-le-sum_by, sum_by-take-le, sum_by_more, sum_by_more_le}
+use Rattle.std.proofs.lemmas.List.Sums.{get_or-le-sum_by, sum_by-cons, sum_by-take-le, sum_by_more, sum_by_more_le}
 use Rattle.std.proofs.lemmas.Nat.{mul-le}
 use borrow.Author.Count.{below_more}
 use Rattle.vol_base.specs.declared.boxes.Box3.{Box3}
@@ -18,6 +18,8 @@ use Rattle.vol_spec.specs.declared.sharding.Sharding.{Sharding}
 use Rattle.vol_spec.proofs.Told.{from_told, in_told}
 use Rattle.chunk_grid.proofs.CountSteps.{cells_in-voxels}
 use Rattle.chunk_grid.proofs.GridSteps.{Inside-small}
+use Rattle.chunk_grid.proofs.ListingSteps.{cells_in-covered}
+use Rattle.voxel_raw.proofs.Parts.{covers_begin}
 use Rattle.cutout.specs.Opened.{Opened}
 use Rattle.size_laws.specs.Findings.{Finding, first_finding, view_finding}
 use Rattle.size_laws.specs.Further.{further}
@@ -201,3 +203,50 @@ counted_more s v part k was here l inside is h small e =
     let sum = sum_by_more (λ w. length (cells_in w part)) (further s) k s (omega (arith, n, l)) in
     let most = cells_most v part (subst (λ w. Inside w part) (sym is) (inside_view s (k + 1) part inside)) in
     record { counted = (λ i. h i + (e ∙ ap (λ w. length (cells_in w part)) own) i) ∙ sym sum; small = omega (arith, small, e, most) }
+
+-- each view has a cell in a part, so there are no more views than cells
+some_cell : (v : Scale) (part : Box3) → Inside v part → 1 ≤ length (cells_in v part)
+some_cell v part inside =
+    let listed = cells_in-covered v part part.begin inside (covers_begin part inside.some) in
+    let below = listed.1 in
+    omega (arith, below)
+
+each_some : (vs : List Scale) (d : Scale) (part : Box3) → ((k : ℕ) → k < length vs → Inside (get_or vs k d) part) → length vs ≤ cells_of vs part
+each_some [] d part h = omega arith
+each_some (v ∷ vs) d part h =
+    let one = some_cell v part (h zero (omega arith)) in
+    let rest = each_some vs d part (λ k l. h (suc k) (omega (arith, l))) in
+    let sum = sum_by-cons (λ w. length (cells_in w part)) v vs in
+    omega (arith, one, rest, sum)
+
+pub views_few : (s : Scale) (part : Box3) → Inside s part → cells_of (further s) part ≤ 2 ^ 22 → length s.more ≤ 2 ^ 22
+views_few s part inside few =
+    let n = further_length s in
+    let all = each_some (further s) s part (λ k l. inside_at s k part (omega (arith, l, n)) inside) in
+    omega (arith, all, few, n)
+
+-- the next view of a list of them, beside the first one
+module _ (was first : Opened) (list : List Opened) (k : ℕ) (e : Opened) (part : Box3) (same : first ≡ was) (is : list ≡ all_opened was.dataset was.scale) (l : k < length list) where
+  abbrev next : Opened
+  next = get_or list k e
+
+  pub next_below : k < length was.scale.more
+  next_below = let n = opened_length was.dataset was.scale list is in omega (arith, l, n)
+
+  pub next_is : next ≡ opened was.dataset (get_or (further was.scale) k was.scale)
+  next_is = opened_at was.dataset was.scale list k next e is l refl
+
+  pub next_beside : IsBeside first.scale next.scale
+  next_beside = subst (λ (r : Opened). IsBeside r.scale next.scale) (sym same) (subst (λ (r : Opened). IsBeside was.scale r.scale) (sym next_is) (beside_at was.scale k next_below))
+
+  pub next_dataset : next.dataset ≡ first.dataset
+  next_dataset = ap (λ (r : Opened). r.dataset) next_is ∙ ap (λ (r : Opened). r.dataset) (sym same)
+
+  pub next_inside : Inside was.scale part → Inside next.scale part
+  next_inside h = subst (λ (r : Opened). Inside r.scale part) (sym next_is) (inside_at was.scale k part next_below h)
+
+  pub next_few : cells_of (further was.scale) part ≤ 2 ^ 22 → length (cells_in next.scale part) ≤ 2 ^ 22
+  next_few h = subst (λ (r : Opened). length (cells_in r.scale part) ≤ 2 ^ 22) (sym next_is) (few_at was.scale part k next_below h)
+
+  pub next_cells : (n : ℕ) → n ≡ length (cells_in next.scale part) → n ≡ length (cells_in (get_or (further was.scale) k was.scale) part)
+  next_cells n h = h ∙ ap (λ (r : Opened). length (cells_in r.scale part)) next_is
