@@ -1,6 +1,6 @@
 -- What a command that writes a list of writes answers over the objects that a store tells (this project's
 -- profile): `write`, whose list stands in the stream that a feed tells, and in part `generate`.
-use Rattle.std.specs.Prelude.{◌≡◌, ◌⊎◌, ℕ, drop, All, ◌≤◌, ◌<◌, ◌+◌, ◌*◌, ◌^◌, true, false, [], length, Option, Some, None, Result, Ok, Err, ⊤, IfErr, IfSome, IsOkAnd, IsSomeAnd}
+use Rattle.std.specs.Prelude.{◌≡◌, ◌⊎◌, ℕ, drop, All, ◌≤◌, ◌+◌, ◌*◌, ◌^◌, true, false, [], length, Option, Some, None, Result, Ok, Err, ⊤, IfErr, IfSome, IsOkAnd, IsSomeAnd}
 use Rattle.std.specs.Option.{option_map}
 use Rattle.vol_base.specs.declared.boxes.Box3.{Box3}
 use Rattle.vol_base.specs.Bytes.{AreBytes}

@@ -621,7 +621,16 @@ fn tells_failing_streams(rt: HostRuntime) -> Result<(), Fail> {
             ..NO_FAULTS
         };
         let status = Status::OutFault;
-        check_failing(&rt, alloc, &IN_CELLS, 1, &faults, status, "output fault\n", 3)?;
+        check_failing(
+            &rt,
+            alloc,
+            &IN_CELLS,
+            1,
+            &faults,
+            status,
+            "output fault\n",
+            3,
+        )?;
     }
     Ok(())
 }

@@ -1,6 +1,8 @@
 //! Writes of which one call fails, each in turn, by one worker and by two.
 
-use super::{Case, Faults, IN_CELLS, IN_VIEWS, NO_FAULTS, PAIR, check, check_failing, store_of, stream_of};
+use super::{
+    Case, Faults, IN_CELLS, IN_VIEWS, NO_FAULTS, PAIR, check, check_failing, store_of, stream_of,
+};
 use command_base::Status;
 use memory_rows::{has_all, has_none};
 use std::alloc::Global;

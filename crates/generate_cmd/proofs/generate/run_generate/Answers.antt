@@ -17,6 +17,6 @@ returns-in-Err-clause-generated g c = (
 pub returns-in-Err-clause-complete : goal.returns-in-Err-clause-complete
 returns-in-Err-clause-complete g c m told can store out =
     let none : generate_status c.in-Err.refusal ≡ NoMemory =
-        memory_alone c.in-Err.refusal (stored_scale m c.args.dataset.now c.args.key.now) m (g.S.Source.objects c.generate_objects.new.store) (drawn c.args.number c.args.count) c.args.dataset.now c.args.key.now can
-        (λ e. store (c.in-Err.ensures.cause.failed e)) (from_told (g.S.Source.objects c.args.store.now) _ m told c.in-Err.ensures.generates) in
+    memory_alone c.in-Err.refusal (stored_scale m c.args.dataset.now c.args.key.now) m (g.S.Source.objects c.generate_objects.new.store) (drawn c.args.number c.args.count) c.args.dataset.now c.args.key.now can
+    (λ e. store (c.in-Err.ensures.cause.failed e)) (from_told (g.S.Source.objects c.args.store.now) _ m told c.in-Err.ensures.generates) in
     elim c.report.ensures.told [ inl h ↦ inr (h.0 ∙ none) | inr h ↦ inr h.0 ]
