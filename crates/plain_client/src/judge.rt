@@ -42,12 +42,7 @@ fn find_kind(wanted: Wanted, status: u16) -> Option<Kind>
 }
 
 // The length by the values of Content-Encoding, Transfer-Encoding and Content-Length.
-fn find_length(
-    received: &[u8],
-    objects: &[Span],
-    codings: &[Span],
-    lengths: &[Span],
-) -> Option<u64>
+fn find_length(received: &[u8], objects: &[Span], codings: &[Span], lengths: &[Span]) -> Option<u64>
     requires objects { All (IsWithin (length received.now)) objects.now }
     requires codings { All (IsWithin (length received.now)) codings.now }
     requires lengths { All (IsWithin (length received.now)) lengths.now }

@@ -17,7 +17,9 @@ pub(crate) fn read_number(text: &[u8]) -> Option<u128>
         if !b.is_ascii_digit() {
             return None;
         }
-        number = number.saturating_mul(10).saturating_add((*b - b'0') as u128);
+        number = number
+            .saturating_mul(10)
+            .saturating_add((*b - b'0') as u128);
     }
     Some(number)
 }

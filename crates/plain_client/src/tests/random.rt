@@ -9,8 +9,8 @@ use std::process::Abort;
 use std::test::Fail;
 
 const STATUSES: [&str; 16] = [
-    "206", "206", "206", "206", "206", "206", "206", "200", "200", "200", "404", "404", "416", "416",
-    "500", "2006",
+    "206", "206", "206", "206", "206", "206", "206", "200", "200", "200", "404", "404", "416",
+    "416", "500", "2006",
 ];
 
 const VERSIONS: [&str; 5] = [
@@ -31,7 +31,14 @@ const NAMES: [&str; 5] = [
     "Length",
 ];
 
-const UNITS: [&str; 6] = ["bytes", "Bytes ", "bytes  ", "\t bytes ", "items ", "bytes="];
+const UNITS: [&str; 6] = [
+    "bytes",
+    "Bytes ",
+    "bytes  ",
+    "\t bytes ",
+    "items ",
+    "bytes=",
+];
 
 const TAILS: [&str; 6] = [" \t", " ", ",3", "a", " 3", "\u{b}"];
 
@@ -253,7 +260,7 @@ fn draw_reply(alloc: Global, random: &mut Random, asked: Asked) -> Result<Vec<u8
         Some(status) => status,
         None => "200",
     };
-    let total = 2 + random.below(9);
+    let total = 3 + random.below(8);
     let version = random.choose(60, &VERSIONS, "HTTP/1.1");
     let phrase = random.choose(40, &PHRASES, " OK");
     let end = random.line_end();
@@ -283,11 +290,11 @@ fn draw_sizes(random: &mut Random, len: usize) -> [usize; 2] {
 
 // How the replies answer, and how many there are to be of each at least.
 const LEAST: [(&str, u64); 5] = [
-    ("none", 500),
-    ("no object", 50),
-    ("past the end", 50),
-    ("the object", 100),
-    ("a part", 200),
+    ("none", 150),
+    ("no object", 25),
+    ("past the end", 8),
+    ("the object", 35),
+    ("a part", 60),
 ];
 
 // The number of an answer in this list.
@@ -303,29 +310,40 @@ fn number_of(found: &Option<PlainReply>) -> usize {
     }
 }
 
-// A reply at random, at once and in pieces at random, now and then with bytes behind.
-fn compare_one(rt: &impl Abort, alloc: Global, random: &mut Random) -> Result<usize, Fail> {
-    let asked = draw_asked(random);
-    let reply = draw_reply(alloc, random, asked)?;
-    let behind = random.choose(12, &["x", "HTTP/1.1 200 OK\r\n"], "");
-    let sizes = draw_sizes(random, reply.len());
-    let mut peer = Peer {
-        reply: &reply,
-        behind: behind.as_bytes(),
-        sizes: &[],
+// A reply in pieces, and the bytes behind it.
+fn compare_in(
+    rt: &impl Abort,
+    alloc: Global,
+    asked: Asked,
+    reply: &[u8],
+    behind: &[u8],
+    sizes: &[usize],
+) -> Result<usize, Fail> {
+    let peer = Peer {
+        reply,
+        behind,
+        sizes,
     };
-    compare(rt, alloc, asked, &peer)?;
-    peer.sizes = &sizes;
     let found = compare(rt, alloc, asked, &peer)?;
     Ok(number_of(&found))
 }
 
-#[test]
-fn equals_the_plain_replies(rt: HostRuntime) -> Result<(), Fail> {
-    let mut random = Random { state: 1 };
+// A reply at random, at once and in pieces at random, now and then with bytes behind.
+fn compare_one(rt: &impl Abort, alloc: Global, random: &mut Random) -> Result<usize, Fail> {
+    let asked = draw_asked(random);
+    let reply = draw_reply(alloc, random, asked)?;
+    let behind = random.choose(20, &["x", "HTTP/1.1 200 OK\r\n"], "");
+    let sizes = draw_sizes(random, reply.len());
+    compare_in(rt, alloc, asked, &reply, behind.as_bytes(), &[])?;
+    compare_in(rt, alloc, asked, &reply, behind.as_bytes(), &sizes)
+}
+
+// 500 replies at random.
+fn compare_many(rt: &impl Abort, alloc: Global, state: u64) -> Result<(), Fail> {
+    let mut random = Random { state };
     let mut counts = [0u64; 5];
-    for _ in 0..2000 {
-        let number = compare_one(&rt, rt.alloc(), &mut random)?;
+    for _ in 0..500 {
+        let number = compare_one(rt, alloc, &mut random)?;
         if let Some(count) = counts.get_mut(number) {
             *count = count.saturating_add(1);
         }
@@ -334,4 +352,24 @@ fn equals_the_plain_replies(rt: HostRuntime) -> Result<(), Fail> {
         assert!(rt; count >= least, "{count} replies say {answer}");
     }
     Ok(())
+}
+
+#[test]
+fn equals_the_plain_replies(rt: HostRuntime) -> Result<(), Fail> {
+    compare_many(&rt, rt.alloc(), 1)
+}
+
+#[test]
+fn equals_the_next_replies(rt: HostRuntime) -> Result<(), Fail> {
+    compare_many(&rt, rt.alloc(), 2)
+}
+
+#[test]
+fn equals_the_third_replies(rt: HostRuntime) -> Result<(), Fail> {
+    compare_many(&rt, rt.alloc(), 3)
+}
+
+#[test]
+fn equals_the_last_replies(rt: HostRuntime) -> Result<(), Fail> {
+    compare_many(&rt, rt.alloc(), 4)
 }
