@@ -93,7 +93,7 @@ fn check<R: Threads + Wait + Abort + Sync>(
 ) -> Result<(), Fail> {
     let source = short_name(b"d").expect(rt, "a data set");
     let target = short_name(dataset).expect(rt, "a data set");
-    assert!(rt; to.can_encode());
+    assert!(rt; to.can_encode() && to.more.len() == 0);
     let crew = Crew::of(rt, alloc, 2, &FreeGate);
     let answer = reshard(&crew, store, &source, from, &target, to);
     assert_eq!(rt; answer, wanted);
