@@ -6,10 +6,10 @@
 
 LINK is the volume's address, which begins with http://, https:// or gs://; DATASET is the local folder; BOX is [x0:x1,y0:y1,z0:z1]. A
 chunk that the server hasn't (404, 403) isn't copied, nor is one whose file is there already: so a copy that broke off goes on where it
-was. What comes with gzip is unpacked, and what is compressed otherwise is refused, as is a scale in shards: copy the whole files of its
-folder then. Eight connections are used; a server that is silent for 30 seconds, is busy (429) or fails (5xx) is tried again, three times
-in all. Where standard error is a terminal, it tells how far it is. Nothing but Python's standard library is wanted. The status is 1
-where the script refuses.
+was. Of several chunk sizes the first is copied, which is what is read. What comes with gzip is unpacked, and what is compressed otherwise
+is refused, as is a scale in shards: copy the whole files of its folder then. Eight connections are used; a server that is silent for 30
+seconds, is busy (429) or fails (5xx) is tried again, three times in all. Where standard error is a terminal, it tells how far it is.
+Nothing but Python's standard library is wanted. The status is 1 where the script refuses.
 """
 import concurrent.futures
 import gzip
@@ -26,6 +26,7 @@ import urllib.request
 TYPES = ("uint8", "uint16", "uint32", "uint64")
 ENCODINGS = ("raw", "compressed_segmentation")
 INNER = ("data_encoding", "minishard_index_encoding")
+MOST_CHUNK_SIZES = 8
 
 
 class Refused(Exception):
@@ -90,7 +91,7 @@ def unread_members(volume, scale):
     """The members for which vol_tool refuses a scale, with their values."""
     if volume["data_type"].lower() not in TYPES:
         yield "data_type", volume["data_type"]
-    if len(scale["chunk_sizes"]) != 1:
+    if not 1 <= len(scale["chunk_sizes"]) <= (1 if scale.get("sharding") else MOST_CHUNK_SIZES):
         yield "chunk_sizes", scale["chunk_sizes"]
     if scale["encoding"].lower() not in ENCODINGS:
         yield "encoding", scale["encoding"]

@@ -10,16 +10,17 @@
     volume.py pyramid DATASET KEY [--levels N] [--method mode|mean] [--workers N]
     volume.py view DATASET [KEY] [--port P]
 
-`put` writes a whole array into the scale KEY, whose folder has to be empty. It makes DATASET/info where there is none, and
-adds the scale to one that has no such scale, for which it wants --resolution; the layout of a scale that is there stays, whatever the
-options say. An array of more than 1 GiB goes slab by slab along the borders of chunks; with --resume a `put` of the same array that
-was broken off goes on. With --at X,Y,Z the array is put over what the scale holds, its first voxel at X,Y,Z. `get` reads a
-box, as [x0:x1,y0:y1,z0:z1] or `all`. `add` adds to DATASET/info a scale KEY2 of the same voxels as KEY in another layout, and stores
-nothing: `vol_tool reshard DATASET KEY DATASET KEY2` fills it. `pyramid` adds the coarser scales of KEY to DATASET/info and makes them by
-`vol_tool downsample`, each of half the size of the one before, with its layout: N of them, or as many as it takes until one has one chunk.
-A scale that is there already stays. Labels are taken by `mode` (the value that occurs most often), where the volume is a segmentation or
-the chunks are, and images by `mean`. `view` shows slices through the scales on a page of this machine alone, whose address it prints,
-until it is ended by Ctrl-C.
+`put` writes a whole array into the scale KEY, whose folder has to be empty. It makes DATASET/info where there is none, and adds the scale
+to one that has no such scale, for which it wants --resolution; the layout of a scale that is there stays, whatever the options say. An
+array of more than 1 GiB goes slab by slab along the borders of chunks; with --resume a `put` of the same array that was broken off goes
+on. With --at X,Y,Z the array is put over what the scale holds, its first voxel at X,Y,Z. A scale whose info has several chunk sizes is
+stored in each of them, and at once: so its array has at most 1 GiB, nothing is put over it, and a `put` that was broken off begins again.
+`get` reads a box, as [x0:x1,y0:y1,z0:z1] or `all`. `add` adds to DATASET/info a scale KEY2 of the same voxels as KEY in another layout,
+and stores nothing: `vol_tool reshard DATASET KEY DATASET KEY2` fills it. `pyramid` adds the coarser scales of KEY to DATASET/info and
+makes them by `vol_tool downsample`, each of half the size of the one before, with its layout: N of them, or as many as it takes until one
+has one chunk. A scale that is there already stays. Of several chunk sizes the first is read, and the coarser scales have it alone. Labels
+are taken by `mode` (the value that occurs most often), where the volume is a segmentation or the chunks are, and images by `mean`. `view`
+shows slices through the scales on a page of this machine alone, whose address it prints, until it is ended by Ctrl-C.
 
 As a module (its folder is named in PYTHONPATH) it has `read`, `write` and `pyramid`; the first two are for arrays of numpy, where that is
 installed, or for files as numpy.save writes them:
@@ -407,6 +408,20 @@ def check_size(path, scale, values, words):
         raise Refused(f"the array doesn't lie in the scale {words.key} of {path}, with its first voxel at {words.at}")
 
 
+def has_several(scale):
+    """Whether a scale has several chunk sizes: vol_tool writes it at once, and doesn't update it."""
+    return len(scale["chunk_sizes"]) > 1
+
+
+def check_several(path, scale, values, words):
+    """Refuses what a scale of several chunk sizes doesn't take."""
+    what = f"the scale {words.key} of {path} has several chunk sizes"
+    if words.at is not None:
+        raise Refused(f"{what}, and nothing is put over it: remove its folder, and put the whole array")
+    if values.bytes() > MOST_BYTES:
+        raise Refused(f"{what}, so its array has at most {MOST_BYTES} bytes, and this one has {values.bytes()}: leave one size in the info")
+
+
 def info_with(path, values, words):
     """The info of the dataset with the scale in it, and whether it is there already."""
     volume = {
@@ -424,6 +439,8 @@ def info_with(path, values, words):
     for scale in volume["scales"]:
         if scale["key"] == words.key:
             check_size(path, scale, values, words)
+            if has_several(scale):
+                check_several(path, scale, values, words)
             return volume, scale, True
     if words.at is not None:
         raise Refused(f"{path} has no scale {words.key} yet, over which the array could be put")
@@ -459,17 +476,18 @@ def cut_box(box, origin, chunk, most):
 class Job:
     """
     An array that is put into a scale, slab by slab. How many are done stands meanwhile in a file of the scale's folder that is no object,
-    so that another try can go on. `stands` is whether some of the array may be stored.
+    so that another try can go on; where there are several chunk sizes it can't. `stands` is whether some of the array may be stored.
     """
 
     def __init__(self, values, words, scale, streams):
-        self.values, self.words, self.streams = values, words, streams
+        self.values, self.words, self.streams, self.is_once = values, words, streams, has_several(scale)
         origin = scale.get("voxel_offset", [0, 0, 0])
         self.begin = origin if words.at is None else words.at
         box = [(begin, begin + side) for begin, side in zip(self.begin, values.size)]
         each = values.channels * values.width
         is_one = values.bytes() <= MOST_BYTES or "sharding" in scale
-        self.slabs = cut_box(box, origin, scale["chunk_sizes"][0], (MOST_BYTES if is_one else MOST_SLAB) // each)
+        slabs = cut_box(box, origin, scale["chunk_sizes"][0], (MOST_BYTES if is_one else MOST_SLAB) // each)
+        self.slabs = [tuple(box)] if self.is_once else slabs
         self.note = None if words.at is not None else pathlib.Path(words.dataset, words.key, "put.part")
         self.kind = {"size": values.size, "channels": values.channels, "bytes": values.width, "slabs": len(self.slabs)}
         self.done = self.read_done()
@@ -479,8 +497,9 @@ class Job:
         """How many slabs an earlier try has put, or None where there was none that was broken off."""
         if self.note is None or not self.note.exists():
             return None
-        if not self.words.resume:
-            raise Refused(f"a put into {self.note.parent} was broken off: --resume goes on, or remove this folder first")
+        if self.is_once or not self.words.resume:
+            how = "" if self.is_once else "--resume goes on, or "
+            raise Refused(f"a put into {self.note.parent} was broken off: {how}remove this folder first")
         noted = json.loads(self.note.read_text())
         if not isinstance(noted, dict) or {**noted, "done": 0} != {**self.kind, "done": 0}:
             raise Refused(f"another array than this one was put into {self.note.parent}")
@@ -520,6 +539,12 @@ class Job:
             text = f"\rslab {number + 1} of {len(self.slabs)}: " if number < len(self.slabs) else "" if sys.stdout.isatty() else "\n"
             print(text, end="", file=sys.stderr, flush=True)
 
+    def how_on(self):
+        """What to do where it is broken off."""
+        if self.is_once:
+            return f"remove {self.note.parent}, and the same words begin again"
+        return f"the same words{'' if self.words.at is not None else ' and --resume'} go on"
+
     def run(self):
         """Puts the slabs that are left; gives the program's status."""
         for number in range(self.done or 0, len(self.slabs)):
@@ -547,6 +572,8 @@ def store(values, words, **streams):
         write_info(path, volume)
     try:
         return job.run()
+    except KeyboardInterrupt:
+        raise KeyboardInterrupt(job.how_on()) from None
     finally:
         if not job.stands:
             job.forget()
@@ -567,8 +594,8 @@ def put(words):
     values = open_array(words.array, words.axes)
     try:
         status = store(values, words)
-    except KeyboardInterrupt:
-        raise Refused(f"broken off; the same words{'' if words.at is not None else ' and --resume'} go on") from None
+    except KeyboardInterrupt as how:
+        raise Refused(f"broken off; {how}" if how.args else "broken off") from None
     tell_kept(words, status)
     return status
 
@@ -826,6 +853,8 @@ class Level:
         if self.note.exists():
             raise Refused(f"a pyramid was broken off, and {self.folder} isn't whole: remove this folder first")
         self.is_there, self.is_made = scale in volume["scales"], any(files_in(self.folder))
+        if has_several(scale) and not self.is_made:
+            raise Refused(f"the scale {self.key} of {self.info} has several chunk sizes, and isn't made so: leave one of them")
         if self.is_made and not self.is_there:
             raise Refused(f"{self.folder} has files, and {self.info} has no such scale: remove this folder first")
 

@@ -107,7 +107,7 @@ class Work:
         update = update_of(volume, self.files, writes)
         self.due, self.ending, self.cut = update.files, update.answer, volume.words("cutout", spell(volume.whole))
         if words.startswith("generate"):
-            self.ending = answer(200, self.due, sum_of(volume, writes))
+            self.ending = answer(200, self.due.values(), sum_of(volume, writes))
         self.base = trial.folder / "base"
         self.base.mkdir()
         lay_out(self.base / "before", {**infos_of(volume), **self.files})

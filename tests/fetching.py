@@ -141,6 +141,24 @@ def tells_what_is_wrong(trial, server):
     want(call([sys.executable, SCRIPT, f"{link}/info", "f"], trial.folder)[0], 0, "a link to the info")
 
 
+def with_scales(path, number):
+    """Scales of several chunk sizes, the first of which is the one that is there."""
+    if path != "/v/info":
+        return plainly(path, number)
+    sizes = [SCALE, {**SCALE, "chunk_sizes": [[2, 2, 1], [4, 4, 1]]}, {**SCALE, "chunk_sizes": [[2, 2, 1]] * 9}]
+    scales = [{**scale, "key": key} for key, scale in zip("ast", sizes)]
+    in_shards = {**scales[1], "key": "u", "sharding": {"@type": "neuroglancer_uint64_sharded_v1"}}
+    return 200, None, json.dumps({**json.loads(INFO), "scales": [*scales, in_shards]}).encode(), 0
+
+
+def copies_first_size(trial, server):
+    out = fetch(trial, server)[1].splitlines()
+    is_read = {line[0]: line.rpartition(": ")[2] if "not read" in line else True for line in out}
+    wanted = {"a": True, "s": True, "t": f"chunk_sizes {[[2, 2, 1]] * 9}", "u": f"chunk_sizes {[[2, 2, 1], [4, 4, 1]]}"}
+    want(is_read, wanted, "which scales are read")
+    copies_all(trial, server, "copied 3 absent 1")
+
+
 WITHOUT_PAUSES = "import sys, fetch; fetch.PAUSES = (); sys.exit(fetch.main())"
 
 LINKS = {
@@ -179,6 +197,7 @@ def rows():
         ("a copy that broke off", with_server, plainly, goes_on),
         ("another coding", with_server, by_another_coding, refuses),
         ("a request that is refused", with_server, refusing, refuses),
+        ("the first of several chunk sizes", with_server, with_scales, copies_first_size),
         ("links", with_server, plainly, reads_links),
         ("mistakes, and what is said of them", with_server, plainly, tells_what_is_wrong),
     ]

@@ -27,7 +27,7 @@ def is_generated(trial, volume, number, count, workers, line=None):
     """The list leaves the objects that are due and prints its line, which is stated or worked out."""
     writes = generated(volume, number, count)
     objects = objects_after(volume, writes)
-    wanted = answer(count, objects, sum_of(volume, writes))
+    wanted = answer(count, objects.values(), sum_of(volume, writes))
     if line is not None:
         want(wanted, printed(line), "the model")
     trial.lay_out(infos_of(volume))

@@ -260,8 +260,8 @@ class Trial:
     def write(self, volume, writes, *options):
         """Writes boxes into a scale, whose info it puts; what is due is told and stands. Gives the files."""
         self.lay_out(infos_of(volume))
-        files, objects, cells = volume.files_after(writes)
-        self.want(volume.words("write", *options), stored(objects, cells), stream_of(writes))
+        files, put, cells = volume.files_after(writes)
+        self.want(volume.words("write", *options), stored(len(put), cells), stream_of(writes))
         want_files(self.files(), files)
         return files
 

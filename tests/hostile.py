@@ -17,7 +17,7 @@ import time
 
 from harness import main, want, want_files
 from model import copy_of, cutout, infos_of, printed, refused, sound, spell, stored, stream_of, verdict
-from model.chance import FORMS, damage_some, form_of, pick_box, pick_layouts, pick_stored, pick_writes
+from model.chance import FORMS, damage_some, form_of, pick_box, pick_layouts, pick_sizes, pick_stored, pick_writes
 from model.heads import replies_to
 from model.infos import Refused as BadInfo
 from model.infos import padded_voxels, scale_in
@@ -28,6 +28,7 @@ from peers import connect, serving
 
 NOWHERE = [(-(2**41), 1 - 2**41)] * 3
 FEW_CELLS = 4096
+FEW_BYTES = 2**20
 MOST_CELLS = 2**22
 MOST_PADDED = 2**22
 
@@ -37,15 +38,18 @@ MOST_PADDED = 2**22
 
 def answers_of(volume):
     """What some runs end with over a scale of which nothing is stored: they tell its box, its values, its cells and its limit."""
-    begin = [(first, first + 1) for first, _ in volume.whole]
-    cells, padded = math.prod(volume.grid), padded_voxels(volume)
+    begin, each = [(first, first + 1) for first, _ in volume.whole], volume.channels * volume.width
+    cells = sum(math.prod(view.grid) for view in volume.views)
+    padded = next((count for count in map(padded_voxels, volume.views) if count > MOST_PADDED), None)
+    written = stored(0, 0) if padded is None else refused(f"padded voxels {padded} over {MOST_PADDED}")
     rows_of = [
         (volume.words("cutout", spell(NOWHERE)), refused(f"box {spell(NOWHERE)} outside {spell(volume.whole)}")),
-        (volume.words("cutout", spell(begin)), printed(bytes(volume.channels * volume.width))),
-        (volume.words("write"), stored(0, 0) if padded <= MOST_PADDED else refused(f"padded voxels {padded} over {MOST_PADDED}")),
+        (volume.words("cutout", spell(begin)), printed(bytes(each))),
+        (volume.words("write"), written),
+        (volume.words("update"), refused("several chunk sizes") if volume.more and padded is None else written),
     ]
-    # each cell of a judgement is looked for
-    if cells <= FEW_CELLS:
+    # each cell of a judgement is looked for, and where there are several chunk sizes all values are compared
+    if cells <= FEW_CELLS and (not volume.more or math.prod(volume.size) * each <= FEW_BYTES):
         rows_of.append((volume.words("verify"), sound(cells, 0)))
     elif cells > MOST_CELLS:
         rows_of.append((volume.words("verify"), refused(f"too many cells {cells}")))
@@ -71,9 +75,8 @@ def judges_info(trial, seed):
 def want_written(trial, volume, content):
     """A stream that is written into an empty scale."""
     try:
-        chunks = volume.chunks_after(writes_in(volume, content))
-        due = volume.files(chunks)
-        wanted = stored(len(due), len(chunks))
+        due, put, cells = volume.files_after(writes_in(volume, content))
+        wanted = stored(len(put), cells)
     except BadStream as fault:
         due, wanted = {}, refused(str(fault))
     trial.want(volume.words("write"), wanted, content)
@@ -82,6 +85,9 @@ def want_written(trial, volume, content):
 
 def want_updated(trial, volume, content):
     """A stream that is put over what stands."""
+    if volume.more:
+        trial.want_unchanged(volume.words("update"), refused("several chunk sizes"), content)
+        return
     try:
         writes = writes_in(volume, content)
     except BadStream as fault:
@@ -92,7 +98,7 @@ def want_updated(trial, volume, content):
 
 def judges_streams(trial, seed):
     chance = random.Random(f"streams {seed}")
-    (volume,) = pick_layouts(chance, [form_of(seed)])
+    volume = pick_sizes(chance, *pick_layouts(chance, [form_of(seed)]))
     trial.lay_out(infos_of(volume))
     want_written(trial, volume, pick_stream(chance, volume))
     want_updated(trial, volume, pick_stream(chance, volume))

@@ -9,7 +9,7 @@ import subprocess
 import tempfile
 
 from harness import main
-from model import SEGMENTED, SHARDING, along, box_in, bytes_of, head_of, info_of, printed, refused, stored, stream_of
+from model import OK, SEGMENTED, SHARDING, along, box_in, bytes_of, head_of, info_of, printed, refused, stored, stream_of
 from model.small import shards
 
 # The most cells that a box or a grid of a copy may have, the most pairs of a write and a cell, and the most bytes of a cutout or of
@@ -24,6 +24,11 @@ CUBE = info_of([1024, 1024, 1024], [1024, 1024, 128])
 def line_of(cells, chunk=1, **scale):
     """A line of so many cells, in shards."""
     return info_of([cells, 1, 1], [chunk, 1, 1], None, **{"sharding": SHARDING, **scale})
+
+
+def sizes(length, *chunks):
+    """A line of so many voxels, with chunks of these lengths."""
+    return info_of([length, 1, 1], None, chunk_sizes=[[chunk, 1, 1] for chunk in chunks])
 
 
 def wide(chunk):
@@ -60,6 +65,12 @@ RUNS = [
     ("a pair more", [LINE], WRITE, refused(f"too many cells {PAIRS + 1}"), pairs(65, 64)),
     ("2^22 pairs of an update", [LINE], UPDATE, stored(64, 64), pairs(64, 64)),
     ("a pair more of an update", [LINE], UPDATE, refused(f"too many cells {PAIRS + 1}"), pairs(65, 64)),
+    # of several chunk sizes cells are counted together, and pairs size by size, each before anything is put
+    ("verify of 2^22 cells of two sizes", [sizes(CELLS, 2, 2)], VERIFY, printed(f"cells {CELLS} stored 0 absent {CELLS}"), b""),
+    ("verify of a cell more of two sizes", [sizes(CELLS, CELLS, 1)], VERIFY, TOO_MANY, b""),
+    ("2^22 pairs of a further size", [sizes(65, 65, 1)], WRITE, stored(65, 65), pairs(64, 64)),
+    ("a pair more of a further size", [sizes(65, 65, 1)], WRITE, refused(f"too many cells {PAIRS + 1}"), pairs(65, 64)),
+    ("too many pairs of both sizes", [sizes(130, 2, 1)], WRITE, refused(f"too many cells {PAIRS + 1}"), pairs(130, 128)),
     # 1,321 x 793 x 1,025 is one more
     ("a cutout of a byte more", [info_of([1321, 793, 1025], [64, 64, 64])], "cutout d s [0:1321,0:793,0:1025]",
      refused(f"box too large {BYTES + 1}"), b""),
@@ -72,9 +83,10 @@ RUNS = [
 
 
 def ends_so(trial, infos, words, wanted, feed):
-    """A run over data sets that have nothing but an info document each."""
+    """A run over data sets that have nothing but an info document each; one that is refused puts nothing."""
     trial.lay_out({f"{dataset}/info": info for dataset, info in zip("de", infos)})
-    trial.want(words, wanted, feed)
+    judge = trial.want if wanted[0] == OK else trial.want_unchanged
+    judge(words, wanted, feed)
 
 
 def takes_stream(trial, behind, wanted):

@@ -59,7 +59,7 @@ def list_of(volume):
     number, count = LIST
     writes = generated(volume, number, count)
     files = volume.files(volume.chunks_after(writes))
-    return Work(volume.words("generate", str(number), str(count)), b"", {}, files, answer(count, files, sum_of(volume, writes)))
+    return Work(volume.words("generate", str(number), str(count)), b"", {}, files, answer(count, files.values(), sum_of(volume, writes)))
 
 
 def over_of(volume):

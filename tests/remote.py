@@ -88,9 +88,11 @@ def want_fault_or_cut(trial, volume, box, chance):
 
 
 def cuts_scale(trial, seed):
-    """A scale of which some files may be damaged."""
+    """A scale of which some files may be damaged, and whose chunk size may be the first of two."""
     chance = random.Random(f"remote {seed}")
     (volume,) = pick_layouts(chance, [form_of(seed)])
+    if volume.sharding is None and seed // 8 % 2:
+        volume = dataclasses.replace(volume, more=([2, 3, 5],))
     files = trial.store(volume, pick_stored(chance, volume))
     (trial.folder / "d").mkdir(exist_ok=True)
     if seed // 4 % 2:

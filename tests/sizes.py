@@ -1,96 +1,131 @@
 #!/usr/bin/env python3
-"""Runs the built vol_tool on scales with several chunk sizes: each size is written, the first one is read, and copies are compared.
+"""Runs the built vol_tool on scales with several chunk sizes: each size is written, the first one is read, and the copies are compared.
 
     tests/sizes.py [PROGRAM]
 
-What is due is the plain model's. A scale with several sizes can be written, generated, read, verified and copied from, but isn't
-updated, copied into or made from another.
+What is due is stated here, and worked out by the plain models. Such a scale is written, generated, read, judged and copied from; it isn't
+updated, copied into, or made of a larger one.
 """
 import dataclasses
 import itertools
 import json
 import random
 
-from harness import main, want, want_files
+from harness import answers, contents, main, standing, want, want_files
 from model import (
-    Values, Volume, answer, generated, infos_of, printed, refused, sound, spell, stored, stream_of, sum_of, verdict, voxels_in,
+    SEGMENTED, SHARDING, Values, Volume, answer, copy_of, generated, info_of, infos_of, printed, refused, sound, spell, stored,
+    stream_of, sum_of, verdict,
 )
-from model.chance import pick_box
+from model.chance import damage_some, pick_box, pick_boxes, pick_writes
+from model.pyramids import METHODS, next_of, reduction_of
+from model.segments import spell_loosely
+from model.small import padded_info
 
-FOUR = Volume([4, 1, 1], [4, 1, 1], more=([2, 1, 1],))
-ONE_TO_FOUR = (FOUR.whole, bytes([1, 2, 3, 4]))
-WHOLE, LEFT, RIGHT = "d/s/0-4_0-1_0-1", "d/s/0-2_0-1_0-1", "d/s/2-4_0-1_0-1"
 
-# two to eight sizes: that divide each other and don't, one size twice, clipped at the edges, of voxels, rows, slabs and cubes
+def line(length, *chunks, **fields):
+    """A scale that is a line along x, with these lengths of chunks."""
+    first, *more = ([chunk, 1, 1] for chunk in chunks)
+    return Volume([length, 1, 1], first, more=tuple(more), **fields)
+
+
+def turned(volume):
+    """A scale with its chunk sizes in the opposite order."""
+    last, *others = (volume.chunk, *volume.more)[::-1]
+    return dataclasses.replace(volume, chunk=last, more=tuple(others))
+
+
+EIGHT = [[6, 4, 3], [1, 1, 1], [2, 1, 1], [3, 2, 1], [4, 2, 2], [5, 3, 3], [64, 1, 3], [1, 4, 2]]
+
+# two to eight sizes, that divide each other and don't, one twice, clipped at the edges; of voxels, rows, slabs and cubes
 SCALES = [
     ("halves", Volume([8, 4, 2], [8, 4, 2], more=([4, 4, 2],))),
+    ("halves and quarters of cubes", Volume([8, 8, 8], [8, 8, 8], more=([4, 4, 4], [2, 2, 2]))),
     ("sizes that don't divide", Volume([11, 5, 3], [4, 5, 3], more=([3, 2, 3], [5, 5, 1]))),
     ("one size twice", Volume([5, 4, 3], [2, 2, 2], more=([2, 2, 2],))),
     ("the first size again at the end", Volume([5, 4, 3], [2, 2, 2], more=([5, 1, 3], [2, 2, 2]))),
     ("sizes that are clipped to one box", Volume([5, 4, 3], [64, 64, 64], more=([5, 4, 3], [8, 8, 8]))),
+    ("sizes of which some boxes are the same", Volume([5, 4, 3], [4, 4, 3], more=([2, 4, 3], [4, 2, 3]))),
     ("cubes and slabs", Volume([12, 12, 6], [4, 4, 4], more=([12, 12, 1],))),
-    ("slabs and cubes", Volume([12, 12, 6], [12, 12, 1], more=([4, 4, 4],))),
     ("voxels and one box", Volume([4, 3, 2], [4, 3, 2], more=([1, 1, 1],))),
-    ("eight sizes", Volume([6, 4, 3], [6, 4, 3], more=tuple([x, y, 1] for x, y in itertools.product((1, 2, 3, 4), (1, 2)))[:7])),
+    ("eight sizes", Volume([6, 4, 3], EIGHT[0], more=tuple(EIGHT[1:]))),
     ("an offset below 0", Volume([9, 7, 4], [4, 4, 4], (-5, -7, 3), more=([3, 3, 2],))),
-    ("uint16, 3 channels", Volume([6, 5, 4], [3, 3, 3], (1, 0, -2), 3, 2, more=([2, 5, 1],))),
-    ("uint64, 2 channels", Volume([6, 5, 4], [6, 5, 4], (0, 0, 0), 2, 8, more=([4, 4, 4], [1, 5, 4]))),
+    ("16 bits, 3 channels, another offset", Volume([6, 5, 4], [3, 3, 3], (1, 0, -2), 3, 2, more=([2, 5, 1],))),
+    ("64 bits, 2 channels", Volume([6, 5, 4], [6, 5, 4], (0, 0, 0), 2, 8, more=([4, 4, 4], [1, 5, 4]))),
     ("labels of 32 bits", Volume([9, 6, 5], [4, 4, 4], (0, 0, 0), 1, 4, (2, 2, 2), more=([9, 6, 1],))),
     ("labels of 64 bits", Volume([7, 7, 3], [7, 7, 3], (-3, 0, 0), 1, 8, (3, 3, 3), more=([3, 3, 3], [7, 1, 1]))),
-    ("labels of blocks that are larger", Volume([5, 4, 3], [2, 2, 2], (0, 0, 0), 1, 4, (8, 8, 8), more=([5, 4, 1],))),
-    ("a chunk of a row", Volume([7, 3, 2], [7, 1, 1], (0, -2, 9), 1, 1, None, more=([2, 3, 2], [3, 3, 2]))),
+    ("labels in blocks that are larger, 2 channels", Volume([5, 4, 3], [2, 2, 2], (0, 0, 0), 2, 4, (8, 8, 8), more=([5, 4, 1],))),
+    ("labels of eight sizes", Volume([6, 4, 3], EIGHT[0], (-9, 8, -7), 1, 8, (2, 3, 1), more=tuple(EIGHT[1:]))),
+    ("rows and boxes", Volume([7, 3, 2], [7, 1, 1], (0, -2, 9), more=([2, 3, 2], [3, 3, 2]))),
 ]
 
 
-def box_writes(chance, volume, count):
-    boxes = [pick_box(chance, volume) for _ in range(count)]
-    return [(box, chance.randbytes(voxels_in(box) * volume.channels * volume.width)) for box in boxes]
+# What is written, read and judged
 
 
-def writes_each_size(trial, volume, seed, *options):
+def is_written(trial, volume, seed, workers):
     """Writes leave the objects of each size; cutouts are the first one's; all is sound, and counted together."""
     chance = random.Random(seed)
-    writes = box_writes(chance, volume, 1 + seed % 4)
-    files = trial.write(volume, writes, *options)
-    boxes = [volume.whole, *(pick_box(chance, volume) for _ in range(4))]
+    writes = pick_writes(chance, volume, 1 + seed % 4)
+    files = trial.write(volume, writes, f"--workers={workers}")
+    boxes = pick_boxes(chance, volume)
     trial.want_values(volume, Values(volume, writes), boxes)
     for box in boxes:
-        trial.want_unchanged(volume.words("verify", spell(box)), verdict(volume, files, box))
-    want(verdict(volume, files)[0], 0, "the model's status")
+        wanted = verdict(volume, files, box)
+        want(wanted[0], 0, "the model's status")
+        trial.want_unchanged(volume.words("verify", spell(box)), wanted)
+    trial.want_unchanged(volume.words("write"), refused("folder not empty"), stream_of([]))
 
 
-def damages_copies(trial, volume, seed):
-    """Some files are cut short, exchanged, taken away, or have another byte: the first finding is told."""
+def is_judged(trial, volume, seed):
+    """Of one size some files are damaged, another's, or gone: what is wrong first is told, and cutouts are the first one's."""
     chance = random.Random(seed)
-    files = trial.write(volume, box_writes(chance, volume, 3))
-    for _ in range(6):
-        path, other = chance.choices(sorted(files), k=2)
-        content = files[path]
-        place = chance.randrange(len(content))
-        changed = chance.choice([
-            content[:-1], content + b"\0", files[other], None,
-            content[:place] + bytes([content[place] ^ chance.randint(1, 255)]) + content[place + 1 :],
-        ])
-        after = {name: held for name, held in {**files, path: changed}.items() if held is not None}
-        trial.lay_out({path: changed})
+    files = trial.write(volume, pick_writes(chance, volume, 3))
+    for view in volume.views:
+        own = {path: files[path] for path in map(view.path_of, view.cells) if path in files}
+        damaged = damage_some(chance, view, own)
+        trial.lay_out(damaged)
+        after = {path: content for path, content in {**files, **damaged}.items() if content is not None}
         for box in (volume.whole, pick_box(chance, volume)):
             trial.want_unchanged(volume.words("verify", spell(box)), verdict(volume, after, box))
-        trial.lay_out({path: content})
+            trial.want_cuts(volume, after, [box])
+        trial.lay_out(files)
 
 
-def stores_four(trial):
-    trial.write(FOUR, [ONE_TO_FOUR])
-    want_files(trial.files(), {WHOLE: b"\1\2\3\4", LEFT: b"\1\2", RIGHT: b"\3\4"})
-    trial.want_unchanged("verify d s", sound(3, 3))
+def is_generated(trial, volume, number, count, workers):
+    """The list of a number is stored in each size; the counts are those of all sizes, and the sum is the scale's."""
+    writes = generated(volume, number, count)
+    files, put, _ = volume.files_after(writes)
+    trial.lay_out(infos_of(volume))
+    words = volume.words("generate", str(number), str(count), f"--workers={workers}")
+    trial.want(words, answer(count, put, sum_of(volume, writes)))
+    want_files(trial.files(), files)
+    trial.want_unchanged(volume.words("verify"), verdict(volume, files))
 
 
-def tells(trial, changes, line, box=None):
-    """Of the small scale with these files the judgement ends with this line, and a cutout with the first size's bytes."""
-    trial.write(FOUR, [ONE_TO_FOUR])
-    trial.lay_out(changes)
-    trial.want_unchanged(["verify", "d", "s", *([box] if box else [])], refused(line) if isinstance(line, str) else line)
-    if WHOLE not in changes:
-        trial.want("cutout d s [0:4,0:1,0:1]", printed(bytes([1, 2, 3, 4])))
+# A small scale, as it is stated
+
+FOUR = line(4, 4, 2)
+FULL = stream_of([(FOUR.whole, bytes([1, 2, 3, 4]))])
+WHOLE, LEFT, RIGHT = "d/s/0-4_0-1_0-1", "d/s/0-2_0-1_0-1", "d/s/2-4_0-1_0-1"
+STORED = {WHOLE: b"\1\2\3\4", LEFT: b"\1\2", RIGHT: b"\3\4"}
+
+# title, the scale, what a write of its first four voxels tells, the files, and what verify tells then
+WRITTEN = [
+    ("a chunk and its halves", FOUR, (3, 3), STORED, (3, 3)),
+    ("halves, and a chunk", turned(FOUR), (3, 3), STORED, (3, 3)),
+    ("one size twice", line(4, 4, 4), (2, 2), {WHOLE: b"\1\2\3\4"}, (2, 2)),
+    ("two sizes that are clipped to one box", line(4, 9, 4), (2, 2), {WHOLE: b"\1\2\3\4"}, (2, 2)),
+    ("sizes that don't divide", line(5, 4, 3), (3, 3), {WHOLE: b"\1\2\3\4", "d/s/0-3_0-1_0-1": b"\1\2\3", "d/s/3-5_0-1_0-1": b"\4\0"},
+     (4, 3)),
+    ("cells that no write meets", line(8, 4, 2), (3, 3), STORED, (6, 3)),
+]
+
+
+def is_stored(trial, volume, told, files, judged):
+    trial.lay_out(infos_of(volume))
+    trial.want("write d s", stored(*told), FULL)
+    want_files(trial.files(), files)
+    trial.want_unchanged("verify d s", sound(*judged))
 
 
 # title, the files that are others, what is told, and of which box
@@ -102,106 +137,252 @@ TOLD = [
     ("a copy that is gone", {LEFT: None}, "conflict 1 0,0,0 0 0 1"),
     ("the last copy is gone", {RIGHT: None}, "conflict 1 2,0,0 0 0 3"),
     ("copies exchanged", {LEFT: b"\3\4", RIGHT: b"\1\2"}, "conflict 1 0,0,0 0 3 1"),
+    ("two other values", {LEFT: b"\1\7", RIGHT: b"\3\7"}, "conflict 1 1,0,0 0 7 2"),
     ("a value, and a fault behind it", {LEFT: b"\1\7", RIGHT: b"\3"}, "conflict 1 1,0,0 0 7 2"),
     ("a fault, and a value behind it", {LEFT: b"\1", RIGHT: b"\3\7"}, "damaged in 1 0,0,0: chunk length 1 wanted 2"),
     ("the first size is gone", {WHOLE: None}, "conflict 1 0,0,0 0 1 0"),
     ("the first size has another value", {WHOLE: b"\1\2\3\5"}, "conflict 1 3,0,0 0 4 5"),
-    ("a fault of the first size before one of a copy", {WHOLE: b"\1", LEFT: b"\1"}, "damaged 0,0,0: chunk length 1 wanted 4"),
+    ("a fault of the first size, and one of a copy", {WHOLE: b"\1", LEFT: b"\1"}, "damaged 0,0,0: chunk length 1 wanted 4"),
+    ("all are gone", {WHOLE: None, LEFT: None, RIGHT: None}, sound(3, 0)),
+    ("a copy of zeros that is gone", {WHOLE: b"\0\0\3\4", LEFT: None}, sound(3, 2)),
     ("a value outside of the box", {RIGHT: b"\3\5"}, sound(2, 2), "[0:2,0:1,0:1]"),
     ("a value beside the box, in a cell that it meets", {RIGHT: b"\3\5"}, sound(2, 2), "[2:3,0:1,0:1]"),
     ("a value in the box", {RIGHT: b"\3\5"}, "conflict 1 3,0,0 0 5 4", "[3:4,0:1,0:1]"),
-    ("a fault of a cell that the box meets", {RIGHT: b"\3"}, "damaged in 1 1,0,0: chunk length 1 wanted 2", "[2:3,0:1,0:1]"),
+    ("a fault in a cell that the box meets", {RIGHT: b"\3"}, "damaged in 1 1,0,0: chunk length 1 wanted 2", "[2:3,0:1,0:1]"),
+    ("a fault in a cell that the box doesn't meet", {RIGHT: b"\3"}, sound(2, 2), "[1:2,0:1,0:1]"),
 ]
 
-TWO_CHANNELS = Volume([2, 2, 1], [2, 2, 1], channels=2, width=2, more=([2, 1, 1], [1, 2, 1]))
-
-
-def tells_in_order(trial, changes, line):
-    """Of two channels: all positions of the first channel come before those of the second one, and views in their order."""
-    trial.write(TWO_CHANNELS, [(TWO_CHANNELS.whole, bytes(range(16)))])
-    trial.lay_out(changes)
-    trial.want_unchanged("verify d s", refused(line))
-
+# Two channels of 16 bits, whose values are 256, 770, 1284 and 1798 in the first and 2312, 2826, 3340 and 3854 in the second.
+SQUARE = Volume([2, 2, 1], [2, 2, 1], channels=2, width=2, more=([2, 1, 1], [1, 2, 1]))
+ROW, NEXT_ROW, COLUMN = "d/s/0-2_0-1_0-1", "d/s/0-2_1-2_0-1", "d/s/1-2_0-2_0-1"
 
 IN_ORDER = [
-    ("channels apart", {"d/s/0-2_0-1_0-1": bytes([0, 1, 2, 9, 9, 9, 10, 11])}, "conflict 1 1,0,0 0 2306 770"),
-    ("the second channel", {"d/s/0-2_0-1_0-1": bytes([0, 1, 2, 3, 8, 8, 10, 11])}, "conflict 1 0,0,0 1 2056 2312"),
-    ("the second copy", {"d/s/1-2_0-2_0-1": bytes([2, 3, 6, 7, 10, 11, 14, 0])}, "conflict 2 1,1,0 1 14 3854"),
-    (
-        "both copies",
-        {"d/s/1-2_0-2_0-1": bytes(1), "d/s/0-2_1-2_0-1": bytes([4, 5, 6, 7, 12, 13, 14, 16])},
-        "conflict 1 1,1,0 1 4110 3854",
-    ),
+    ("channels apart", {ROW: bytes([0, 1, 2, 9, 9, 9, 10, 11])}, "conflict 1 1,0,0 0 2306 770"),
+    ("the second channel", {ROW: bytes([0, 1, 2, 3, 8, 8, 10, 11])}, "conflict 1 0,0,0 1 2056 2312"),
+    ("all copies are gone", {COLUMN: None, ROW: None, NEXT_ROW: None}, "conflict 1 0,0,0 0 0 256"),
+    ("the second copy", {COLUMN: bytes([2, 3, 6, 7, 10, 11, 14, 0])}, "conflict 2 1,1,0 1 14 3854"),
+    ("the fault of the second copy", {COLUMN: bytes(1)}, "damaged in 2 1,0,0: chunk length 1 wanted 8"),
+    ("both copies", {COLUMN: bytes(1), NEXT_ROW: bytes([4, 5, 6, 7, 12, 13, 14, 16])}, "conflict 1 1,1,0 1 4110 3854"),
+]
+
+# Voxels, and copies of two voxels and of eight, with the values 1 to 8.
+CUBE = Volume([2, 2, 2], [1, 1, 1], (-1, 4, -7), more=([1, 1, 2], [2, 2, 2]))
+EIGHT_VOXELS = "d/s/-1-1_4-6_-7--5"
+LINE_OF = "d/s/{}_{}_-7--5"
+
+OF_AXES = [
+    ("x first", {EIGHT_VOXELS: bytes([1, 9, 9, 4, 9, 6, 7, 8])}, "conflict 2 0,4,-7 0 9 2"),
+    ("y before z", {EIGHT_VOXELS: bytes([1, 2, 9, 4, 9, 6, 7, 8])}, "conflict 2 -1,5,-7 0 9 3"),
+    ("z at last", {EIGHT_VOXELS: bytes([1, 2, 3, 4, 9, 6, 7, 9])}, "conflict 2 -1,4,-6 0 9 5"),
+    ("cells with x first", {LINE_OF.format("0-1", "4-5"): b"", LINE_OF.format("-1-0", "5-6"): b""},
+     "damaged in 1 1,0,0: chunk length 0 wanted 2"),
+    ("a further size, and one behind it", {LINE_OF.format("0-1", "5-6"): b"\4\7", EIGHT_VOXELS: b""}, "conflict 1 0,5,-6 0 7 8"),
+    ("a box in the middle", {EIGHT_VOXELS: bytes([9, 9, 9, 9, 9, 9, 9, 7])}, "conflict 2 0,5,-6 0 7 8", "[0:1,5:6,-6:-5]"),
+]
+
+# Labels, of 64 bits in blocks of two voxels.
+LABELS = line(4, 4, 2, width=8, block=(2, 1, 1))
+LARGEST = 2**64 - 1
+
+
+def labels_of(*values):
+    return b"".join(value.to_bytes(8, "little") for value in values)
+
+
+def copy_with(*values):
+    """The bytes of the second copy with these values, as this writer has them."""
+    return LABELS.views[1].spell((1, 0, 0), labels_of(*values))
+
+
+def other_spelling():
+    """The same values as another program may have them, in a chunk that isn't too long."""
+    chance, view = random.Random(0), LABELS.views[1]
+    tries = (spell_loosely(chance, view.shape((1, 0, 0)), labels_of(7, LARGEST)) for _ in range(1000))
+    return next(chunk for chunk in tries if chunk != copy_with(7, LARGEST) and len(chunk) <= view.limit((1, 0, 0)))
+
+
+OF_LABELS = [
+    ("another label", {RIGHT: copy_with(7, 8)}, f"conflict 1 3,0,0 0 8 {LARGEST}"),
+    ("the largest label", {RIGHT: copy_with(LARGEST, LARGEST)}, f"conflict 1 2,0,0 0 {LARGEST} 7"),
+    ("half a word", {RIGHT: b"123456"}, "damaged in 1 1,0,0: seg length 6"),
+    ("no bits that there are", {RIGHT: bytes([1, 0, 0, 0, 2, 0, 0, 3, 2, 0, 0, 0])}, "damaged in 1 1,0,0: seg bits 0 0 3"),
+    ("the same labels in another spelling", {RIGHT: other_spelling()}, sound(3, 3)),
 ]
 
 
-def refuses_info(trial, sizes, line, members=None):
-    info = json.loads(Volume([4, 1, 1], [4, 1, 1]).info())
-    info["scales"][0] |= {"chunk_sizes": sizes, **(members or {})}
-    trial.lay_out({"d/info": json.dumps(info).encode()})
-    for command in ("cutout d s [0:4,0:1,0:1]", "verify d s", "write d s"):
-        trial.want_unchanged(command, refused(f"info of d: {line}"), stream_of([]) if command.startswith("write") else b"")
+def tells(trial, volume, values, changes, told, box=None):
+    """Of a scale with these values and other files the judgement ends so; where the first size's stand, cutouts are these values."""
+    trial.write(volume, [(volume.whole, values)])
+    trial.lay_out(changes)
+    trial.want_unchanged(volume.words("verify", *([box] if box else [])), refused(told) if isinstance(told, str) else told)
+    if volume.path_of((0, 0, 0)) not in changes:
+        trial.want_unchanged(volume.words("cutout", spell(volume.whole)), printed(values))
 
 
-SHARDED = {"@type": "neuroglancer_uint64_sharded_v1", "preshift_bits": 0, "hash": "identity", "minishard_bits": 0, "shard_bits": 0}
+# Infos
 
+
+def info_with(sizes, length=4, members=None, **volume):
+    return info_of([length, 1, 1], None, volume, chunk_sizes=sizes, **(members or {}))
+
+
+def labels_info(length, *chunks):
+    """A segmentation of 32 bits, in blocks of one voxel."""
+    return padded_info(length, chunk_sizes=[[chunk, 1, 1] for chunk in chunks])
+
+
+ONE_TWO = [[4, 1, 1], [2, 1, 1]]
+
+# title, the info, its fault
 INFOS = [
-    ("nine sizes", [[4, 1, 1]] * 9, "limit chunk_sizes"),
-    ("a 0 in the ninth size", [[4, 1, 1]] * 8 + [[0, 1, 1]], "chunk_sizes bad value"),
-    ("two sizes in shards", [[4, 1, 1], [2, 1, 1]], "unsupported chunk_sizes", {"sharding": SHARDED}),
-    ("a second size of two numbers", [[4, 1, 1], [2, 1]], "chunk_sizes wrong kind"),
-    ("a second size past the limit", [[4, 1, 1], [2**40 + 1, 1, 1]], "limit chunk_sizes"),
+    ("nine sizes", info_with([[4, 1, 1]] * 9), "limit chunk_sizes"),
+    ("nine sizes in shards", info_with([[4, 1, 1]] * 9, members={"sharding": SHARDING}), "limit chunk_sizes"),
+    ("a 0 in the ninth size", info_with([[4, 1, 1]] * 8 + [[0, 1, 1]]), "chunk_sizes bad value"),
+    ("two numbers in the ninth size", info_with([[0, 1, 1]] * 8 + [[4, 1]]), "chunk_sizes wrong kind"),
+    ("two sizes in shards", info_with(ONE_TWO, members={"sharding": SHARDING}), "unsupported chunk_sizes"),
+    ("two sizes and no lengths", info_with(ONE_TWO, members={"sharding": SHARDING, "resolution": 8}), "unsupported chunk_sizes"),
+    ("two sizes and a sharding that is none", info_with(ONE_TWO, members={"sharding": 5}), "unsupported chunk_sizes"),
+    ("a second size of two numbers", info_with([[4, 1, 1], [2, 1]]), "chunk_sizes wrong kind"),
+    ("a second size of 0", info_with([[4, 1, 1], [2, 0, 1]]), "chunk_sizes bad value"),
+    ("a second size past the limit", info_with([[4, 1, 1], [2**40 + 1, 1, 1]]), "limit chunk_sizes"),
+    ("a second size of 2^27 + 1 bytes", info_with([[4, 1, 1], [2**27 + 1, 1, 1]], 2**27 + 1), "limit chunk_bytes"),
+    ("a third size of 2^27 + 2 bytes", info_with([*ONE_TWO, [2**26 + 1, 1, 1]], 2**40, data_type="uint16"), "limit chunk_bytes"),
+    ("a second size of 2^24 + 1 padded voxels", labels_info(2**24 + 1, 1, 2**24 + 1), "limit padded"),
+    ("a size of many voxels, and one of many bytes", labels_info(2**26, 2**24 + 1, 2**25 + 1), "limit chunk_bytes"),
+]
+
+# title, the info
+TAKEN = [
+    ("a sharding that is null", info_with(ONE_TWO, members={"sharding": None})),
+    ("eight sizes", info_with([[4, 1, 1], [2**40] * 3] * 4)),
+    ("a second size of 2^27 bytes", info_with([[4, 1, 1], [2**27, 1, 1]], 2**40)),
+    ("a second size of 2^24 padded voxels", labels_info(2**40, 1, 2**24)),
 ]
 
 
-def refuses_to_change(trial, words, line, volume, *others):
-    """A scale of several sizes that isn't written, whatever else is wrong."""
-    trial.write(volume, [(volume.whole, bytes(voxels_in(volume.whole)))])
-    trial.lay_out(infos_of(volume, *others))
-    trial.want_unchanged(words, refused(line), stream_of([ONE_TO_FOUR]) if words.startswith("update") else b"")
+def is_read(trial, info):
+    """An info gives a scale."""
+    trial.lay_out({"d/info": info})
+    trial.want_unchanged("cutout d s [0:1,0:1,0:1]", printed(bytes(4 if b"uint32" in info else 1)))
 
 
-PLAIN = Volume([4, 1, 1], [1, 1, 1])
+# What isn't done
 
 
-def copies_the_first(trial):
-    """A copy is made of the first size alone, whatever the others say."""
-    trial.write(FOUR, [ONE_TO_FOUR])
-    plain = dataclasses.replace(PLAIN, key="t")
-    trial.lay_out({**infos_of(FOUR, plain), LEFT: b"\7\7", RIGHT: None})
-    trial.want("reshard d s d t", stored(4, 4))
-    trial.want_values(plain, Values(plain, [ONE_TO_FOUR]), [plain.whole])
+def members_of(volume, **members):
+    """A scale's member of an info, with others."""
+    return {**json.loads(volume.info())["scales"][0], **members}
 
 
-def generates(trial, volume, number, count):
-    """The list of a number is stored for each size; the counts are those of all sizes, and the sum is of the scale."""
-    trial.lay_out(infos_of(volume))
-    writes = generated(volume, number, count)
-    put = {(size, path): content for size, view in enumerate(volume.views) for path, content in view.files_after(writes)[0].items()}
-    wanted = answer(count, put, sum_of(volume, writes))
-    trial.want(volume.words("generate", str(number), str(count)), wanted)
-    files = volume.files_after(writes)[0]
-    want_files(trial.files(), files)
-    trial.want_unchanged("verify d s", verdict(volume, files))
+def info_and(volume, *scales):
+    """The info of a scale, with further ones."""
+    info = json.loads(volume.info())
+    return {"d/info": json.dumps({**info, "scales": [*info["scales"], *scales]}).encode()}
+
+
+PLAIN = line(4, 1)
+TWICE = line(4, 4, 2, key="t")
+HALF = next_of(FOUR, key="t", chunk=[2, 1, 1], more=([1, 1, 1],))
+SEVERAL = "several chunk sizes"
+LONG = 2**22 + 1
+WIDE = "padded voxels 4194305 over 4194304"
+WIDER = "padded voxels 4194306 over 4194304"
+FOLDER = {"d/s/x": b"x"}
+TARGET_FOLDER = {"d/t/x": b"x"}
+BAD = b"PVW2"
+COPY, REDUCE = "reshard d s d t", "downsample d s t --method=mean"
+
+
+def labelled(*chunks, key="t"):
+    """A member of an info: a line of labels in blocks of one voxel, which is longer than may be written at once."""
+    more = {**SEGMENTED, "compressed_segmentation_block_size": [1, 1, 1]}
+    return members_of(line(4, *chunks), size=[LONG + 1, 1, 1], key=key, **more)
+
+
+LABELS_INFO = labels_info(LONG + 1, 1, LONG)
+TWO_WIDE = labels_info(LONG + 1, 1, LONG + 1, LONG)
+AS_LABELS = line(4, 4, width=4)
+
+# title, words, what is stored, the stream, the line
+REFUSED = [
+    ("an update", "update d s", {**infos_of(FOUR), **STORED}, FULL, SEVERAL),
+    ("an update of nothing", "update d s", infos_of(FOUR), stream_of([]), SEVERAL),
+    ("an update by a bad stream", "update d s", infos_of(FOUR), BAD, SEVERAL),
+    ("an update over damaged chunks", "update d s", {**infos_of(FOUR), WHOLE: b"", LEFT: b""}, FULL, SEVERAL),
+    ("an update past the writing limit in a further size", "update d s", {"d/info": LABELS_INFO}, BAD, WIDE),
+    ("a write past the writing limit in a further size", "write d s", {"d/info": LABELS_INFO, **FOLDER}, BAD, WIDE),
+    ("a write past it in two sizes", "write d s", {"d/info": TWO_WIDE}, BAD, WIDER),
+    ("a list past the writing limit in a further size", "generate d s 1 1", {"d/info": LABELS_INFO, **FOLDER}, b"", WIDE),
+    ("a write into a folder that isn't empty", "write d s", {**infos_of(FOUR), **FOLDER}, BAD, "folder not empty"),
+    ("a write by a bad stream", "write d s", infos_of(FOUR), BAD, "stream: bad magic"),
+    ("a copy into several sizes", COPY, {**infos_of(PLAIN, TWICE), **TARGET_FOLDER}, b"", SEVERAL),
+    ("a copy of several sizes into several", COPY, {**infos_of(FOUR, TWICE), WHOLE: b""}, b"", SEVERAL),
+    ("a copy into several sizes of another length", COPY, infos_of(PLAIN, line(5, 4, 2, key="t")), b"", SEVERAL),
+    ("a copy into itself", "reshard d s d s", {**infos_of(FOUR), **STORED}, b"", SEVERAL),
+    ("a copy past the writing limit in a further size", COPY, info_and(AS_LABELS, labelled(1, LONG)), b"", WIDE),
+    ("a copy past it in two sizes", COPY, info_and(AS_LABELS, labelled(1, LONG + 1, LONG)), b"", WIDER),
+    ("a copy into shards of several sizes", COPY, info_and(PLAIN, members_of(TWICE, sharding=SHARDING)), b"",
+     "info of d: unsupported chunk_sizes"),
+    ("the next scale in several sizes", REDUCE, {**infos_of(PLAIN, HALF), **TARGET_FOLDER}, b"", SEVERAL),
+    ("a scale of several sizes that isn't the next one", REDUCE, infos_of(PLAIN, TWICE), b"", SEVERAL),
+    ("the next scale past the writing limit in a further size", REDUCE, info_and(AS_LABELS, labelled(1, LONG)), b"", WIDE),
+]
+
+
+def leaves_stream(trial):
+    """An update that is refused reads nothing."""
+    trial.lay_out({**infos_of(FOUR), "input": FULL})
+    with (trial.folder / "input").open("rb") as feed:
+        trial.want_unchanged("update d s", refused(SEVERAL), feed)
+        want(feed.read(), FULL, "the input")
+
+
+# Copies of the first size
+
+
+def is_copied(trial, volume, seed):
+    """A copy, and a next scale by each method, are made of the first size alone, whatever the others say."""
+    chance = random.Random(seed)
+    volume = dataclasses.replace(volume, offset=tuple(2 * at for at in volume.offset))
+    files = trial.write(volume, pick_writes(chance, volume, 3))
+    first = set(map(volume.path_of, volume.cells))
+    others = {path: chance.choice([None, b"", content + b"\0"]) for path, content in files.items() if path not in first}
+    copy = dataclasses.replace(volume, key="t", chunk=[3, 2, 2], more=())
+    halves = {method: next_of(volume, key=method, more=()) for method in METHODS}
+    trial.lay_out({**infos_of(volume, copy, *halves.values()), **others})
+    trial.want_copy([*volume.words("reshard"), copy.dataset, copy.key], copy_of(volume, copy, contents(standing(trial.folder))))
+    for method, half in halves.items():
+        made = reduction_of(volume, half, method, contents(standing(trial.folder)))
+        trial.want_copy(volume.words("downsample", half.key, f"--method={method}"), made)
 
 
 def rows():
-    yield "three objects of two sizes", stores_four
+    for title, *case in WRITTEN:
+        yield title, is_stored, *case
     for (title, volume), seed in itertools.product(SCALES, range(3)):
-        yield f"{title}, seed {seed}", writes_each_size, volume, seed, f"--workers={1 + seed}"
-        yield f"{title}, damaged, seed {seed}", damages_copies, volume, seed
+        yield f"{title}, seed {seed}", is_written, volume, seed, 1 + seed
+        yield f"{title}, turned, seed {seed}", is_written, turned(volume), seed, 16
+        yield f"{title}, damaged, seed {seed}", is_judged, volume, seed
     for title, *case in TOLD:
-        yield title, tells, *case
+        yield title, tells, FOUR, bytes([1, 2, 3, 4]), *case
     for title, *case in IN_ORDER:
-        yield title, tells_in_order, *case
-    for title, *case in INFOS:
-        yield title, refuses_info, *case
-    for (title, volume), count in itertools.product(SCALES[::3], (0, 1, 20)):
-        yield f"{title}, a list of {count}", generates, volume, 7 + count, count
-    target = dataclasses.replace(FOUR, key="t")
-    yield "an update", refuses_to_change, "update d s", "several chunk sizes", FOUR
-    yield "a copy into several sizes", refuses_to_change, "reshard d s d t", "several chunk sizes", FOUR, target
-    yield "a copy of the first size", copies_the_first
+        yield title, tells, SQUARE, bytes(range(16)), *case
+    for title, *case in OF_AXES:
+        yield title, tells, CUBE, bytes(range(1, 9)), *case
+    for title, *case in OF_LABELS:
+        yield title, tells, LABELS, labels_of(1, 2, 7, LARGEST), *case
+    for title, info, told in INFOS:
+        for words in ("cutout d s [0:1,0:1,0:1]", "verify d s", "write d s", "update d s"):
+            yield f"{title}, {words}", answers, {"d/info": info}, words, refused(f"info of d: {told}"), stream_of([])
+    for title, info in TAKEN:
+        yield title, is_read, info
+    for title, words, files, feed, told in REFUSED:
+        yield title, answers, files, words, refused(told), feed
+    yield "the input of an update that is refused", leaves_stream
+    for (title, volume), count in itertools.product(SCALES, (0, 20)):
+        yield f"{title}, a list of {count}", is_generated, volume, 7 + count, count, 1 + count
+    for seed, (title, volume) in enumerate(SCALES):
+        yield f"{title}, copied from", is_copied, volume, seed
 
 
 if __name__ == "__main__":

@@ -336,7 +336,7 @@ IN_SHARDS = {**with_info(**shards()), "d/s/0.shard": b"short"}
 REFUSED = [
     ("no info, and no stream", {INFO_PATH: None}, b"", "info of d: absent"),
     ("a broken info", {INFO_PATH: b"{"}, GOOD, "info of d: not json"),
-    ("two chunk sizes", with_info(chunk_sizes=[[2, 2, 1], [4, 2, 1]]), GOOD, "info of d: unsupported chunk_sizes"),
+    ("two chunk sizes", with_info(chunk_sizes=[[2, 2, 1], [4, 2, 1]]), GOOD, "several chunk sizes"),
     ("an info that is a pipe", {INFO_PATH: PIPE}, GOOD, "store fault"),
     ("2^22 + 1 padded voxels, and no stream", padded(2**22 + 1), b"", PADDED),
     ("no stream", {}, b"", "stream: bad magic"),

@@ -120,12 +120,12 @@ def store(trial, *scales, part=None):
     trial.lay_out(infos_of(*scales))
     for scale in scales:
         box = part or scale.whole
-        cells = scale.cells_in(box)
         if scale.is_float:
-            trial.lay_out(scale.files({cell: scale.raw(scale.box_of(cell)) for cell in cells}))
+            trial.lay_out(scale.files({cell: scale.raw(scale.box_of(cell)) for cell in scale.cells_in(box)}))
         else:
-            objects = set(map(scale.path_of, cells))
-            trial.want(scale.words("write"), stored(len(objects), len(cells)), stream_of([(box, scale.raw(box))]))
+            cells = [view.cells_in(box) for view in scale.views]
+            objects = sum(len(set(map(view.path_of, own))) for view, own in zip(scale.views, cells))
+            trial.want(scale.words("write"), stored(objects, sum(map(len, cells))), stream_of([(box, scale.raw(box))]))
 
 
 def label_colour(value):
@@ -451,6 +451,7 @@ FORMS = [
         labels(64, (40, 44, 30), (16, 16, 8), (5, 4, 3), sharding=Sharding(1, True, 3, 4)),
         View((17, 3, 29), 6),
     ),
+    ("the first of two chunk sizes", image(8, (40, 30, 20), (16, 16, 16), more=([9, 30, 4],)), View((20, 15, 10), 4, 0, (10, 200))),
     ("an offset below 0, clipped chunks", image(32, (37, 29, 23), (10, 9, 8), offset=(-17, 5, -40)), View((36, 28, 22), 7, 0, (0, 2**32))),
     ("64 bits in shards", image(64, (33, 20, 50), (7, 8, 9), 2, sharding=Sharding(0, True, 0, 11)), View((1, 2, 3), 2, 1, (0, 2**64))),
 ]

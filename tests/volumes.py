@@ -317,6 +317,67 @@ def takes_infos(folder):
             want(folder.path("d/info").read_text(), text, "the info")
 
 
+def info_of_sizes(folder, side, *chunks, **scales):
+    """An info of a cube of bytes with several chunk sizes, and of further scales by their keys. Gives its bytes."""
+    whole = {"size": [side] * 3, "chunk_sizes": list(chunks), "resolution": [1, 1, 1], "encoding": "raw"}
+    members = [{"key": key, **whole, **scale} for key, scale in {"s": {}, **scales}.items()]
+    volume = {"type": "image", "data_type": "uint8", "num_channels": 1, "scales": members}
+    folder.trial.lay_out({"d/info": json.dumps(volume).encode()})
+    return folder.path("d/info").read_bytes()
+
+
+def stores_several_sizes(folder):
+    """An info with several chunk sizes stays; all are stored, the first one is read, and what such a scale doesn't take is said."""
+    content = save_cube(folder, "in.npy", 4, 1, 1)
+    info = info_of_sizes(folder, 4, [2, 4, 4], [4, 4, 4], [4, 4, 1])
+    words = "put", "in.npy", "d", "s", "--chunk", "3,3,3"
+    want(folder.call(*words), (0, "objects 7 cells 7\n", ""), "a put")
+    files = ["0-2_0-4_0-4", "0-4_0-4_0-1", "0-4_0-4_0-4", "0-4_0-4_1-2", "0-4_0-4_2-3", "0-4_0-4_3-4", "2-4_0-4_0-4"]
+    want((sorted(folder.objects("s")), folder.path("d/info").read_bytes()), (files, info), "the files and the info")
+    folder.path("d/s/0-4_0-4_0-4").write_bytes(b"")
+    folder.does("get", "d", "s", "all", "out.npy")
+    want(load(folder.path("out.npy"))[3], content, "the values")
+    folder.refuses("d/info has several chunk sizes, and nothing is put over it", *words, "--at", "0,0,0")
+    want(folder.call(*words), (REQUEST, "", "folder not empty\n"), "a second put")
+    shutil.rmtree(folder.path("d/s"))
+    want(folder.call(*words, program=fails_at(folder, 0, 5))[0], 5, "a put that is broken off")
+    for more in ((), ("--resume",)):
+        folder.refuses("a put into d/s was broken off: remove this folder first", *words, *more)
+    shutil.rmtree(folder.path("d/s"))
+    folder.does(*words, "--resume")
+
+
+def stores_sizes_at_once(folder):
+    """An array that isn't a stream's is refused with nothing stored, and one that has as many bytes goes at once."""
+    info_of_sizes(folder, 10, [4, 3, 7], [10, 10, 10])
+    save_cube(folder, "in.npy", 10, 1, 1)
+    status, out, errors = folder.call_in_slabs("put", "in.npy", "d", "s")
+    want_true((status, out) == (1, "") and "has at most 900 bytes, and this one has 1000" in errors, f"{status} {out!r} {errors!r}")
+    want(folder.path("d/s").exists(), False, "a folder")
+    code = "import sys, volume; volume.MOST_BYTES = 1000; sys.exit(volume.main())"
+    words = [sys.executable, "-c", code, "put", "in.npy", "d", "s"]
+    found = call(words, folder.trial.folder, VOL_TOOL=str(folder.trial.program), PYTHONPATH=str(SCRIPT.parent))
+    want(found, (0, "objects 25 cells 25\n", ""), "an array of as many bytes")
+
+
+def halves_first_size(folder):
+    """A coarser scale is made of the first chunk size, and in it; one that is in the info with several isn't made, or stays."""
+    content = save_cube(folder, "in.npy", 8, 1, 1)
+    half = {"size": [4] * 3, "chunk_sizes": [[4, 4, 4], [2, 2, 2]]}
+    info_of_sizes(folder, 8, [4, 4, 4], [8, 8, 8])
+    folder.does("put", "in.npy", "d", "s")
+    folder.path("d/s/0-8_0-8_0-8").write_bytes(b"")
+    want(folder.call("pyramid", "d", "s"), (0, told(("s_2", "4x4x4", "mean", 1, 1)), ""), "a pyramid")
+    want(folder.info()["scales"][1]["chunk_sizes"], [[4, 4, 4]], "the chunk size")
+    want(folder.objects("s_2"), {"0-4_0-4_0-4": means(content, 8)}, "the values")
+    info_of_sizes(folder, 8, [4, 4, 4], [8, 8, 8], s_2=half)
+    want(folder.call("pyramid", "d", "s"), (0, "s: no scale is left to make\n", ""), "a scale that has files")
+    shutil.rmtree(folder.path("d/s_2"))
+    before = files_in(folder.path("d"))
+    folder.refuses("d/info has several chunk sizes, and isn't made so", "pyramid", "d", "s")
+    want(files_in(folder.path("d")), before, "what stands")
+
+
 def adds_layouts(folder):
     values = random.Random(0).randbytes(4 * 5**3)
     save(folder.path("in.npy"), "<u4", [5] * 3, values)
@@ -612,6 +673,9 @@ CASES = [
     ("lengths of a voxel", keeps_lengths),
     ("no lengths of a voxel", asks_for_lengths),
     ("infos that others made", takes_infos),
+    ("several chunk sizes", stores_several_sizes),
+    ("several chunk sizes at once", stores_sizes_at_once),
+    ("coarser scales of several chunk sizes", halves_first_size),
     ("scales in other layouts", adds_layouts),
     ("a put of one stream that goes on", goes_on_at_once),
     ("corrections", corrects),

@@ -50,6 +50,14 @@ def pick_scales(chance, forms):
     return dataclasses.replace(source, offset=tuple(2 * at for at in target.offset)), dataclasses.replace(target, size=size)
 
 
+def pick_sizes(chance, volume):
+    """The same volume, of an unsharded one at times with further chunk sizes."""
+    if volume.sharding is not None or chance.random() < 0.7:
+        return volume
+    more = tuple([chance.randint(1, 9) for _ in range(3)] for _ in range(chance.randint(1, 7)))
+    return dataclasses.replace(volume, more=more)
+
+
 def pick_volume(chance, is_raw, in_shards):
     return pick_layouts(chance, [(is_raw, in_shards)])[0]
 

@@ -35,6 +35,6 @@ def stored(objects, cells):
     return printed(f"objects {objects} cells {cells}")
 
 
-def damaged(cell, fault):
-    """The line of a fault of a cell."""
-    return f"damaged {','.join(map(str, cell))}: {fault}"
+def damaged(cell, fault, number=0):
+    """The line of a fault of a cell, of a further chunk size with its number."""
+    return f"damaged {f'in {number} ' if number else ''}{','.join(map(str, cell))}: {fault}"

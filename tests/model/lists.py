@@ -45,6 +45,6 @@ def sum_of(volume, writes):
 
 
 def answer(count, objects, total):
-    """What the command ends with after so many writes that leave these objects and this sum."""
-    length = sum(map(len, objects.values()))
+    """What the command ends with after so many writes that put objects of these bytes and leave this sum."""
+    length = sum(map(len, objects))
     return printed(f"writes {count} objects {len(objects)} bytes {length} sum {total}")

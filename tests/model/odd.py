@@ -43,7 +43,10 @@ ODD_VALUES = [
 EDGES = {
     "num_channels": [0, 1, 1024, 1025], "size": [[2**40, 1, 1], [1, 2**40 + 1, 1], [1, 1, 0]],
     "voxel_offset": [[2**40, 0, 0], [0, 2**40 + 1, 0], [0, 0, -(2**40)], [-(2**40) - 1, 0, 0], [2**63 - 1, 0, 0], [2**63, 0, 0]],
-    "chunk_sizes": [[[2**40, 1, 1]], [[1, 1, 2**40 + 1]], [[0, 1, 1]], [], [[1, 1, 1], [2, 2, 2]], [[1, 0, 1], [2**41, 1, 1]]],
+    "chunk_sizes": [
+        [[2**40, 1, 1]], [[1, 1, 2**40 + 1]], [[0, 1, 1]], [], [[1, 1, 1], [2, 2, 2]], [[1, 0, 1], [2**41, 1, 1]],
+        [[2, 3, 1]] * 8, [[1, 1, 1]] * 9, [[1, 1, 1]] * 8 + [[0, 1, 1]], [[2, 2, 2], [2**24, 1, 1], [2**24 + 1, 1, 1]],
+    ],
     "data_type": ["uint8", "uint16", "UINT32", "uint64", "int8", "Int16", "FLOAT32", "uint65"], "type": ["image", "segmentation", "Image"],
     "encoding": ["raw", "RAW", "compressed_segmentation", "Compressed_segmentation", "jpeg", "raw "],
     "@type": ["neuroglancer_multiscale_volume", "neuroglancer_uint64_sharded_v1"],
@@ -114,7 +117,10 @@ def widen(chance, info):
         if isinstance(scale, dict):
             shifts = [chance.choice([0, 1, 2, 8, 9, 21, 22, 24, 27, 28, 40]) for _ in range(3)]
             scale["size"] = [2 ** chance.choice([shift, 40]) - chance.choice([0, 0, 1]) or 1 for shift in shifts]
-            scale["chunk_sizes"] = [[2 ** max(0, shift - chance.choice([0, 3, 9])) + chance.choice([0, 0, 1]) for shift in shifts]]
+            scale["chunk_sizes"] = [
+                [2 ** max(0, shift - chance.choice([0, 3, 9])) + chance.choice([0, 0, 1]) for shift in shifts]
+                for _ in range(chance.choice([1, 1, 1, 1, 2, 3]))
+            ]
             if chance.random() < 0.3:
                 info["num_channels"] = chance.choice([1, 2, 1023, 1024, 1025])
 
@@ -147,6 +153,8 @@ def pick_info(chance):
     for scale in info["scales"]:
         if "sharding" in scale and chance.random() < 0.5:
             scale["sharding"].update(minishard_index_encoding="raw", data_encoding="raw")
+        if chance.random() < 0.2:
+            scale["chunk_sizes"] += [[chance.randint(1, 9) for _ in range(3)] for _ in range(chance.randint(1, 7))]
     if chance.random() < 0.2:
         widen(chance, info)
     for _ in range(chance.choice([0, 1, 1, 1, 1, 2, 3])):

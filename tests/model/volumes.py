@@ -166,14 +166,18 @@ class Volume:
         return {cell: self.spell(cell, values.of(self.box_of(cell))) for cell in met}
 
     def files_after(self, writes):
-        """The files of writes into an empty scale, in the order in which they are put, view by view; how many are put; and cells."""
-        files, objects, cells = {}, 0, 0
+        """
+        What writes leave of an empty scale: its files; the bytes of all objects in the order in which they are put, size by size, also
+        those of one name; and how many cells of all sizes have a chunk.
+        """
+        files, put, cells = {}, [], 0
         for view in self.views:
             chunks = view.chunks_after(writes)
-            put = view.files(chunks)
-            files |= put
-            objects, cells = objects + len(put), cells + len(chunks)
-        return files, objects, cells
+            new = view.files(chunks)
+            files |= new
+            put += new.values()
+            cells += len(chunks)
+        return files, put, cells
 
 
 def infos_of(*volumes):

@@ -35,6 +35,10 @@ cells_line cells = texts (codes "too many cells " ∷ decimal cells ∷ line_fee
 abbrev pub voxels_line : ℕ → List ℕ
 voxels_line voxels = texts (codes "padded voxels " ∷ decimal voxels ∷ codes " over 4194304" ∷ line_feed ∷ [])
 
+-- a scale of several chunk sizes, where only one of a single size is written
+abbrev pub sizes_line : List ℕ
+sizes_line = texts (codes "several chunk sizes" ∷ line_feed ∷ [])
+
 -- what a writing command prints
 abbrev pub written_line : ℕ → ℕ → List ℕ
 written_line objects cells = texts (codes "objects " ∷ decimal objects ∷ codes " cells " ∷ decimal cells

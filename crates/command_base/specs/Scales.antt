@@ -1,5 +1,5 @@
 -- The scale of a key, as objects have it (this project's profile).
-use Rattle.std.specs.Prelude.{◌≡◌, true, false, Option, Some, None, Result, Ok, Err, codes}
+use Rattle.std.specs.Prelude.{◌≡◌, true, false, length, Option, Some, None, Result, Ok, Err, codes}
 use Rattle.std.specs.FinMap as fin
 use Rattle.vol_base.specs.Outside.{any_under, Objects}
 use Rattle.info_doc.specs.declared.fault.InfoFault.{InfoFault}
@@ -36,6 +36,14 @@ ReadsScale (Ok s) told = told ≡ Ok s
 ReadsScale (Err (WithoutScale why)) told = told ≡ Err why
 ReadsScale (Err StoreFault) told = Unit {0}
 ReadsScale (Err NoMemory) told = Unit {0}
+
+-- the scale has one chunk size
+abbrev pub HasOneSize : Scale → Type 0
+HasOneSize s = length s.more ≡ 0
+
+-- it keeps the writing limit, and has one chunk size
+abbrev pub IsWritableAlone : Scale → Type 0
+IsWritableAlone s = IsWritable s × HasOneSize s
 
 -- the scale keeps the writing limit, and its folder is empty
 abbrev pub IsReady : Objects → Name → Scale → Type 0

@@ -15,7 +15,7 @@ pub use crew::Crew;
 pub use info::read_scale;
 pub use lines::{
     write_cells_line, write_damaged_line, write_folder_line, write_info_line, write_large_line,
-    write_outside_line, write_voxels_line, write_written_line,
+    write_outside_line, write_sizes_line, write_voxels_line, write_written_line,
 };
 pub use printing::finish;
 pub use refusal::{NoScale, ScaleRefusal};

@@ -1,7 +1,7 @@
 //! The lines that several commands print.
 ghost use Rattle.std.specs.Prelude.{◌≡◌, IfOk, string_bytes};
 ghost use Rattle.vol_shell.specs.Lines.{folder_line};
-ghost use Rattle.command_base.specs.Lines.{cells_line, damaged_line, info_line, large_line, outside_line, voxels_line, written_line};
+ghost use Rattle.command_base.specs.Lines.{cells_line, damaged_line, info_line, large_line, outside_line, sizes_line, voxels_line, written_line};
 
 use std::alloc::{AllocError, Global};
 use vol_base::{Box3, Fault, Name};
@@ -53,6 +53,13 @@ pub fn write_voxels_line(alloc: Global, voxels: u64) -> Result<String, AllocErro
     ensures { IfOk result (λ line. string_bytes line ≡ voxels_line voxels) }
 {
     format!(in alloc; "padded voxels {voxels} over 4194304\n")
+}
+
+/// A scale of several chunk sizes, where only one of a single size is written.
+pub fn write_sizes_line(alloc: Global) -> Result<Vec<u8>, AllocError>
+    ensures { IfOk result (λ text. text.items ≡ sizes_line) }
+{
+    Vec::from_slice(alloc, b"several chunk sizes\n")
 }
 
 /// What a writing command prints: how many objects were put, and how many cells they hold.

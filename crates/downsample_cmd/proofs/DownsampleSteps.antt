@@ -1,20 +1,23 @@
 -- What `downsample` answers, by what the reduction of a scale answers.
-use Rattle.std.proofs.Common.{◌≡◌, ◌⊎◌, ◌∙◌, ◌^◌, ◌<◌, Option, Some, None, IfSome, Result, Ok, Err, refl, sym, subst, ap, inl, inr, ⊎_elim, arith}
+use Rattle.std.proofs.Common.{◌≡◌, ◌⊎◌, ◌∙◌, ◌<◌, length, Option, Some, None, IfSome, Result, Ok, Err, refl, sym, subst, ap, inl, inr, ⊎_elim, arith}
+use Rattle.std.specs.Prelude.{All}
 use Rattle.vol_base.specs.Outside.{Objects}
 use Rattle.vol_spec.proofs.Told.{in_told}
 use Rattle.vol_spec.specs.Types.{Name}
-use Rattle.vol_spec.specs.Writable.{IsWritable, padded}
+use Rattle.vol_spec.specs.Writable.{IsWritable}
 use Rattle.vol_spec.specs.declared.scale.Scale.{Scale}
 use Rattle.chunk_laws.specs.Told.{HasNoFault}
 use Rattle.coarse_laws.proofs.ReadSteps.{reads_reduced}
 use Rattle.info_doc.specs.declared.fault.Item.{Item}
 use Rattle.info_doc.specs.declared.fault.Item.TheVariants.{Root, AtType, VolumeType, DataType, NumChannels, Scales, Size, VoxelOffset, ChunkSizes, Resolution, Encoding, BlockSize, Sharding, ShardingType, PreshiftBits, Hash, MinishardBits, ShardBits, MinishardIndexEncoding, DataEncoding, ChunkBytes, MortonBits, Padded}
+use Rattle.size_laws.specs.Further.{all_views}
 use Rattle.reduce_laws.specs.Reduced.{IsNext, reduced_chunks}
 use Rattle.reduce_laws.specs.declared.method.Method.{Method}
 use Rattle.shard_writer.specs.declared.written.Written.{Written}
+use Rattle.view_writer.specs.Views.{first_wide}
 use Rattle.command_base.specs.Ending.{EndsWell}
 use Rattle.command_base.specs.Outlets.{Outlets, Tells}
-use Rattle.command_base.specs.Scales.{ReadsScale, stored_scale}
+use Rattle.command_base.specs.Scales.{IsWritableAlone, ReadsScale, stored_scale}
 use Rattle.command_base.specs.Statuses.{Reports}
 use Rattle.command_base.specs.declared.refusal.NoScale.{NoScale as NoScaleType}
 use Rattle.command_base.specs.declared.refusal.ScaleRefusal.{ScaleRefusal}
@@ -22,7 +25,7 @@ use Rattle.command_base.specs.declared.refusal.ScaleRefusal.TheVariants as unrea
 use Rattle.command_base.specs.declared.status.Status.{Status}
 use Rattle.reshard_cmd.proofs.AnswerSteps.{few_cells}
 use Rattle.reshard_cmd.proofs.CopySteps.{scales_kept}
-use Rattle.reshard_cmd.proofs.ReshardSteps.{both_and, meet}
+use Rattle.reshard_cmd.proofs.ReshardSteps.{both_and, meet, none_wide}
 use Rattle.reshard_cmd.specs.Copying.{OfBoth, ReadsTarget, unmade}
 use Rattle.reshard_cmd.specs.Refusals.{reshard_line, reshard_status, reshard_without}
 use Rattle.reshard_cmd.specs.declared.fault.ReshardFault.{ReshardFault}
@@ -36,29 +39,29 @@ use Rattle.downsample_cmd.proofs.ReducingSteps.{few_reduced}
 use Rattle.downsample_cmd.proofs.SameInfo.{can_begin}
 
 -- the reduction of a scale, over objects that are told
-reduced_one : (m : Objects) (now : Option Objects) (method : Method) (dataset : Name) (from to : Scale) (r : Result Written ReshardFault) (fault_of : ReshardFault) → r ≡ Err fault_of → IsWritable to → JudgesNext {A = Written} (Err fault_of) from to
+reduced_one : (m : Objects) (now : Option Objects) (method : Method) (dataset : Name) (from to : Scale) (r : Result Written ReshardFault) (fault_of : ReshardFault) → r ≡ Err fault_of → IsWritableAlone to → JudgesNext {A = Written} (Err fault_of) from to
     → Downsamples (Err fault_of) method m now dataset from to → ReducesScale (Err (unmade fault_of)) method m now dataset from to
 reduced_one m now method dataset from to r (fault.Differs item) is few judges h = (h, few, judges)
 reduced_one m now method dataset from to r (fault.TooManyCells cells) is few judges h = (h, few, judges.0, judges.1)
 reduced_one m now method dataset from to r fault.NotEmpty is few judges h = (h.1, few, judges.0, judges.1, h.0)
 reduced_one m now method dataset from to r (fault.Damaged cell found) is few judges h =
-    (((judges.0, judges.1, (few, h.0)), h.1.1), h.1.0.first, λ sound. let none = sound cell h.1.0.of_source in cc (none, h.1.0.its_own))
+    (((judges.0, judges.1, (few.0, h.0), few.1), h.1.1), h.1.0.first, λ sound. let none = sound cell h.1.0.of_source in cc (none, h.1.0.its_own))
 reduced_one m now method dataset from to r fault.StoreFault is few judges (inl kept) = inl kept
-reduced_one m now method dataset from to r fault.StoreFault is few judges (inr h) = inr ((judges.0, judges.1, (few, h.0)), h.1)
-reduced_one m now method dataset from to r fault.OutOfMemory is few judges h = inr ((judges.0, judges.1, (few, h.0)), h.1)
+reduced_one m now method dataset from to r fault.StoreFault is few judges (inr h) = inr ((judges.0, judges.1, (few.0, h.0), few.1), h.1)
+reduced_one m now method dataset from to r fault.OutOfMemory is few judges h = inr ((judges.0, judges.1, (few.0, h.0), few.1), h.1)
 
-pub refused_reduction : (o now : Option Objects) (method : Method) (dataset : Name) (from to : Scale) (r : Result Written ReshardFault) (found : ReshardFault) (refusal : ReshardRefusal) → r ≡ Err found → refusal ≡ unmade found → IsWritable to
+pub refused_reduction : (o now : Option Objects) (method : Method) (dataset : Name) (from to : Scale) (r : Result Written ReshardFault) (found : ReshardFault) (refusal : ReshardRefusal) → r ≡ Err found → refusal ≡ unmade found → IsWritableAlone to
     → JudgesNext {A = Written} (Err found) from to → IfSome o (λ m. Downsamples (Err found) method m now dataset from to) → IfSome o (λ m. ReducesScale (Err refusal) method m now dataset from to)
 refused_reduction None now method dataset from to r found refusal is refuses few judges h = tt
 refused_reduction (Some m) now method dataset from to r found refusal is refuses few judges h =
     subst (λ x. ReducesScale (Err x) method m now dataset from to) (sym refuses) (reduced_one m now method dataset from to r found is few judges h)
 
-pub made_reduction : (o now : Option Objects) (method : Method) (dataset : Name) (from to : Scale) (written : Written) → IsWritable to → JudgesNext (Ok written) from to
+pub made_reduction : (o now : Option Objects) (method : Method) (dataset : Name) (from to : Scale) (written : Written) → IsWritableAlone to → JudgesNext (Ok written) from to
     → IfSome o (λ m. Downsamples (Ok written) method m now dataset from to) → IfSome o (λ m. ReducesScale (Ok written) method m now dataset from to)
 made_reduction None now method dataset from to written few judges h = tt
 made_reduction (Some m) now method dataset from to written few judges h = (
   record {
-    ready = (judges.0, judges.1, (few, h.0));
+    ready = (judges.0, judges.1, (few.0, h.0), few.1);
     put = h.1.put;
     scales = scales_kept m dataset to (reduced_chunks method m dataset from to) h.0;
     source = h.1.source;
@@ -75,6 +78,7 @@ of_target (Ok written) m now method dataset from to h = h
 of_target (Err (refused.NoSource why)) m now method dataset from to h = absurd h
 of_target (Err (refused.NoTarget why)) m now method dataset from to h = absurd h
 of_target (Err (refused.TooManyVoxels voxels)) m now method dataset from to h = absurd h
+of_target (Err refused.SeveralSizes) m now method dataset from to h = absurd h
 of_target (Err (refused.Differs item)) m now method dataset from to h = h
 of_target (Err (refused.TooManyCells cells)) m now method dataset from to h = h
 of_target (Err refused.NotEmpty) m now method dataset from to h = h
@@ -94,6 +98,7 @@ no_target : (refusal : ReshardRefusal) (told : Result Scale NoScaleType) (m : Ob
     → ReducesStored (Err refusal) (Ok from) told method m now dataset
 no_target (refused.NoTarget why) told m now method dataset from kept reads = (kept, reads)
 no_target (refused.TooManyVoxels voxels) told m now method dataset from kept reads = (kept, reads)
+no_target refused.SeveralSizes told m now method dataset from kept reads = (kept, reads)
 no_target refused.StoreFault told m now method dataset from kept reads = inl kept
 no_target refused.NoMemory told m now method dataset from kept reads = inl kept
 no_target (refused.NoSource why) told m now method dataset from kept reads = absurd reads
@@ -193,8 +198,11 @@ refused_ready refusal m now method dataset from_key to_key = by_case refusal (st
     by_case (refused.NoTarget why) (Ok from) (Err missing) reduces can = absurd can
     by_case (refused.NoTarget why) (Err missing) target reduces can = absurd can
     by_case (refused.TooManyVoxels voxels) source target reduces can =
-        absurd (meet source target (λ from to. (voxels ≡ padded to) × (2 ^ 22 < padded to)) (λ from to. IsReadyReduction m dataset from to × HasNoFault m dataset from) reduces.1 can
-        (λ from to h k. omega (arith, h.1, k.0.2.0)))
+        absurd (meet source target (λ from to. first_wide (all_views to) ≡ Some voxels) (λ from to. IsReadyReduction m dataset from to × HasNoFault m dataset from) reduces.1 can
+        (λ from to h k. let none = none_wide to (k.0.2.0, k.0.3) in cc (none, h)))
+    by_case refused.SeveralSizes source target reduces can =
+        absurd (meet source target (λ from to. All IsWritable (all_views to) × (0 < length to.more)) (λ from to. IsReadyReduction m dataset from to × HasNoFault m dataset from) reduces.1 can
+        (λ from to h k. omega (arith, h.1, k.0.3)))
     by_case (refused.Differs item) source target reduces can =
         absurd (meet source target (λ from to. ReducesScale (Err (refused.Differs item)) method m now dataset from to) (λ from to. IsReadyReduction m dataset from to × HasNoFault m dataset from) reduces can
         (λ from to h k. no_difference item from to h.2 k.0.0))

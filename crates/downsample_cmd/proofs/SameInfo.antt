@@ -14,7 +14,7 @@ use Rattle.info_doc.specs.Info.{judged_tree, judged_volume, scale_from as scale_
 use Rattle.info_doc.specs.Json.{tree}
 use Rattle.info_doc.specs.declared.fault.InfoFault.{InfoFault}
 use Rattle.info_doc.specs.declared.fault.InfoFault.TheVariants.{TooLong}
-use Rattle.command_base.specs.Scales.{IsReady, info_name, judged_info, scale_from, stored_scale}
+use Rattle.command_base.specs.Scales.{HasOneSize, IsReady, info_name, judged_info, scale_from, stored_scale}
 use Rattle.command_base.specs.declared.refusal.NoScale.{NoScale}
 use Rattle.reduce_laws.specs.Halves.{IsHalf}
 use Rattle.reshard_cmd.specs.Copying.{OfBoth}
@@ -72,6 +72,6 @@ pub can_begin : (m : Objects) (dataset key to_key : Name) → CanDownsample m da
     → OfBoth (stored_scale m dataset key) (stored_scale m dataset to_key) (λ from to. IsReadyReduction m dataset from to × HasNoFault m dataset from)
 can_begin m dataset key to_key can =
     both_with (stored_scale m dataset key) (stored_scale m dataset to_key)
-    (λ from to. IsHalf (whole to) (whole from) × (too_many from to ≡ None) × IsReady m dataset to × HasNoFault m dataset from)
+    (λ from to. IsHalf (whole to) (whole from) × (too_many from to ≡ None) × IsReady m dataset to × HasOneSize to × HasNoFault m dataset from)
     (λ from to. IsReadyReduction m dataset from to × HasNoFault m dataset from) can
-    (λ from to a b h. let same = same_values m dataset key to_key from to a b in ((record { half = h.0; widths = same.0; channel_counts = same.1 }, h.1, h.2), h.3))
+    (λ from to a b h. let same = same_values m dataset key to_key from to a b in ((record { half = h.0; widths = same.0; channel_counts = same.1 }, h.1, h.2, h.3), h.4))

@@ -1,22 +1,24 @@
 -- What `downsample` answers (this project's profile). Its refusals are those of a copy, with the same statuses and lines.
-use Rattle.std.specs.Prelude.{◌≡◌, ◌⊎◌, ◌^◌, ◌<◌, true, length, Option, Some, None, Result, Ok as Done, Err, IfSome, IsOkAnd, IsSomeAnd}
+use Rattle.std.specs.Prelude.{◌≡◌, ◌⊎◌, ◌<◌, true, length, All, Option, Some, None, Result, Ok as Done, Err, IfSome, IsOkAnd, IsSomeAnd}
 use Rattle.vol_base.specs.Outside.{any_under, Draft, Objects}
 use Rattle.vol_base.specs.declared.boxes.Box3.{Box3}
 use Rattle.vol_spec.specs.CellNames.{folder_of}
 use Rattle.vol_spec.specs.Grid.{Inside, whole}
 use Rattle.vol_spec.specs.Types.{Name}
-use Rattle.vol_spec.specs.Writable.{IsWritable, padded}
+use Rattle.vol_spec.specs.Writable.{IsWritable}
 use Rattle.vol_spec.specs.declared.scale.Scale.{Scale}
 use Rattle.chunk_laws.specs.Told.{HasNoFault}
 use Rattle.coarse_laws.specs.Coarse.{HasReduced, ReadsAsReduced, reduced_in}
+use Rattle.size_laws.specs.Further.{all_views}
 use Rattle.reduce_laws.specs.Halves.{IsHalf}
 use Rattle.reduce_laws.specs.Reduced.{IsNext, reduced_cells}
 use Rattle.reduce_laws.specs.declared.method.Method.{Method}
 use Rattle.shard_writer.specs.Writing.{BeginsNext, Drops}
 use Rattle.shard_writer.specs.declared.written.Written.{Written}
+use Rattle.view_writer.specs.Views.{first_wide}
 use Rattle.command_base.specs.Ending.{Ends}
 use Rattle.command_base.specs.Outlets.{Outlets}
-use Rattle.command_base.specs.Scales.{IsReady, stored_scale}
+use Rattle.command_base.specs.Scales.{HasOneSize, IsReady, IsWritableAlone, stored_scale}
 use Rattle.command_base.specs.declared.refusal.NoScale.{NoScale}
 use Rattle.command_base.specs.declared.status.Status.{Status}
 use Rattle.reshard_cmd.specs.Copying.{KeepsScales, OfBoth, counts_line}
@@ -27,10 +29,11 @@ use Rattle.reshard_cmd.specs.declared.refusal.ReshardRefusal.TheVariants as refu
 use Rattle.downsample_cmd.specs.Downsampling.{PutsReducedFront, reduced_list, source_fault}
 use Rattle.downsample_cmd.specs.Judging.{DiffersNext}
 
--- a reduction can be begun: the target keeps the writing limit, it is the scale after the source, no grid has too many cells, and the target's folder
--- is empty
+-- a reduction can be begun: the target keeps the writing limit and has one chunk size, it is the scale after the source, no grid has too many cells,
+-- and the target's folder is empty
 abbrev pub IsReadyReduction : Objects → Name → Scale → Scale → Type 0
-IsReadyReduction m dataset from to = IsNext from to × (too_many from to ≡ None) × IsReady m dataset to
+IsReadyReduction m dataset from to = IsNext from to × (too_many from to ≡ None) × IsReady m dataset to ×
+    HasOneSize to
 
 -- what stands after a reduction: its objects were put in and nothing else was changed, so both scales are as
 -- before; the source has no fault, each value of the target is the reduced one, and the target has no fault
@@ -66,17 +69,17 @@ abbrev pub ReducedFront : Method → Objects → Option Objects → Name → Sca
 ReducedFront method m now dataset from to = IsReadyReduction m dataset from to ×
     PutsReducedFront method m now dataset from to
 
--- what reducing a scale into one that keeps the writing limit answers, and what stands after it
+-- what reducing a scale into one that keeps the writing limit and has one chunk size answers, and what stands after it
 abbrev pub ReducesScale : Result Written ReshardRefusal → Method → Objects → Option Objects → Name → Scale →
     Scale → Type 0
 ReducesScale (Done written) method m now dataset from to =
     HasDownsampled method m now dataset from to × CountsReduced written method m dataset from to
 ReducesScale (Err (refused.Differs item)) method m now dataset from to = (now ≡ Some m) ×
-    IsWritable to × DiffersNext from to item
+    IsWritableAlone to × DiffersNext from to item
 ReducesScale (Err (refused.TooManyCells cells)) method m now dataset from to =
-    (now ≡ Some m) × IsWritable to × IsNext from to × (too_many from to ≡ Some cells)
+    (now ≡ Some m) × IsWritableAlone to × IsNext from to × (too_many from to ≡ Some cells)
 ReducesScale (Err refused.NotEmpty) method m now dataset from to =
-    (now ≡ Some m) × IsWritable to × IsNext from to × (too_many from to ≡ None) ×
+    (now ≡ Some m) × IsWritableAlone to × IsNext from to × (too_many from to ≡ None) ×
     (any_under m (folder_of dataset to) ≡ true)
 ReducesScale (Err (refused.Damaged cell found)) method m now dataset from to =
     ReducedFront method m now dataset from to ×
@@ -95,7 +98,9 @@ ReducesStored (Err (refused.NoSource why)) source target method m now dataset = 
 ReducesStored (Err (refused.NoTarget why)) source target method m now dataset = (now ≡ Some m) ×
     IsOkAnd source (λ from. target ≡ Err why)
 ReducesStored (Err (refused.TooManyVoxels voxels)) source target method m now dataset =
-    (now ≡ Some m) × OfBoth source target (λ from to. (voxels ≡ padded to) × (2 ^ 22 < padded to))
+    (now ≡ Some m) × OfBoth source target (λ from to. first_wide (all_views to) ≡ Some voxels)
+ReducesStored (Err refused.SeveralSizes) source target method m now dataset =
+    (now ≡ Some m) × OfBoth source target (λ from to. All IsWritable (all_views to) × (0 < length to.more))
 ReducesStored (Err refused.StoreFault) source target method m now dataset =
     (now ≡ Some m) ⊎ OfBoth source target (λ from to. ReducedFront method m now dataset from to)
 ReducesStored (Err refused.NoMemory) source target method m now dataset =
@@ -116,13 +121,13 @@ DropsOrDownsamples method old now dataset key to_key before after = Drops before
     IfSome old (λ m. BeginsReduction (stored_scale m dataset key) (stored_scale m dataset to_key) method m now
     dataset after)
 
--- both scales are there, the target keeps the writing limit and is half the source, no grid has too many cells, the target's folder is empty, and
--- the source has no fault
+-- both scales are there, the target keeps the writing limit, has one chunk size and is half the source, no grid has too many cells, the target's
+-- folder is empty, and the source has no fault
 abbrev pub CanDownsample : Objects → Name → Name → Name → Type 0
 CanDownsample m dataset key to_key =
     OfBoth (stored_scale m dataset key) (stored_scale m dataset to_key)
     (λ from to. IsHalf (whole to) (whole from) × (too_many from to ≡ None) × IsReady m dataset to ×
-    HasNoFault m dataset from)
+    HasOneSize to × HasNoFault m dataset from)
 
 -- an answer that is right over the objects, where they are told
 abbrev pub IsRightReduction : Result Written ReshardRefusal → Method → Option Objects → Option Objects →

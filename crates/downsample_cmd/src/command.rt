@@ -6,7 +6,7 @@ ghost use Rattle.vol_spec.specs.Writable.{IsWritable};
 ghost use Rattle.shard_writer.specs.Writing.{Drops};
 ghost use Rattle.command_base.specs.Ending.{EndsWell, IsCaused};
 ghost use Rattle.command_base.specs.Outlets.{outlets_of};
-ghost use Rattle.command_base.specs.Scales.{stored_scale};
+ghost use Rattle.command_base.specs.Scales.{HasOneSize, stored_scale};
 ghost use Rattle.command_base.specs.Statuses.{prints, puts};
 ghost use Rattle.reshard_cmd.specs.Copying.{DropsUnsharded};
 ghost use Rattle.reshard_cmd.specs.Refusals.{reshard_status};
@@ -34,6 +34,7 @@ fn reduce_scale<R: Threads + Wait + Sync, S: Store, G: Gate + Sync>(
 ) -> Result<Written, ReshardRefusal>
     requires dataset { length dataset.now ≤ 200 }
     requires writable { IsWritable to.now }
+    requires one { HasOneSize to.now }
     ensures reduces { IfSome (S.objects store.old) (λ m.
         ReducesScale result method m (S.objects store.new) dataset.now from.now to.now) }
     ensures kept { IfErr result (λ refusal. puts (reshard_status refusal) ≡ false →
@@ -105,8 +106,9 @@ fn reduce_stored<R: Threads + Wait + Sync, S: Store, G: Gate + Sync>(
     reduce_into(crew, store, dataset, &from, to_key, method)
 }
 
-/// The command `downsample`: reduces the scale of a key of a data set into that of another key, the next, coarser scale,
-/// whose folder is empty; and prints how many objects were put, and how many cells they hold. A refusal is told.
+/// The command `downsample`: reduces the scale of a key of a data set, read by its first chunk size, into that of another
+/// key, the next, coarser scale, which has one chunk size and an empty folder; and prints how many objects were put, and
+/// how many cells they hold. A refusal is told.
 pub fn run_downsample<R: Threads + Wait + Sync, S: Store, O: Outlet, E: Outlet, G: Gate + Sync>(
     crew: &Crew<R, G>,
     store: &mut S,

@@ -8,6 +8,7 @@ ghost use Rattle.copier.specs.Held.{cells_of};
 ghost use Rattle.reduce_laws.specs.Reduced.{IsNext};
 ghost use Rattle.shard_writer.specs.Writing.{Drops};
 ghost use Rattle.write_plan.specs.Pairs.{cell_count};
+ghost use Rattle.command_base.specs.Scales.{HasOneSize};
 ghost use Rattle.reshard_cmd.specs.Resharding.{IsLate, KeepsStore};
 ghost use Rattle.downsample_cmd.specs.Downsampling.{Downsamples, DropsOrReduces, HasReducedJobs, Reduces};
 ghost use Rattle.downsample_cmd.specs.Judging.{JudgesNext};
@@ -108,10 +109,10 @@ fn write_reduced<R: Threads + Wait + Sync, S: Store, G: Gate + Sync>(
     }
 }
 
-/// Reduces a scale of a data set into the next, coarser one, of half the size on each axis, rounded up. A cell of
-/// the target is stored exactly where one of its positions lies over one in a cell of the source that isn't absent,
-/// with the reduced values: the value that occurs most often under a position, the least of these on a tie; or the
-/// mean, rounded down.
+/// Reduces a scale of a data set, read by its first chunk size, into the next, coarser one, which has one chunk size and
+/// half the size on each axis, rounded up. A cell of the target is stored exactly where one of its positions lies over
+/// one in a cell of the source that isn't absent, with the reduced values: the value that occurs most often under a
+/// position, the least of these on a tie; or the mean, rounded down.
 ///
 /// # Errors
 /// In this order: `Differs` exactly where the target isn't the next scale, by the size, else the offset (data type
@@ -132,6 +133,7 @@ pub fn downsample<R: Threads + Wait + Sync, S: Store, G: Gate + Sync>(
 ) -> Result<Written, ReshardFault>
     requires dataset { length dataset.now ≤ 200 }
     requires writable { IsWritable to.now }
+    requires one { HasOneSize to.now }
     ensures judges { JudgesNext result from.now to.now }
     ensures downsamples { IfSome (S.objects store.old) (λ m.
         Downsamples result method m (S.objects store.new) dataset.now from.now to.now) }

@@ -33,7 +33,16 @@ const CHANNELS: &[u8] =
 const MANY: &[u8] =
     b"{\"type\":\"image\",\"data_type\":\"uint8\",\"num_channels\":1,\"scales\":[{\"key\":\"s\",\"size\":[8388610,1,1],\"chunk_sizes\":[[2,1,1]],\"resolution\":[8,8,40],\"encoding\":\"raw\"},{\"key\":\"t\",\"size\":[4194305,1,1],\"chunk_sizes\":[[1,1,1]],\"resolution\":[16,16,80],\"encoding\":\"raw\"},{\"key\":\"u\",\"size\":[16777220,1,1],\"chunk_sizes\":[[16777220,1,1]],\"resolution\":[4,4,20],\"encoding\":\"raw\"}]}";
 
-// The data sets with their documents, and what is stored.
+// A square of two chunk sizes, the next scale, and a scale of two voxels and two chunk sizes; and labels with a scale
+// whose second chunk size passes the writing limit.
+const SIZES: &[u8] =
+    b"{\"type\":\"image\",\"data_type\":\"uint8\",\"num_channels\":1,\"scales\":[{\"key\":\"s\",\"size\":[2,2,1],\"chunk_sizes\":[[2,2,1],[1,1,1]],\"resolution\":[8,8,40],\"encoding\":\"raw\"},{\"key\":\"t\",\"size\":[1,1,1],\"chunk_sizes\":[[1,1,1]],\"resolution\":[16,16,80],\"encoding\":\"raw\"},{\"key\":\"u\",\"size\":[2,1,1],\"chunk_sizes\":[[1,1,1],[2,1,1]],\"resolution\":[16,16,80],\"encoding\":\"raw\"}]}";
+
+const LABELS: &[u8] =
+    b"{\"type\":\"segmentation\",\"data_type\":\"uint32\",\"num_channels\":1,\"scales\":[{\"key\":\"s\",\"size\":[2,1,1],\"chunk_sizes\":[[2,1,1]],\"resolution\":[8,8,40],\"encoding\":\"raw\"},{\"key\":\"t\",\"size\":[4194305,1,1],\"chunk_sizes\":[[64,1,1],[4194305,1,1]],\"resolution\":[16,16,80],\"encoding\":\"compressed_segmentation\",\"compressed_segmentation_block_size\":[1,1,1]}]}";
+
+// The data sets with their documents, and what is stored. The second chunk size of a source says otherwise, and isn't
+// read.
 const OBJECTS: &[(&str, &[u8])] = &[
     ("d/info", SQUARE),
     ("d/s/0-2_0-2_0-1", &[1, 2, 2, 7]),
@@ -49,6 +58,10 @@ const OBJECTS: &[(&str, &[u8])] = &[
     ("l/info", MANY),
     ("m/info", SQUARE),
     ("m/t/0-1_0-1_0-1", &[0]),
+    ("n/info", SIZES),
+    ("n/s/0-2_0-2_0-1", &[1, 2, 2, 7]),
+    ("n/s/0-1_0-1_0-1", &[9]),
+    ("o/info", LABELS),
 ];
 
 // A reduction from a key of a data set into another; the numbers of the calls of the store and the output that fail; then
@@ -105,8 +118,14 @@ const MADE: &[Row] = &[
     },
 ];
 
-// The first voxel alone is there: in its pair the other one counts as 0, and the second pair isn't stored.
+// A source of two chunk sizes. In the next one the first voxel alone is there: in its pair the other one counts as 0,
+// and the second pair isn't stored.
 const EDGES: &[Row] = &[
+    Row {
+        dataset: "n",
+        put: &[("n/t/0-1_0-1_0-1", &[2])],
+        ..MOST
+    },
     Row {
         dataset: "h",
         method: Method::Mean,
@@ -145,6 +164,17 @@ const REFUSALS: &[Row] = &[
         keys: ("s", "z"),
         status: 2,
         told: "info of d: scale absent\n",
+        ..REFUSED
+    },
+    Row {
+        dataset: "o",
+        told: "padded voxels 4194305 over 4194304\n",
+        ..REFUSED
+    },
+    Row {
+        dataset: "n",
+        keys: ("s", "u"),
+        told: "several chunk sizes\n",
         ..REFUSED
     },
     Row {

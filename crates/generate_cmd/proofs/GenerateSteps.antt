@@ -26,8 +26,8 @@ use Rattle.write_cmd.proofs.WriteSteps.{written_front}
 use Rattle.cutout_cmd.specs.Cutouts.{CutsScale, IsBroken, JudgesPart}
 use Rattle.generate_cmd.specs.Generating.{Generates, HasGenerated, IsSmall, IsUnsummed, JudgesWhole, MayPut, Summarizes, Sums, SumsScale}
 use Rattle.write_cmd.specs.Refusals.{write_without}
-use Rattle.command_base.specs.Scales.{IsReady, ReadsScale, stored_scale}
-use Rattle.write_cmd.specs.Storing.{AllReadBack, Counts, FrontPut, HasStored, Judges, Listing, WritesScale}
+use Rattle.command_base.specs.Scales.{ReadsScale, stored_scale}
+use Rattle.write_cmd.specs.Storing.{AllReadBack, AreReady, Counts, FrontPut, HasStored, Judges, Listing, WritesScale}
 use Rattle.value_sums.specs.Sums.{sum_in, sum_of}
 use Rattle.generate_cmd.specs.declared.generate.Summary.{Summary}
 use Rattle.cutout_cmd.specs.declared.refusal.CutoutRefusal.{CutoutRefusal}
@@ -125,12 +125,12 @@ summed written sum m (Some now) list dataset key s small writes sums = (
   small,
   ok_and list (λ ws. HasStored m (Some now) dataset key s ws × AllReadBack (Some now) dataset s ws × Counts written dataset s ws)
       (λ ws. HasStored m (Some now) dataset key s ws × AllReadBack (Some now) dataset s ws × Summarizes (record { written = written; sum = sum }) dataset s ws)
-      (λ ws h. (h.0, h.1, record { counts = h.2; sum_is = sum_is sum now dataset s ws h.0.bytes (h.1.1 (whole s) (whole_inside s)) sums })) writes,
+      (λ ws h. (h.0, h.1, record { counts = h.2; sum_is = sum_is sum now dataset s ws h.0.bytes (h.1.1 (whole s) (whole_inside s)).0 sums })) writes,
 )
 
 -- a cell that is damaged isn't what reads back
 sound : (m now : Objects) (list : Result Writes PlanFault) (dataset key : Name) (s : Scale) (written : Written) → WritesScale (Ok written) m (Some now) list dataset key s → first_fault now dataset s (whole s) ≡ None
-sound m now (Ok ws) dataset key s written h = (h.1.1 (whole s) (whole_inside s)).faultless
+sound m now (Ok ws) dataset key s written h = (h.1.1 (whole s) (whole_inside s)).0.faultless
 sound m now (Err fault) dataset key s written h = absurd h
 
 untold : (m : Objects) (list : Result Writes PlanFault) (dataset key : Name) (s : Scale) (written : Written) → WritesScale (Ok written) m None list dataset key s → ⊥
@@ -190,7 +190,7 @@ summed_told written sum (Some m) now after read list dataset key s small same ke
     (summed written sum m now (list s) dataset key s small (subst (λ l. WritesScale (Ok written) m now l dataset key s) same writes) sums)
 
 -- a scale that is too large
-large_refused : (refusal : GenerateRefusal) (m : Objects) (now : Option Objects) (list : Listing) (dataset key : Name) (s : Scale) → IsReady m dataset s → JudgesWhole (Err refusal) s → Generates (Err refusal) (Ok s) m now list dataset key
+large_refused : (refusal : GenerateRefusal) (m : Objects) (now : Option Objects) (list : Listing) (dataset key : Name) (s : Scale) → AreReady m dataset s → JudgesWhole (Err refusal) s → Generates (Err refusal) (Ok s) m now list dataset key
 large_refused (Cutout (uncut.TooLarge bytes)) m now list dataset key s ready judged = (ready, judged)
 large_refused (Cutout (uncut.Outside told all)) m now list dataset key s ready judged = absurd judged
 large_refused (Cutout (uncut.NoScale why)) m now list dataset key s ready judged = absurd judged

@@ -1,2 +1,3 @@
 pub mod DrawnSteps
+pub mod EndSteps
 pub mod GenerateSteps

@@ -6,16 +6,16 @@ use Rattle.vol_spec.specs.Cut.{cut, first_fault}
 use Rattle.vol_spec.specs.Grid.{whole}
 use Rattle.vol_spec.specs.Raw.{raw_len}
 use Rattle.vol_spec.specs.Types.{Bytes, Name, Writes}
-use Rattle.vol_spec.specs.Writable.{padded}
 use Rattle.vol_spec.specs.declared.scale.Scale.{Scale}
 use Rattle.value_sums.specs.Sums.{sum_in, sum_of}
 use Rattle.vectors_vol.specs.Generated.{generated}
 use Rattle.vectors_vol.specs.WriteStreams.{unless_large}
-use Rattle.write_plan.specs.Plans.{pairs}
 use Rattle.write_plan.specs.declared.fault.PlanFault.{PlanFault}
 use Rattle.command_base.specs.Ending.{Ends}
 use Rattle.command_base.specs.Outlets.{Outlets}
-use Rattle.command_base.specs.Scales.{IsFull, IsReady, stored_scale}
+use Rattle.size_laws.specs.Further.{all_views}
+use Rattle.view_writer.specs.Views.{first_many, first_wide}
+use Rattle.command_base.specs.Scales.{stored_scale}
 use Rattle.command_base.specs.Statuses.{puts}
 use Rattle.command_base.specs.declared.refusal.NoScale.{NoScale}
 use Rattle.command_base.specs.declared.status.Status.{Status}
@@ -23,7 +23,7 @@ use Rattle.command_base.specs.declared.status.Status.TheVariants.{StoreFault as 
 use Rattle.cutout_cmd.specs.Cutouts.{IsRequest, IsTooLarge}
 use Rattle.cutout_cmd.specs.declared.refusal.CutoutRefusal.{CutoutRefusal}
 use Rattle.cutout_cmd.specs.declared.refusal.CutoutRefusal.TheVariants as uncut
-use Rattle.write_cmd.specs.Storing.{AllReadBack, Counts, FrontPut, HasStored, Listing}
+use Rattle.write_cmd.specs.Storing.{AllReadBack, AreFull, AreReady, Counts, FrontPut, HasStored, Listing}
 use Rattle.write_cmd.specs.declared.refusal.WriteRefusal.TheVariants as unwritten
 use Rattle.generate_cmd.specs.Lines.{generated_line}
 use Rattle.generate_cmd.specs.Refusals.{generate_line, generate_status}
@@ -95,17 +95,17 @@ Generates (Ok summary) told m now list dataset key =
     IsOkAnd told (λ s. HasGenerated summary m now (list s) dataset key s)
 Generates (Err (Write (unwritten.NoScale why))) told m now list dataset key = told ≡ Err why
 Generates (Err (Write (unwritten.TooManyVoxels count))) told m now list dataset key =
-    IsOkAnd told (λ s. (count ≡ padded s) × (2 ^ 22 < padded s))
-Generates (Err (Write unwritten.NotEmpty)) told m now list dataset key = IsOkAnd told (IsFull m dataset)
+    IsOkAnd told (λ s. first_wide (all_views s) ≡ Some count)
+Generates (Err (Write unwritten.NotEmpty)) told m now list dataset key = IsOkAnd told (AreFull m dataset)
 Generates (Err (Write (unwritten.Stream fault))) told m now list dataset key =
-    IsOkAnd told (λ s. IsReady m dataset s × IsSmall s × (list s ≡ Err fault))
+    IsOkAnd told (λ s. AreReady m dataset s × IsSmall s × (list s ≡ Err fault))
 Generates (Err (Write (unwritten.TooManyCells cells))) told m now list dataset key =
-    IsOkAnd told (λ s. IsReady m dataset s × IsSmall s ×
-    IsOkAnd (list s) (λ writes. (cells ≡ pairs s writes) × (2 ^ 22 < pairs s writes)))
+    IsOkAnd told (λ s. AreReady m dataset s × IsSmall s ×
+    IsOkAnd (list s) (λ writes. first_many (all_views s) writes ≡ Some cells))
 Generates (Err (Write unwritten.StoreFault)) told m now list dataset key = MayPut told m now list dataset
 Generates (Err (Write unwritten.NoMemory)) told m now list dataset key = MayPut told m now list dataset
 Generates (Err (Cutout (uncut.TooLarge bytes))) told m now list dataset key =
-    IsOkAnd told (λ s. IsReady m dataset s × IsTooLarge s (whole s) bytes)
+    IsOkAnd told (λ s. AreReady m dataset s × IsTooLarge s (whole s) bytes)
 Generates (Err (Cutout uncut.StoreFault)) told m now list dataset key = MayPut told m now list dataset
 Generates (Err (Cutout uncut.NoMemory)) told m now list dataset key = MayPut told m now list dataset
 Generates (Err other) told m now list dataset key = ⊥
@@ -150,5 +150,5 @@ Generated status told now number count dataset key o = (answer : Result Summary 
 -- the scale is there, ready and small, and the list can be written
 abbrev pub CanGenerate : Objects → ℕ → ℕ → Name → Name → Type 0
 CanGenerate m number count dataset key =
-    IsOkAnd (stored_scale m dataset key) (λ s. IsReady m dataset s × IsSmall s ×
-    IsOkAnd (drawn number count s) (λ writes. pairs s writes ≤ 2 ^ 22))
+    IsOkAnd (stored_scale m dataset key) (λ s. AreReady m dataset s × IsSmall s ×
+    IsOkAnd (drawn number count s) (λ writes. first_many (all_views s) writes ≡ None))

@@ -1,5 +1,5 @@
 //! The command `generate`.
-ghost use Rattle.std.specs.Prelude.{◌≡◌, ◌≤◌, ◌<◌, ◌^◌, ℕ, List, Some, false, length, IfErr, IfSome};
+ghost use Rattle.std.specs.Prelude.{◌≡◌, ◌≤◌, ◌<◌, ◌^◌, ℕ, All, List, Some, false, length, IfErr, IfSome};
 ghost use Rattle.vol_base.specs.Causes.{HasCauseOf, Rose};
 ghost use Rattle.vol_base.specs.Outside.{Objects, OnlyReads};
 ghost use Rattle.vol_spec.specs.Grid.{whole as whole_of};
@@ -7,10 +7,11 @@ ghost use Rattle.vol_spec.specs.Writable.{IsWritable};
 ghost use Rattle.shard_writer.specs.Writing.{Drops};
 ghost use Rattle.command_base.specs.Ending.{EndsWell, IsCaused};
 ghost use Rattle.command_base.specs.Outlets.{outlets_of};
-ghost use Rattle.command_base.specs.Scales.{IsReady, stored_scale};
+ghost use Rattle.size_laws.specs.Further.{all_views};
+ghost use Rattle.command_base.specs.Scales.{stored_scale};
 ghost use Rattle.command_base.specs.Statuses.{prints, puts};
 ghost use Rattle.cutout_cmd.specs.Cutouts.{IsRequest};
-ghost use Rattle.write_cmd.specs.Storing.{WrittenBack};
+ghost use Rattle.write_cmd.specs.Storing.{AreReady, WrittenBack};
 ghost use Rattle.generate_cmd.specs.Generating.{CanGenerate, drawn, Generated, Generates, HasStoreCause, IsRefusal, IsUnsummed, JudgesWhole, SumsScale};
 ghost use Rattle.generate_cmd.specs.Refusals.{generate_status};
 
@@ -122,8 +123,8 @@ fn write_and_sum<R: Threads + Wait + Sync, S: Store, G: Gate + Sync>(
     count: u32,
 ) -> Result<Summary, GenerateRefusal>
     requires dataset { length dataset.now ≤ 200 }
-    requires writable { IsWritable scale.now }
-    requires empty { IfSome (S.objects store.old) (λ m. IsReady m dataset.now scale.now) }
+    requires writable { All IsWritable (all_views scale.now) }
+    requires empty { IfSome (S.objects store.old) (λ m. AreReady m dataset.now scale.now) }
     requires small { IsRequest scale.now (whole_of scale.now) }
     requires number { number < 2 ^ 31 }
     requires count { count ≤ 4096 }

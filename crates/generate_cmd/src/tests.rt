@@ -79,9 +79,9 @@ fn check<R: Threads + Wait + Abort + Sync>(
     Ok(())
 }
 
-// A size and a chunk size, the number and the number of writes, the line that is printed, and the objects that stand
+// A size and chunk sizes, the number and the number of writes, the line that is printed, and the objects that stand
 // afterwards.
-const CASES: [([&str; 2], u16, u8, &str, &[(&str, &[u8])]); 4] = [
+const CASES: [([&str; 2], u16, u8, &str, &[(&str, &[u8])]); 5] = [
     (
         ["[1,1,1]", "[1,1,1]"],
         5,
@@ -102,6 +102,18 @@ const CASES: [([&str; 2], u16, u8, &str, &[(&str, &[u8])]); 4] = [
         0,
         "writes 0 objects 0 bytes 0 sum 0\n",
         &[],
+    ),
+    (
+        ["[6,1,1]", "[4,1,1],[3,1,1]"],
+        5,
+        2,
+        "writes 2 objects 4 bytes 12 sum 47\n",
+        &[
+            ("d/s/0-4_0-1_0-1", &[0, 0, 5, 6]),
+            ("d/s/4-6_0-1_0-1", &[36, 0]),
+            ("d/s/0-3_0-1_0-1", &[0, 0, 5]),
+            ("d/s/3-6_0-1_0-1", &[6, 36, 0]),
+        ],
     ),
     (
         ["[6,5,2]", "[3,3,2]"],
@@ -162,6 +174,8 @@ const LARGE: [&str; 2] = ["[1025,1024,1024]", "[64,64,64]"];
 
 const FINE: [&str; 2] = ["[200,200,200]", "[1,1,1]"];
 
+const THEN_FINE: [&str; 2] = ["[200,200,200]", "[200,200,200],[1,1,1]"];
+
 const OTHER: [(&str, &[u8]); 1] = [("d/s/x", &[1])];
 
 // A segmentation past the writing limit, whose folder isn't empty.
@@ -176,9 +190,9 @@ const PADDED: [(&str, &[u8]); 2] = [
 // A document that gives no scale.
 const WITHOUT: [(&str, &[u8]); 1] = [("d/info", b"{\"type\":\"segmentation\"}")];
 
-// A size and a chunk size, objects, the number and the number of writes, the status and the line of the refusal. Of two causes
+// A size and chunk sizes, objects, the number and the number of writes, the status and the line of the refusal. Of two causes
 // the first in the order of the work is told.
-const REFUSALS: [([&str; 2], &[(&str, &[u8])], u16, u8, Status, &str); 5] = [
+const REFUSALS: [([&str; 2], &[(&str, &[u8])], u16, u8, Status, &str); 6] = [
     (
         LARGE,
         &WITHOUT,
@@ -219,10 +233,22 @@ const REFUSALS: [([&str; 2], &[(&str, &[u8])], u16, u8, Status, &str); 5] = [
         Status::RequestRefused,
         "too many cells 4351131\n",
     ),
+    (
+        THEN_FINE,
+        &[],
+        7,
+        220,
+        Status::RequestRefused,
+        "too many cells 4351131\n",
+    ),
 ];
 
 // Objects that no refused command stores.
-const NEVER: [(&str, &[u8]); 2] = [("d/s/0-1_0-1_0-1", &[]), ("d/s/0-64_0-64_0-64", &[])];
+const NEVER: [(&str, &[u8]); 3] = [
+    ("d/s/0-1_0-1_0-1", &[]),
+    ("d/s/0-64_0-64_0-64", &[]),
+    ("d/s/0-200_0-200_0-200", &[]),
+];
 
 // The objects that stand are those that stood.
 fn check_refusal<R: Threads + Wait + Abort + Sync>(

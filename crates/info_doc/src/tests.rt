@@ -271,11 +271,7 @@ fn judges_scales(rt: HostRuntime) -> Result<(), Fail> {
 fn judges_shardings(rt: HostRuntime) -> Result<(), Fail> {
     for (old, new, wanted) in [
         ("", "", "accepted"),
-        (
-            "[[1,1,1]]",
-            "[[1,1,1],[2,1,1]]",
-            "unsupported chunk_sizes",
-        ),
+        ("[[1,1,1]]", "[[1,1,1],[2,1,1]]", "unsupported chunk_sizes"),
         (
             "[[1,1,1]],\"resolution\":[8,8,40]",
             "[[1,1,1],[2,1,1]]",

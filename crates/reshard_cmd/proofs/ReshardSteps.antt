@@ -1,21 +1,27 @@
 -- What `reshard` answers, by what the copy of a scale answers.
-use Rattle.std.proofs.Common.{◌≡◌, ◌⊎◌, ◌∙◌, ◌^◌, ◌<◌, Option, Some, None, IfSome, Result, Ok, Err, false, refl, sym, subst, ap, inl, inr, ⊎_elim, arith}
-use Rattle.std.specs.Prelude.{IsOkAnd}
+use Rattle.std.proofs.Common.{◌≡◌, ◌⊎◌, ◌∙◌, ◌<◌, [], ◌∷◌, length, map, Option, Some, None, IfSome, Result, Ok, Err, false, refl, sym, subst, ap, inl, inr, ⊎_elim, arith}
+use Rattle.std.specs.Prelude.{All, IsOkAnd}
+use Rattle.std.specs.List.{range_with_len}
+use Rattle.std.proofs.lemmas.List.Elements.{All-cons, All-nil}
 use Rattle.vol_base.specs.Outside.{Draft, Objects, OnlyReads}
 use Rattle.vol_spec.proofs.Told.{in_told}
 use Rattle.vol_spec.specs.Copies.{AreOfOneVolume, copy}
 use Rattle.vol_spec.specs.Types.{Name}
+use Rattle.vol_spec.specs.Views.{view}
 use Rattle.vol_spec.specs.Writable.{IsWritable, padded}
 use Rattle.vol_spec.specs.declared.scale.Scale.{Scale}
 use Rattle.chunk_laws.specs.Told.{HasNoFault}
 use Rattle.info_doc.specs.declared.fault.Item.{Item}
 use Rattle.info_doc.specs.declared.fault.Item.TheVariants.{Root, AtType, VolumeType, DataType, NumChannels, Scales, Size, VoxelOffset, ChunkSizes, Resolution, Encoding, BlockSize, Sharding, ShardingType, PreshiftBits, Hash, MinishardBits, ShardBits, MinishardIndexEncoding, DataEncoding, ChunkBytes, MortonBits, Padded}
+use Rattle.size_laws.specs.Further.{all_views}
 use Rattle.shard_writer.specs.Writing.{Drops}
 use Rattle.shard_writer.specs.declared.written.Written.{Written}
+use Rattle.view_writer.proofs.PairSteps.{each_few}
+use Rattle.view_writer.specs.Views.{first_wide}
 use Rattle.command_base.proofs.Choices.{ok_and}
 use Rattle.command_base.specs.Ending.{EndsWell, Refuses}
 use Rattle.command_base.specs.Outlets.{Outlets, Tells}
-use Rattle.command_base.specs.Scales.{ReadsScale, stored_scale}
+use Rattle.command_base.specs.Scales.{IsWritableAlone, ReadsScale, stored_scale}
 use Rattle.command_base.specs.Statuses.{puts, Reports}
 use Rattle.command_base.specs.declared.refusal.NoScale.{NoScale as NoScaleType}
 use Rattle.command_base.specs.declared.refusal.ScaleRefusal.{ScaleRefusal}
@@ -32,29 +38,29 @@ use Rattle.reshard_cmd.specs.declared.refusal.ReshardRefusal.{ReshardRefusal}
 use Rattle.reshard_cmd.specs.declared.refusal.ReshardRefusal.TheVariants as refused
 
 -- the copy of a scale, over objects that are told
-copied_one : (m : Objects) (now : Option Objects) (from_dataset to_dataset : Name) (from to : Scale) (r : Result Written ReshardFault) (fault_of : ReshardFault) → r ≡ Err fault_of → IsWritable to → Judges {A = Written} (Err fault_of) from to
+copied_one : (m : Objects) (now : Option Objects) (from_dataset to_dataset : Name) (from to : Scale) (r : Result Written ReshardFault) (fault_of : ReshardFault) → r ≡ Err fault_of → IsWritableAlone to → Judges {A = Written} (Err fault_of) from to
     → Reshards (Err fault_of) m now from_dataset from to_dataset to → CopiesScale (Err (unmade fault_of)) m now from_dataset from to_dataset to
 copied_one m now from_dataset to_dataset from to r (fault.Differs item) is few judges h = (h, few, judges)
 copied_one m now from_dataset to_dataset from to r (fault.TooManyCells cells) is few judges h = (h, few, judges.0, judges.1)
 copied_one m now from_dataset to_dataset from to r fault.NotEmpty is few judges h = (h.1, few, judges.0, judges.1, h.0)
 copied_one m now from_dataset to_dataset from to r (fault.Damaged cell found) is few judges h =
-    (((judges.0, judges.1, (few, h.0)), h.1.1), h.1.0.first, λ sound. let none = sound cell h.1.0.of_source in cc (none, h.1.0.its_own))
+    (((judges.0, judges.1, (few.0, h.0), few.1), h.1.1), h.1.0.first, λ sound. let none = sound cell h.1.0.of_source in cc (none, h.1.0.its_own))
 copied_one m now from_dataset to_dataset from to r fault.StoreFault is few judges (inl kept) = inl kept
-copied_one m now from_dataset to_dataset from to r fault.StoreFault is few judges (inr h) = inr ((judges.0, judges.1, (few, h.0)), h.1)
-copied_one m now from_dataset to_dataset from to r fault.OutOfMemory is few judges h = inr ((judges.0, judges.1, (few, h.0)), h.1)
+copied_one m now from_dataset to_dataset from to r fault.StoreFault is few judges (inr h) = inr ((judges.0, judges.1, (few.0, h.0), few.1), h.1)
+copied_one m now from_dataset to_dataset from to r fault.OutOfMemory is few judges h = inr ((judges.0, judges.1, (few.0, h.0), few.1), h.1)
 
-pub refused_copy : (o now : Option Objects) (from_dataset to_dataset : Name) (from to : Scale) (r : Result Written ReshardFault) (found : ReshardFault) (refusal : ReshardRefusal) → r ≡ Err found → refusal ≡ unmade found → IsWritable to
+pub refused_copy : (o now : Option Objects) (from_dataset to_dataset : Name) (from to : Scale) (r : Result Written ReshardFault) (found : ReshardFault) (refusal : ReshardRefusal) → r ≡ Err found → refusal ≡ unmade found → IsWritableAlone to
     → Judges {A = Written} (Err found) from to → IfSome o (λ m. Reshards (Err found) m now from_dataset from to_dataset to) → IfSome o (λ m. CopiesScale (Err refusal) m now from_dataset from to_dataset to)
 refused_copy None now from_dataset to_dataset from to r found refusal is refuses few judges h = tt
 refused_copy (Some m) now from_dataset to_dataset from to r found refusal is refuses few judges h =
     subst (λ x. CopiesScale (Err x) m now from_dataset from to_dataset to) (sym refuses) (copied_one m now from_dataset to_dataset from to r found is few judges h)
 
-pub made_copy : (o now : Option Objects) (from_dataset to_dataset : Name) (from to : Scale) (written : Written) → IsWritable to → Judges (Ok written) from to
+pub made_copy : (o now : Option Objects) (from_dataset to_dataset : Name) (from to : Scale) (written : Written) → IsWritableAlone to → Judges (Ok written) from to
     → IfSome o (λ m. Reshards (Ok written) m now from_dataset from to_dataset to) → IfSome o (λ m. CopiesScale (Ok written) m now from_dataset from to_dataset to)
 made_copy None now from_dataset to_dataset from to written few judges h = tt
 made_copy (Some m) now from_dataset to_dataset from to written few judges h = (
   record {
-    ready = (judges.0, judges.1, (few, h.0));
+    ready = (judges.0, judges.1, (few.0, h.0), few.1);
     put = h.1.put;
     scales = scales_kept m to_dataset to (copy m from_dataset from to) h.0;
     source = h.1.source;
@@ -83,6 +89,7 @@ of_target (Ok written) m now from_dataset to_dataset from to h = h
 of_target (Err (refused.NoSource why)) m now from_dataset to_dataset from to h = absurd h
 of_target (Err (refused.NoTarget why)) m now from_dataset to_dataset from to h = absurd h
 of_target (Err (refused.TooManyVoxels voxels)) m now from_dataset to_dataset from to h = absurd h
+of_target (Err refused.SeveralSizes) m now from_dataset to_dataset from to h = absurd h
 of_target (Err (refused.Differs item)) m now from_dataset to_dataset from to h = h
 of_target (Err (refused.TooManyCells cells)) m now from_dataset to_dataset from to h = h
 of_target (Err refused.NotEmpty) m now from_dataset to_dataset from to h = h
@@ -102,6 +109,7 @@ no_target : (refusal : ReshardRefusal) (told : Result Scale NoScaleType) (m : Ob
     → CopiesStored (Err refusal) (Ok from) told m now from_dataset to_dataset
 no_target (refused.NoTarget why) told m now from_dataset to_dataset from kept reads = (kept, reads)
 no_target (refused.TooManyVoxels voxels) told m now from_dataset to_dataset from kept reads = (kept, reads)
+no_target refused.SeveralSizes told m now from_dataset to_dataset from kept reads = (kept, reads)
 no_target refused.StoreFault told m now from_dataset to_dataset from kept reads = inl kept
 no_target refused.NoMemory told m now from_dataset to_dataset from kept reads = inl kept
 no_target (refused.NoSource why) told m now from_dataset to_dataset from kept reads = absurd reads
@@ -182,6 +190,14 @@ pub refusal_told : (refusal : ReshardRefusal) (status : Status) (from_dataset to
     → Reports (reshard_status refusal) (reshard_line named refusal) status (Tells o) → Refuses reshard_status (refusal_line from_dataset to_dataset) refusal status o
 refusal_told refusal status from_dataset to_dataset named o names told = subst (λ d. Reports (reshard_status refusal) (reshard_line d refusal) status (Tells o)) names told
 
+-- a scale of one chunk size that keeps the writing limit keeps it in each view
+alone_each : (s : Scale) → IsWritableAlone s → All IsWritable (all_views s)
+alone_each s can =
+    subst (λ n. All IsWritable (s ∷ map (view s) (range_with_len 1 n))) (sym can.1) (All-cons IsWritable s [] can.0 (All-nil IsWritable))
+
+pub none_wide : (s : Scale) → IsWritableAlone s → first_wide (all_views s) ≡ None
+none_wide s can = each_few padded (all_views s) (alone_each s can)
+
 -- a refusal of a copy that could be made
 pub meet : (source target : Result Scale NoScaleType) (P Q : Scale → Scale → Type 0) → OfBoth source target P → OfBoth source target Q → ((from to : Scale) → P from to → Q from to → ⊥) → ⊥
 meet (Ok from) (Ok to) P Q p q f = f from to p q
@@ -228,8 +244,11 @@ refused_ready refusal m now from_dataset from_key to_dataset to_key = by_case re
     by_case (refused.NoTarget why) (Ok from) (Err missing) copies can = absurd can
     by_case (refused.NoTarget why) (Err missing) target copies can = absurd can
     by_case (refused.TooManyVoxels voxels) source target copies can =
-        absurd (meet source target (λ from to. (voxels ≡ padded to) × (2 ^ 22 < padded to)) (λ from to. IsReadyCopy m from to_dataset to × HasNoFault m from_dataset from) copies.1 can
-        (λ from to h k. omega (arith, h.1, k.0.2.0)))
+        absurd (meet source target (λ from to. first_wide (all_views to) ≡ Some voxels) (λ from to. IsReadyCopy m from to_dataset to × HasNoFault m from_dataset from) copies.1 can
+        (λ from to h k. let none = none_wide to (k.0.2.0, k.0.3) in cc (none, h)))
+    by_case refused.SeveralSizes source target copies can =
+        absurd (meet source target (λ from to. All IsWritable (all_views to) × (0 < length to.more)) (λ from to. IsReadyCopy m from to_dataset to × HasNoFault m from_dataset from) copies.1 can
+        (λ from to h k. omega (arith, h.1, k.0.3)))
     by_case (refused.Differs item) source target copies can =
         absurd (meet source target (λ from to. CopiesScale (Err (refused.Differs item)) m now from_dataset from to_dataset to) (λ from to. IsReadyCopy m from to_dataset to × HasNoFault m from_dataset from) copies can
         (λ from to h k. no_difference item from to h.2 k.0.0))

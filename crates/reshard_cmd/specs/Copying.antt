@@ -1,21 +1,23 @@
 -- What `reshard` answers (this project's profile).
-use Rattle.std.specs.Prelude.{◌≡◌, ◌⊎◌, ◌^◌, ◌<◌, true, length, Option, Some, None, Result, Ok as Done, Err, IfOk, IfSome, IsOkAnd, IsSomeAnd}
+use Rattle.std.specs.Prelude.{◌≡◌, ◌⊎◌, ◌<◌, true, length, All, Option, Some, None, Result, Ok as Done, Err, IfOk, IfSome, IsOkAnd, IsSomeAnd}
 use Rattle.vol_base.specs.Outside.{any_under, Draft, Objects}
 use Rattle.vol_base.specs.declared.boxes.Box3.{Box3}
 use Rattle.vol_spec.specs.CellNames.{folder_of}
 use Rattle.vol_spec.specs.Copies.{AreOfOneVolume, copied_cells}
 use Rattle.vol_spec.specs.Grid.{Inside}
 use Rattle.vol_spec.specs.Types.{Bytes, Name}
-use Rattle.vol_spec.specs.Writable.{IsWritable, padded}
+use Rattle.vol_spec.specs.Writable.{IsWritable}
 use Rattle.vol_spec.specs.declared.scale.Scale.{Scale}
 use Rattle.chunk_laws.specs.Told.{HasNoFault}
 use Rattle.copy_laws.specs.Copied.{copied_in, KeepsValues, ReadsAsSource}
+use Rattle.size_laws.specs.Further.{all_views}
 use Rattle.shard_writer.specs.Writing.{BeginsNext, Drops}
 use Rattle.shard_writer.specs.declared.written.Written.{Written}
+use Rattle.view_writer.specs.Views.{first_wide}
 use Rattle.command_base.specs.Ending.{Ends}
 use Rattle.command_base.specs.Lines.{written_line}
 use Rattle.command_base.specs.Outlets.{Outlets}
-use Rattle.command_base.specs.Scales.{IsReady, stored_scale}
+use Rattle.command_base.specs.Scales.{HasOneSize, IsReady, IsWritableAlone, stored_scale}
 use Rattle.command_base.specs.declared.refusal.NoScale.{NoScale}
 use Rattle.command_base.specs.declared.status.Status.{Status}
 use Rattle.reshard_cmd.specs.Judging.{DiffersFirst, too_many}
@@ -30,11 +32,11 @@ use Rattle.reshard_cmd.specs.declared.refusal.ReshardRefusal.TheVariants as refu
 abbrev pub OfBoth : Result Scale NoScale → Result Scale NoScale → (Scale → Scale → Type 0) → Type 0
 OfBoth source target Of = IsOkAnd source (λ from. IsOkAnd target (λ to. Of from to))
 
--- a copy can be begun: the target keeps the writing limit, both scales are of one volume, no grid has too many cells, and the target's folder is
--- empty
+-- a copy can be begun: the target keeps the writing limit and has one chunk size, both scales are of one volume, no grid has too many cells, and
+-- the target's folder is empty
 abbrev pub IsReadyCopy : Objects → Scale → Name → Scale → Type 0
 IsReadyCopy m from to_dataset to = AreOfOneVolume from to × (too_many from to ≡ None) ×
-    IsReady m to_dataset to
+    IsReady m to_dataset to × HasOneSize to
 
 -- each scale that was there, of whatever data set and key, is there as before
 abbrev pub KeepsScales : Objects → Objects → Type 0
@@ -86,25 +88,27 @@ unmade fault.OutOfMemory = refused.NoMemory
 
 -- what reading the scale that is copied into answers
 abbrev pub ReadsTarget : Result Scale ReshardRefusal → Result Scale NoScale → Type 0
-ReadsTarget (Done to) told = (told ≡ Done to) × IsWritable to
+ReadsTarget (Done to) told = (told ≡ Done to) × IsWritableAlone to
 ReadsTarget (Err (refused.NoTarget why)) told = told ≡ Err why
 ReadsTarget (Err (refused.TooManyVoxels voxels)) told =
-    IsOkAnd told (λ to. (voxels ≡ padded to) × (2 ^ 22 < padded to))
+    IsOkAnd told (λ to. first_wide (all_views to) ≡ Some voxels)
+ReadsTarget (Err refused.SeveralSizes) told =
+    IsOkAnd told (λ to. All IsWritable (all_views to) × (0 < length to.more))
 ReadsTarget (Err refused.StoreFault) told = Unit {0}
 ReadsTarget (Err refused.NoMemory) told = Unit {0}
 ReadsTarget (Err other) told = ⊥
 
--- what copying a scale into one that keeps the writing limit answers, and what stands after it
+-- what copying a scale into one that keeps the writing limit and has one chunk size answers, and what stands after it
 abbrev pub CopiesScale : Result Written ReshardRefusal → Objects → Option Objects → Name → Scale → Name →
     Scale → Type 0
 CopiesScale (Done written) m now from_dataset from to_dataset to =
     HasCopied m now from_dataset from to_dataset to × CountsCopy written m from_dataset from to_dataset to
 CopiesScale (Err (refused.Differs item)) m now from_dataset from to_dataset to = (now ≡ Some m) ×
-    IsWritable to × DiffersFirst from to item
+    IsWritableAlone to × DiffersFirst from to item
 CopiesScale (Err (refused.TooManyCells cells)) m now from_dataset from to_dataset to =
-    (now ≡ Some m) × IsWritable to × AreOfOneVolume from to × (too_many from to ≡ Some cells)
+    (now ≡ Some m) × IsWritableAlone to × AreOfOneVolume from to × (too_many from to ≡ Some cells)
 CopiesScale (Err refused.NotEmpty) m now from_dataset from to_dataset to =
-    (now ≡ Some m) × IsWritable to × AreOfOneVolume from to × (too_many from to ≡ None) ×
+    (now ≡ Some m) × IsWritableAlone to × AreOfOneVolume from to × (too_many from to ≡ None) ×
     (any_under m (folder_of to_dataset to) ≡ true)
 CopiesScale (Err (refused.Damaged cell found)) m now from_dataset from to_dataset to =
     CopyFront m now from_dataset from to_dataset to ×
@@ -123,7 +127,9 @@ CopiesStored (Err (refused.NoSource why)) source target m now from_dataset to_da
 CopiesStored (Err (refused.NoTarget why)) source target m now from_dataset to_dataset = (now ≡ Some m) ×
     IsOkAnd source (λ from. target ≡ Err why)
 CopiesStored (Err (refused.TooManyVoxels voxels)) source target m now from_dataset to_dataset =
-    (now ≡ Some m) × OfBoth source target (λ from to. (voxels ≡ padded to) × (2 ^ 22 < padded to))
+    (now ≡ Some m) × OfBoth source target (λ from to. first_wide (all_views to) ≡ Some voxels)
+CopiesStored (Err refused.SeveralSizes) source target m now from_dataset to_dataset =
+    (now ≡ Some m) × OfBoth source target (λ from to. All IsWritable (all_views to) × (0 < length to.more))
 CopiesStored (Err refused.StoreFault) source target m now from_dataset to_dataset =
     (now ≡ Some m) ⊎ OfBoth source target (λ from to. CopyFront m now from_dataset from to_dataset to)
 CopiesStored (Err refused.NoMemory) source target m now from_dataset to_dataset =

@@ -3,7 +3,7 @@ use Rattle.std.specs.Prelude.{◌≡◌, IfSome, refl}
 use Rattle.info_doc.specs.Texts.{item_text}
 use Rattle.vol_shell.specs.Lines.{folder_line, memory_line, store_line}
 use Rattle.vol_spec.specs.Types.{Bytes, Name}
-use Rattle.command_base.specs.Lines.{cells_line, damaged_line, info_line, voxels_line}
+use Rattle.command_base.specs.Lines.{cells_line, damaged_line, info_line, sizes_line, voxels_line}
 use Rattle.command_base.specs.Refusals.{info_text}
 use Rattle.command_base.specs.Statuses.{fixed_line}
 use Rattle.command_base.specs.declared.refusal.ScaleRefusal.{ScaleRefusal}
@@ -24,6 +24,7 @@ abbrev pub reshard_status : ReshardRefusal → Status
 reshard_status (reshard.NoSource why) = InfoRefused
 reshard_status (reshard.NoTarget why) = InfoRefused
 reshard_status (reshard.TooManyVoxels voxels) = RequestRefused
+reshard_status reshard.SeveralSizes = RequestRefused
 reshard_status (reshard.Differs item) = RequestRefused
 reshard_status (reshard.TooManyCells cells) = RequestRefused
 reshard_status reshard.NotEmpty = RequestRefused
@@ -35,6 +36,7 @@ abbrev pub reshard_line : Name → ReshardRefusal → Bytes
 reshard_line dataset (reshard.NoSource why) = info_line dataset (info_text why)
 reshard_line dataset (reshard.NoTarget why) = info_line dataset (info_text why)
 reshard_line dataset (reshard.TooManyVoxels voxels) = voxels_line voxels
+reshard_line dataset reshard.SeveralSizes = sizes_line
 reshard_line dataset (reshard.Differs item) = differs_line (item_text item)
 reshard_line dataset (reshard.TooManyCells cells) = cells_line cells
 reshard_line dataset reshard.NotEmpty = folder_line
@@ -48,6 +50,7 @@ pub reshard_fixed : (dataset : Name) (refusal : ReshardRefusal) →
 reshard_fixed dataset (reshard.NoSource why) = tt
 reshard_fixed dataset (reshard.NoTarget why) = tt
 reshard_fixed dataset (reshard.TooManyVoxels voxels) = tt
+reshard_fixed dataset reshard.SeveralSizes = tt
 reshard_fixed dataset (reshard.Differs item) = tt
 reshard_fixed dataset (reshard.TooManyCells cells) = tt
 reshard_fixed dataset reshard.NotEmpty = tt

@@ -6,7 +6,7 @@ ghost use Rattle.vol_spec.specs.Writable.{IsWritable};
 ghost use Rattle.shard_writer.specs.Writing.{Drops};
 ghost use Rattle.command_base.specs.Ending.{EndsWell, IsCaused};
 ghost use Rattle.command_base.specs.Outlets.{outlets_of};
-ghost use Rattle.command_base.specs.Scales.{stored_scale};
+ghost use Rattle.command_base.specs.Scales.{HasOneSize, stored_scale};
 ghost use Rattle.command_base.specs.Statuses.{prints, puts};
 ghost use Rattle.reshard_cmd.specs.Copying.{BeginsCopy, CanReshard, CopiedBack, CopiesScale, CopiesStored, DropsOrReshards, DropsUnsharded, named_in, ReadsTarget, Resharded, unmade};
 ghost use Rattle.reshard_cmd.specs.Refusals.{reshard_status};
@@ -20,6 +20,7 @@ use shard_writer::Written;
 use std::alloc::Global;
 use std::sync::Wait;
 use std::thread::Threads;
+use view_writer::find_wide;
 use vol_base::{Gate, Name, Outlet, Source, Store};
 use vol_spec::Scale;
 
@@ -51,11 +52,12 @@ fn find_named<'a>(
     }
 }
 
-/// The scale that is written into, where it is there and keeps the writing limit.
+/// The scale that is written into, where it is there, keeps the writing limit and has one chunk size.
 ///
 /// # Errors
-/// `NoTarget` where it isn't there, `TooManyVoxels` where it has more padded voxels than are written, `StoreFault`
-/// only where the store failed, and `NoMemory`.
+/// In this order: `NoTarget` where it isn't there, `TooManyVoxels` where a view of it has more padded voxels than are
+/// written, and `SeveralSizes` where it has several chunk sizes; `StoreFault` only where the store failed, and
+/// `NoMemory`.
 pub fn read_target<S: Source>(
     alloc: Global,
     store: &mut S,
@@ -67,6 +69,7 @@ pub fn read_target<S: Source>(
     ensures read { IfSome (S.objects store.old) (λ m.
         ReadsTarget result (stored_scale m dataset.now key.now)) }
     ensures writable { IfOk result IsWritable }
+    ensures one { IfOk result HasOneSize }
     ensures kept { OnlyReads (S.objects store.old) (S.objects store.new) (S.draft store.old)
         (S.draft store.new) }
     ensures cause { HasCauseOf ReshardRefusal.StoreFault (S.faults store.old) (S.faults store.new) result }
@@ -77,10 +80,10 @@ pub fn read_target<S: Source>(
         Err(ScaleRefusal::StoreFault) => return Err(ReshardRefusal::StoreFault),
         Err(ScaleRefusal::NoMemory) => return Err(ReshardRefusal::NoMemory),
     };
-    if scale.can_encode() {
-        Ok(scale)
-    } else {
-        Err(ReshardRefusal::TooManyVoxels(scale.padded()))
+    match find_wide(&scale) {
+        Some(voxels) => Err(ReshardRefusal::TooManyVoxels(voxels)),
+        None if scale.more.len() > 0 => Err(ReshardRefusal::SeveralSizes),
+        None => Ok(scale),
     }
 }
 
@@ -96,6 +99,7 @@ fn copy_scale<R: Threads + Wait + Sync, S: Store, G: Gate + Sync>(
     requires from_dataset { length from_dataset.now ≤ 200 }
     requires to_dataset { length to_dataset.now ≤ 200 }
     requires writable { IsWritable to.now }
+    requires one { HasOneSize to.now }
     ensures copies { IfSome (S.objects store.old) (λ m.
         CopiesScale result m (S.objects store.new) from_dataset.now from.now to_dataset.now to.now) }
     ensures kept { IfErr result (λ refusal. puts (reshard_status refusal) ≡ false →
@@ -170,9 +174,9 @@ fn copy_stored<R: Threads + Wait + Sync, S: Store, G: Gate + Sync>(
     copy_into(crew, store, from_dataset, &from, to_dataset, to_key)
 }
 
-/// The command `reshard`: copies the scale of a key of a data set into that of another key, or data set, whose folder is
-/// empty, with other chunks, in another encoding or otherwise sharded; and prints how many objects were put, and how
-/// many cells they hold. A refusal is told.
+/// The command `reshard`: copies the scale of a key of a data set, read by its first chunk size, into that of another
+/// key, or data set, which has one chunk size and an empty folder, with other chunks, in another encoding or otherwise
+/// sharded; and prints how many objects were put, and how many cells they hold. A refusal is told.
 pub fn run_reshard<R: Threads + Wait + Sync, S: Store, O: Outlet, E: Outlet, G: Gate + Sync>(
     crew: &Crew<R, G>,
     store: &mut S,

@@ -7,6 +7,7 @@ ghost use Rattle.vol_spec.specs.Copies.{AreOfOneVolume};
 ghost use Rattle.vol_spec.specs.Writable.{IsWritable};
 ghost use Rattle.shard_writer.specs.Writing.{Drops};
 ghost use Rattle.write_plan.specs.Pairs.{cell_count};
+ghost use Rattle.command_base.specs.Scales.{HasOneSize};
 ghost use Rattle.reshard_cmd.specs.Judging.{Judges};
 ghost use Rattle.reshard_cmd.specs.Resharding.{Copies, DropsOrCopies, HasCopyJobs, IsLate, KeepsStore, Reshards};
 ghost use Rattle.copier.specs.Held.{cells_of};
@@ -98,9 +99,9 @@ fn write_copy<R: Threads + Wait + Sync, S: Store, G: Gate + Sync>(
     }
 }
 
-/// Copies a scale of a data set into another scale of the same volume, maybe of another data set, with other
-/// chunks, in another encoding or otherwise sharded. A cell of the target is stored exactly where its box
-/// meets that of a cell of the source that isn't absent, with the source's values.
+/// Copies a scale of a data set, read by its first chunk size, into another scale of the same volume, which has one
+/// chunk size, maybe of another data set, with other chunks, in another encoding or otherwise sharded. A cell of the
+/// target is stored exactly where its box meets that of a cell of the source that isn't absent, with the source's values.
 ///
 /// # Errors
 /// In this order: `Differs` exactly where the scales aren't of one volume, `TooManyCells` exactly where the
@@ -121,6 +122,7 @@ pub fn reshard<R: Threads + Wait + Sync, S: Store, G: Gate + Sync>(
     requires from_dataset { length from_dataset.now ≤ 200 }
     requires to_dataset { length to_dataset.now ≤ 200 }
     requires writable { IsWritable to.now }
+    requires one { HasOneSize to.now }
     ensures judges { Judges result from.now to.now }
     ensures reshards { IfSome (S.objects store.old) (λ m.
         Reshards result m (S.objects store.new) from_dataset.now from.now to_dataset.now to.now) }

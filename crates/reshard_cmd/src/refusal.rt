@@ -11,8 +11,10 @@ pub enum ReshardRefusal {
     NoSource(NoScale),
     /// or none that is copied into.
     NoTarget(NoScale),
-    /// The target has more padded voxels times channels than are written: so many.
+    /// A view of the target has more padded voxels times channels than are written: so many, the first such view.
     TooManyVoxels(u64),
+    /// The target has several chunk sizes.
+    SeveralSizes,
     /// The first item in which the scales differ.
     Differs(Item),
     /// The first grid that has more cells than are copied: so many.

@@ -4,8 +4,8 @@ ghost use Rattle.reshard_cmd.specs.Refusals.{reshard_fixed, reshard_line, reshar
 use crate::lines::write_differs_line;
 use crate::refusal::ReshardRefusal;
 use command_base::{
-    Refusal, Status, write_cells_line, write_damaged_line, write_folder_line, write_voxels_line,
-    write_why,
+    Refusal, Status, write_cells_line, write_damaged_line, write_folder_line, write_sizes_line,
+    write_voxels_line, write_why,
 };
 use std::alloc::{AllocError, Global};
 use vol_base::Name;
@@ -21,6 +21,7 @@ impl Refusal for ReshardRefusal {
         match self {
             ReshardRefusal::NoSource(_) | ReshardRefusal::NoTarget(_) => Status::InfoRefused,
             ReshardRefusal::TooManyVoxels(_)
+            | ReshardRefusal::SeveralSizes
             | ReshardRefusal::Differs(_)
             | ReshardRefusal::TooManyCells(_)
             | ReshardRefusal::NotEmpty => Status::RequestRefused,
@@ -38,6 +39,7 @@ impl Refusal for ReshardRefusal {
             ReshardRefusal::TooManyVoxels(voxels) => {
                 Ok(write_voxels_line(alloc, *voxels)?.into_bytes())
             }
+            ReshardRefusal::SeveralSizes => write_sizes_line(alloc),
             ReshardRefusal::Differs(item) => {
                 let text = item.to_string(alloc)?;
                 Ok(write_differs_line(alloc, &text)?.into_bytes())

@@ -52,7 +52,15 @@ pub(crate) const RAW: Volume = Volume {
     verified: "cells 12 stored 6 absent 6\n",
 };
 
-// The same cells in two shards of two minishards, which have two chunks, or one; one chunk is absent.
+// The same, once more in slabs of twenty voxels and less.
+pub(crate) const RAW_TWICE: Volume = Volume {
+    info: b"{\"type\":\"image\",\"data_type\":\"uint16\",\"num_channels\":2,\"scales\":[{\"key\":\"s\",\"size\":[5,4,2],\"voxel_offset\":[-2,1,0],\"chunk_sizes\":[[2,3,1],[5,2,2]],\"resolution\":[8,8,40],\"encoding\":\"raw\"}]}",
+    writes: RAW.writes,
+    written: "objects 8 cells 8\n",
+    verified: "cells 14 stored 8 absent 6\n",
+};
+
+// The cells of one plane in two shards of two minishards, which have two chunks, or one; one chunk is absent.
 pub(crate) const SHARDED: Volume = Volume {
     info: b"{\"type\":\"image\",\"data_type\":\"uint8\",\"num_channels\":1,\"scales\":[{\"key\":\"s\",\"size\":[5,4,1],\"chunk_sizes\":[[2,3,1]],\"resolution\":[8,8,40],\"encoding\":\"raw\",\"sharding\":{\"@type\":\"neuroglancer_uint64_sharded_v1\",\"preshift_bits\":0,\"hash\":\"identity\",\"minishard_bits\":1,\"shard_bits\":1}}]}",
     writes: &[

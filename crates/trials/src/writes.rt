@@ -2,7 +2,7 @@
 
 use crate::plain::{compare, number_of, place_of};
 use crate::volumes::{
-    LABELS, RAW, SEGMENTED, SHARDED, Volume, Write, byte_at, find_scale, written,
+    LABELS, RAW, RAW_TWICE, SEGMENTED, SHARDED, Volume, Write, byte_at, find_scale, written,
 };
 use cutout_cmd::run_cutout;
 use info_doc::Scale;
@@ -17,9 +17,10 @@ use vol_base::Box3;
 use vol_plain::covers;
 
 // Parts of all volumes: whole ones, and parts across cells, blocks and planes.
-const PARTS: [(&Volume, &str); 9] = [
+const PARTS: [(&Volume, &str); 10] = [
     (&RAW, "[-2:3,1:5,0:2]"),
     (&RAW, "[-1:2,2:5,1:2]"),
+    (&RAW_TWICE, "[-2:3,1:5,0:2]"),
     (&SHARDED, "[0:5,0:4,0:1]"),
     (&SHARDED, "[1:4,1:3,0:1]"),
     (&SHARDED, "[4:5,2:4,0:1]"),

@@ -1,30 +1,36 @@
 -- What the command `update` answers, by what putting writes over a scale answers.
-use Rattle.std.proofs.Common.{◌≡◌, ◌⊎◌, ◌∙◌, ◌^◌, ◌≤◌, length, Option, Some, None, IfSome, Result, Ok, Err, refl, sym, subst, ap, inl, inr, ⊎_elim, arith}
+use Rattle.std.proofs.Common.{◌≡◌, ◌⊎◌, ◌∙◌, ◌^◌, ◌≤◌, [], ◌∷◌, length, map, Option, Some, None, IfSome, Result, Ok, Err, refl, sym, subst, ap, inl, inr, ⊎_elim, arith}
 use Rattle.std.specs.Prelude.{All, IfErr, IsOkAnd, ℕ}
+use Rattle.std.specs.List.{range_with_len}
+use Rattle.std.proofs.lemmas.List.Elements.{All-cons, All-nil}
 use Rattle.vol_base.specs.Bytes.{AreBytes}
 use Rattle.vol_base.specs.Outside.{Draft, HaveBytes, Objects, OnlyReads}
 use Rattle.vol_spec.proofs.Told.{in_told}
 use Rattle.vol_spec.specs.StoredCells.{met_cells, put_in}
 use Rattle.vol_spec.specs.StoredLists.{stored_list}
 use Rattle.vol_spec.specs.Types.{Bytes, Chunks, Name, Writes}
-use Rattle.vol_spec.specs.Writable.{IsWritable}
+use Rattle.vol_spec.specs.Views.{view}
+use Rattle.vol_spec.specs.Writable.{IsWritable, padded}
 use Rattle.vol_spec.specs.declared.scale.Scale.{Scale}
 use Rattle.chunk_laws.proofs.Law.{stored_outside}
 use Rattle.command_base.proofs.Choices.{ok_and, ok_is}
 use Rattle.command_base.specs.Ending.{EndsWell}
 use Rattle.command_base.specs.Outlets.{Outlets, Tells}
-use Rattle.command_base.specs.Scales.{info_name, scale_from, stored_scale}
+use Rattle.command_base.specs.Scales.{IsWritableAlone, info_name, scale_from, stored_scale}
 use Rattle.command_base.specs.Statuses.{Reports}
 use Rattle.command_base.specs.declared.refusal.NoScale.{NoScale as NoScaleType}
 use Rattle.command_base.specs.declared.status.Status.{Status}
 use Rattle.shard_writer.specs.Writing.{Drops}
 use Rattle.shard_writer.specs.declared.written.Written.{Written}
+use Rattle.size_laws.specs.Further.{all_views}
 use Rattle.update_laws.proofs.JudgedSteps.{judged_few}
 use Rattle.update_laws.proofs.NameSteps.{updated_whole}
 use Rattle.update_laws.proofs.ReadSteps.{updated_cut, updated_faultless, updated_value}
 use Rattle.update_laws.specs.Judged.{refusal_in}
 use Rattle.update_laws.specs.Overlaid.{after}
 use Rattle.update_laws.specs.Updated.{CanUpdate, updated_in}
+use Rattle.view_writer.proofs.PairSteps.{each_few}
+use Rattle.view_writer.specs.Views.{first_wide}
 use Rattle.write_cmd.proofs.PlanSteps.{few_cells}
 use Rattle.write_cmd.proofs.StreamSteps.{info_apart}
 use Rattle.write_cmd.specs.Storing.{Listing}
@@ -58,15 +64,15 @@ all_read m now dataset s writes can put =
       },
     )
 
-made_one : (written : Written) (m : Objects) (now : Option Objects) (list : Result Writes PlanFault) (dataset key : Name) (s : Scale) (writes : Writes) → list ≡ Ok writes → IsWritable s → All (λ write. AreBytes write.1) writes → HaveBytes m
+made_one : (written : Written) (m : Objects) (now : Option Objects) (list : Result Writes PlanFault) (dataset key : Name) (s : Scale) (writes : Writes) → list ≡ Ok writes → IsWritableAlone s → All (λ write. AreBytes write.1) writes → HaveBytes m
     → UpdatesScale (Ok written) m now dataset s writes → AnswersScale (Ok written) m now list dataset key s
 made_one written m now list dataset key s writes is can bytes held h =
     let met : length (met_cells s writes) ≤ 2 ^ 22 = (let few = few_cells s writes in omega (arith, few, h.0)) in
-    let able : CanUpdate m dataset s writes = record { few = judged_few m dataset s writes h.1.0 met; writable = can; written = bytes; held = held } in
+    let able : CanUpdate m dataset s writes = record { few = judged_few m dataset s writes h.1.0 met; writable = can.0; written = bytes; held = held } in
     ok_is list writes (λ ws. HasUpdated m now dataset key s ws written × AllReadUpdated m now dataset s ws) is
-    (record { writable = can; few = h.0; judged = h.1.0; updated = h.1.1; same = scale_stays m dataset key s (after m dataset s writes) }, all_read m now dataset s writes able h.1.1.put)
+    (record { writable = can.0; one = can.1; few = h.0; judged = h.1.0; updated = h.1.1; same = scale_stays m dataset key s (after m dataset s writes) }, all_read m now dataset s writes able h.1.1.put)
 
-refused_one : (found : UpdateFault) (m : Objects) (now : Option Objects) (list : Result Writes PlanFault) (dataset key : Name) (s : Scale) (writes : Writes) → list ≡ Ok writes → IsWritable s → UpdatesScale (Err found) m now dataset s writes
+refused_one : (found : UpdateFault) (m : Objects) (now : Option Objects) (list : Result Writes PlanFault) (dataset key : Name) (s : Scale) (writes : Writes) → list ≡ Ok writes → IsWritableAlone s → UpdatesScale (Err found) m now dataset s writes
     → AnswersScale (Err (not_updated found)) m now list dataset key s
 refused_one (fault.TooManyCells cells) m now list dataset key s writes is can h = (h.0, ok_is list writes (λ ws. HasTooMany m dataset s ws cells) is h.1)
 refused_one (fault.BadShard shard minishard found) m now list dataset key s writes is can h = (h.1.0, ok_is list writes _ is (h.0, h.1.1))
@@ -77,13 +83,13 @@ refused_one fault.OutOfMemory m now list dataset key s writes is can (inl same) 
 refused_one fault.OutOfMemory m now list dataset key s writes is can (inr h) = inr (can, ok_is list writes (λ ws. (pairs s ws ≤ 2 ^ 22) × PutsJudgedFront m now dataset s ws) is h)
 
 -- the same where objects and the feed may be untold
-pub made_told : (written : Written) (o now : Option Objects) (fed : Option Bytes) (dataset key : Name) (s : Scale) (writes : Writes) → IfSome fed (λ bytes. writes_of bytes s ≡ Ok writes) → IsWritable s → All (λ write. AreBytes write.1) writes → IfSome o HaveBytes
+pub made_told : (written : Written) (o now : Option Objects) (fed : Option Bytes) (dataset key : Name) (s : Scale) (writes : Writes) → IfSome fed (λ bytes. writes_of bytes s ≡ Ok writes) → IsWritableAlone s → All (λ write. AreBytes write.1) writes → IfSome o HaveBytes
     → IfSome o (λ m. UpdatesScale (Ok written) m now dataset s writes) → IfSome o (λ m. IfSome fed (λ bytes. AnswersScale (Ok written) m now (writes_of bytes s) dataset key s))
 made_told written None now fed dataset key s writes is can bytes held h = tt
 made_told written (Some m) now None dataset key s writes is can bytes held h = tt
 made_told written (Some m) now (Some stream) dataset key s writes is can bytes held h = made_one written m now (writes_of stream s) dataset key s writes is can bytes held h
 
-pub refused_told : (found : UpdateFault) (refusal : UpdateRefusal) (o now : Option Objects) (fed : Option Bytes) (dataset key : Name) (s : Scale) (writes : Writes) → refusal ≡ not_updated found → IfSome fed (λ bytes. writes_of bytes s ≡ Ok writes) → IsWritable s
+pub refused_told : (found : UpdateFault) (refusal : UpdateRefusal) (o now : Option Objects) (fed : Option Bytes) (dataset key : Name) (s : Scale) (writes : Writes) → refusal ≡ not_updated found → IfSome fed (λ bytes. writes_of bytes s ≡ Ok writes) → IsWritableAlone s
     → IfSome o (λ m. UpdatesScale (Err found) m now dataset s writes) → IfSome o (λ m. IfSome fed (λ bytes. AnswersScale (Err refusal) m now (writes_of bytes s) dataset key s))
 refused_told found refusal None now fed dataset key s writes refuses is can h = tt
 refused_told found refusal (Some m) now None dataset key s writes refuses is can h = tt
@@ -100,7 +106,7 @@ refused_leaves found refusal o now d after refuses kept = subst (λ r. LeavesSto
     by fault.StoreFault kept = tt
     by fault.OutOfMemory kept = tt
 
-pub refused_judges : (found : UpdateFault) (refusal : UpdateRefusal) (s : Scale) → refusal ≡ not_updated found → IsWritable s → Judges (Err refusal) (Ok s)
+pub refused_judges : (found : UpdateFault) (refusal : UpdateRefusal) (s : Scale) → refusal ≡ not_updated found → IsWritableAlone s → Judges (Err refusal) (Ok s)
 refused_judges found refusal s refuses can = subst (λ r. Judges (Err r) (Ok s)) (sym refuses) (by found)
   where
     by : (found : UpdateFault) → Judges (Err (not_updated found)) (Ok s)
@@ -138,7 +144,7 @@ unstreamed_told r found None fed dataset key s is h = tt
 unstreamed_told r found (Some m) None dataset key s is h = tt
 unstreamed_told r found (Some m) (Some stream) dataset key s is h = subst (λ x. AnswersScale x m (Some m) (writes_of stream s) dataset key s) (sym is) (unstreamed_one found m (writes_of stream s) dataset key s h)
 
-pub unstreamed_judges : (r : Result Written UpdateRefusal) (found : PlanFault) (s : Scale) → r ≡ Err (unstreamed found) → IsWritable s → Judges r (Ok s)
+pub unstreamed_judges : (r : Result Written UpdateRefusal) (found : PlanFault) (s : Scale) → r ≡ Err (unstreamed found) → IsWritableAlone s → Judges r (Ok s)
 unstreamed_judges r found s is can = subst (λ x. Judges x (Ok s)) (sym is) (by found)
   where
     by : (found : PlanFault) → Judges (Err (unstreamed found)) (Ok s)
@@ -152,16 +158,17 @@ unstreamed_judges r found s is can = subst (λ x. Judges x (Ok s)) (sym is) (by 
     by (Truncated write) = can
     by TrailingBytes = can
 
--- a scale that is there and keeps the writing limit
-key_one : (r : Result Written UpdateRefusal) (told : Result Scale NoScaleType) (m : Objects) (now : Option Objects) (list : Listing) (dataset key : Name) (s : Scale) → told ≡ Ok s → IsWritable s → AnswersScale r m now (list s) dataset key s → AnswersAll r told m now list dataset key
-key_one (Ok written) told m now list dataset key s is can h = ok_is told s (λ s. IsWritable s × AnswersScale (Ok written) m now (list s) dataset key s) is (can, h)
+-- a scale that is there, keeps the writing limit and has one chunk size
+key_one : (r : Result Written UpdateRefusal) (told : Result Scale NoScaleType) (m : Objects) (now : Option Objects) (list : Listing) (dataset key : Name) (s : Scale) → told ≡ Ok s → IsWritableAlone s → AnswersScale r m now (list s) dataset key s → AnswersAll r told m now list dataset key
+key_one (Ok written) told m now list dataset key s is can h = ok_is told s (λ s. IsWritableAlone s × AnswersScale (Ok written) m now (list s) dataset key s) is (can, h)
 key_one (Err (refused.NoScale why)) told m now list dataset key s is can h = absurd h
 key_one (Err (refused.TooManyVoxels voxels)) told m now list dataset key s is can h = absurd h
-key_one (Err (refused.Stream found)) told m now list dataset key s is can h = ok_is told s (λ s. IsWritable s × AnswersScale (Err (refused.Stream found)) m now (list s) dataset key s) is (can, h)
-key_one (Err (refused.TooManyCells cells)) told m now list dataset key s is can h = ok_is told s (λ s. IsWritable s × AnswersScale (Err (refused.TooManyCells cells)) m now (list s) dataset key s) is (can, h)
-key_one (Err (refused.BadShard shard minishard found)) told m now list dataset key s is can h = ok_is told s (λ s. IsWritable s × AnswersScale (Err (refused.BadShard shard minishard found)) m now (list s) dataset key s) is (can, h)
-key_one (Err (refused.Damaged cell found)) told m now list dataset key s is can h = ok_is told s (λ s. IsWritable s × AnswersScale (Err (refused.Damaged cell found)) m now (list s) dataset key s) is (can, h)
-key_one (Err refused.FeedFault) told m now list dataset key s is can h = ok_is told s (λ s. IsWritable s × AnswersScale (Err refused.FeedFault) m now (list s) dataset key s) is (can, h)
+key_one (Err refused.SeveralSizes) told m now list dataset key s is can h = absurd h
+key_one (Err (refused.Stream found)) told m now list dataset key s is can h = ok_is told s (λ s. IsWritableAlone s × AnswersScale (Err (refused.Stream found)) m now (list s) dataset key s) is (can, h)
+key_one (Err (refused.TooManyCells cells)) told m now list dataset key s is can h = ok_is told s (λ s. IsWritableAlone s × AnswersScale (Err (refused.TooManyCells cells)) m now (list s) dataset key s) is (can, h)
+key_one (Err (refused.BadShard shard minishard found)) told m now list dataset key s is can h = ok_is told s (λ s. IsWritableAlone s × AnswersScale (Err (refused.BadShard shard minishard found)) m now (list s) dataset key s) is (can, h)
+key_one (Err (refused.Damaged cell found)) told m now list dataset key s is can h = ok_is told s (λ s. IsWritableAlone s × AnswersScale (Err (refused.Damaged cell found)) m now (list s) dataset key s) is (can, h)
+key_one (Err refused.FeedFault) told m now list dataset key s is can h = ok_is told s (λ s. IsWritableAlone s × AnswersScale (Err refused.FeedFault) m now (list s) dataset key s) is (can, h)
 key_one (Err refused.StoreFault) told m now list dataset key s is can (inl same) = inl same
 key_one (Err refused.StoreFault) told m now list dataset key s is can (inr h) = inr (ok_is told s (λ s. UpdateFront m now (list s) dataset s) is h)
 key_one (Err refused.NoMemory) told m now list dataset key s is can (inl same) = inl same
@@ -182,6 +189,7 @@ key_judges r (Some m) dataset key s reads h = subst (Judges r) (sym reads.0) h
 unread_one : (refusal : UpdateRefusal) (told : Result Scale NoScaleType) (m : Objects) (now : Option Objects) (list : Listing) (dataset key : Name) → now ≡ Some m → ReadsWritable (Err refusal) told → AnswersAll (Err refusal) told m now list dataset key
 unread_one (refused.NoScale why) told m now list dataset key same h = (same, h)
 unread_one (refused.TooManyVoxels voxels) told m now list dataset key same h = (same, h)
+unread_one refused.SeveralSizes told m now list dataset key same h = (same, h)
 unread_one refused.StoreFault told m now list dataset key same h = inl same
 unread_one refused.NoMemory told m now list dataset key same h = inl same
 unread_one (refused.Stream found) told m now list dataset key same h = absurd h
@@ -199,6 +207,7 @@ unread_told refusal (Some m) now (Some stream) dataset key same h = unread_one r
 unread_judges_one : (refusal : UpdateRefusal) (told : Result Scale NoScaleType) → ReadsWritable (Err refusal) told → Judges (Err refusal) told
 unread_judges_one (refused.NoScale why) told h = h
 unread_judges_one (refused.TooManyVoxels voxels) told h = h
+unread_judges_one refused.SeveralSizes told h = h
 unread_judges_one refused.StoreFault told h = tt
 unread_judges_one refused.NoMemory told h = tt
 unread_judges_one (refused.Stream found) told h = absurd h
@@ -214,6 +223,7 @@ unread_judges refusal (Some m) dataset key h = unread_judges_one refusal (stored
 pub unread_feed : (refusal : UpdateRefusal) (left : Option Bytes) → KeepsFeed (Err refusal) left left
 unread_feed (refused.NoScale why) left = refl
 unread_feed (refused.TooManyVoxels voxels) left = refl
+unread_feed refused.SeveralSizes left = refl
 unread_feed refused.StoreFault left = tt
 unread_feed refused.NoMemory left = tt
 unread_feed (refused.Stream found) left = tt
@@ -225,6 +235,7 @@ unread_feed refused.FeedFault left = tt
 pub unread_leaves : (refusal : UpdateRefusal) (o now : Option Objects) (d after : Option Draft) → OnlyReads o now d after → LeavesStore refusal o now d after
 unread_leaves (refused.NoScale why) o now d after kept = kept
 unread_leaves (refused.TooManyVoxels voxels) o now d after kept = kept
+unread_leaves refused.SeveralSizes o now d after kept = kept
 unread_leaves refused.StoreFault o now d after kept = tt
 unread_leaves refused.NoMemory o now d after kept = tt
 unread_leaves (refused.Stream found) o now d after kept = kept
@@ -257,8 +268,16 @@ pub updated_back : (written : Written) (o now : Option Objects) (fed : Option By
 updated_back written None now fed dataset key h = tt
 updated_back written (Some m) now None dataset key h = tt
 updated_back written (Some m) now (Some stream) dataset key h =
-    ok_and (stored_scale m dataset key) (λ s. IsWritable s × AnswersScale (Ok written) m now (writes_of stream s) dataset key s) (λ s. IsOkAnd (writes_of stream s) (AllReadUpdated m now dataset s))
+    ok_and (stored_scale m dataset key) (λ s. IsWritableAlone s × AnswersScale (Ok written) m now (writes_of stream s) dataset key s) (λ s. IsOkAnd (writes_of stream s) (AllReadUpdated m now dataset s))
     (λ s k. ok_and (writes_of stream s) (λ ws. HasUpdated m now dataset key s ws written × AllReadUpdated m now dataset s ws) (AllReadUpdated m now dataset s) (λ ws both. both.1) k.1) h
+
+-- a scale of one chunk size that keeps the writing limit keeps it in each view
+alone_each : (s : Scale) → IsWritableAlone s → All IsWritable (all_views s)
+alone_each s can =
+    subst (λ n. All IsWritable (s ∷ map (view s) (range_with_len 1 n))) (sym can.1) (All-cons IsWritable s [] can.0 (All-nil IsWritable))
+
+none_wide : (s : Scale) → IsWritableAlone s → first_wide (all_views s) ≡ None
+none_wide s can = each_few padded (all_views s) (alone_each s can)
 
 -- an update that can be made is refused only by a failing store or feed, or for want of memory
 meet : {A E : Type 0} (r : Result A E) (P Q : A → Type 0) → IsOkAnd r P → IsOkAnd r Q → ((a : A) → P a → Q a → ⊥) → ⊥
@@ -273,10 +292,11 @@ not_many m dataset s writes cells (inl more) few none = omega (arith, more.0, fe
 not_many m dataset s writes cells (inr more) few none = cc (more.1, none)
 
 able_one : (refusal : UpdateRefusal) (told : Result Scale NoScaleType) (m : Objects) (now : Option Objects) (list : Listing) (dataset key : Name) → AnswersAll (Err refusal) told m now list dataset key
-    → IsOkAnd told (λ s. IsWritable s × IsOkAnd (list s) (λ writes. (pairs s writes ≤ 2 ^ 22) × (refusal_in m dataset s writes ≡ None) × (update_fault m dataset s writes ≡ None))) → Fails refusal
+    → IsOkAnd told (λ s. IsWritableAlone s × IsOkAnd (list s) (λ writes. (pairs s writes ≤ 2 ^ 22) × (refusal_in m dataset s writes ≡ None) × (update_fault m dataset s writes ≡ None))) → Fails refusal
 able_one refusal (Err missing) m now list dataset key h can = absurd can
 able_one (refused.NoScale why) (Ok s) m now list dataset key h can = absurd (cc h.1)
-able_one (refused.TooManyVoxels voxels) (Ok s) m now list dataset key h can = absurd (omega (arith, h.1.1, can.0))
+able_one (refused.TooManyVoxels voxels) (Ok s) m now list dataset key h can = absurd (let none = none_wide s can.0 in cc (none, h.1))
+able_one refused.SeveralSizes (Ok s) m now list dataset key h can = absurd (omega (arith, h.1.1, can.0.1))
 able_one (refused.Stream found) (Ok s) m now list dataset key h can =
     absurd (subst (λ l. IsOkAnd l (λ writes. (pairs s writes ≤ 2 ^ 22) × (refusal_in m dataset s writes ≡ None) × (update_fault m dataset s writes ≡ None))) h.1.1 can.1)
 able_one (refused.TooManyCells cells) (Ok s) m now list dataset key h can =

@@ -1,18 +1,20 @@
 -- What `update` answers over the objects that a store tells and the stream that a feed tells (this project's profile).
-use Rattle.std.specs.Prelude.{◌≡◌, ◌⊎◌, ◌≤◌, ◌<◌, ◌^◌, [], Option, Some, None, Result, Ok, Err, IfErr, IfOk, IfSome, IsOkAnd, IsSomeAnd}
+use Rattle.std.specs.Prelude.{◌≡◌, ◌⊎◌, ◌≤◌, ◌<◌, ◌^◌, [], length, All, Option, Some, None, Result, Ok, Err, IfErr, IfOk, IfSome, IsOkAnd, IsSomeAnd}
 use Rattle.std.specs.Option.{option_map}
 use Rattle.vol_base.specs.Outside.{Draft, Objects, OnlyReads}
 use Rattle.vol_base.specs.declared.boxes.Box3.{Box3}
 use Rattle.vol_spec.specs.Cut.{first_fault}
 use Rattle.vol_spec.specs.Grid.{Inside}
 use Rattle.vol_spec.specs.Types.{Bytes, Name, Writes}
-use Rattle.vol_spec.specs.Writable.{IsWritable, padded}
+use Rattle.vol_spec.specs.Writable.{IsWritable}
 use Rattle.vol_spec.specs.declared.scale.Scale.{Scale}
 use Rattle.shard_writer.specs.Writing.{BeginsNext, Drops}
 use Rattle.shard_writer.specs.declared.written.Written.{Written}
+use Rattle.size_laws.specs.Further.{all_views}
 use Rattle.update_laws.specs.Judged.{refusal_in}
 use Rattle.update_laws.specs.Judged.Refusal.{BadShard as BadShardOf}
 use Rattle.update_laws.specs.Updated.{HasUpdates, ReadsUpdated, updated_in}
+use Rattle.view_writer.specs.Views.{first_wide}
 use Rattle.write_plan.specs.Plans.{pairs}
 use Rattle.write_plan.specs.Stream.{writes_of}
 use Rattle.write_plan.specs.declared.fault.PlanFault.{PlanFault}
@@ -20,7 +22,7 @@ use Rattle.write_cmd.specs.Storing.{Listing}
 use Rattle.command_base.specs.Ending.{Ends}
 use Rattle.command_base.specs.Lines.{written_line}
 use Rattle.command_base.specs.Outlets.{Outlets}
-use Rattle.command_base.specs.Scales.{stored_scale}
+use Rattle.command_base.specs.Scales.{HasOneSize, IsWritableAlone, stored_scale}
 use Rattle.command_base.specs.declared.refusal.NoScale.{NoScale}
 use Rattle.command_base.specs.declared.status.Status.{Status}
 use Rattle.update_cmd.specs.Refusals.{update_line, update_status}
@@ -28,11 +30,12 @@ use Rattle.update_cmd.specs.Updating.{HasTooMany, IsUpdated, PutsJudgedFront, up
 use Rattle.update_cmd.specs.declared.refusal.UpdateRefusal.{UpdateRefusal}
 use Rattle.update_cmd.specs.declared.refusal.UpdateRefusal.TheVariants as refused
 
--- what stands after an update: the scale kept the writing limit, there were few pairs, no shard that was written anew was refused, the objects
--- were put in and nothing else was changed, as many as are told, and the scale is as before
+-- what stands after an update: the scale kept the writing limit and has one chunk size, there were few pairs, no shard that was written anew was
+-- refused, the objects were put in and nothing else was changed, as many as are told, and the scale is as before
 pub record HasUpdated (m : Objects) (now : Option Objects) (dataset key : Name) (s : Scale) (writes : Writes)
     (written : Written) : Type 0 where
   pub writable : IsWritable s
+  pub one : HasOneSize s
   pub few : pairs s writes ≤ 2 ^ 22
   pub judged : refusal_in m dataset s writes ≡ None
   pub updated : IsUpdated m now dataset s writes written
@@ -51,16 +54,17 @@ UpdatedBack m now list dataset key = IsOkAnd (stored_scale m dataset key) (λ s.
 
 -- a front of the objects of writes that can be put over a scale
 abbrev pub UpdateFront : Objects → Option Objects → Result Writes PlanFault → Name → Scale → Type 0
-UpdateFront m now list dataset s = IsWritable s × IsOkAnd list (λ writes. (pairs s writes ≤ 2 ^ 22) ×
+UpdateFront m now list dataset s = IsWritableAlone s × IsOkAnd list (λ writes. (pairs s writes ≤ 2 ^ 22) ×
     PutsJudgedFront m now dataset s writes)
 
--- what updating a scale that keeps the writing limit answers, and what stands after it
+-- what updating a scale that keeps the writing limit and has one chunk size answers, and what stands after it
 abbrev pub AnswersScale : Result Written UpdateRefusal → Objects → Option Objects → Result Writes PlanFault →
     Name → Name → Scale → Type 0
 AnswersScale (Ok written) m now list dataset key s = IsOkAnd list (λ writes.
     HasUpdated m now dataset key s writes written × AllReadUpdated m now dataset s writes)
 AnswersScale (Err (refused.NoScale why)) m now list dataset key s = ⊥
 AnswersScale (Err (refused.TooManyVoxels voxels)) m now list dataset key s = ⊥
+AnswersScale (Err refused.SeveralSizes) m now list dataset key s = ⊥
 AnswersScale (Err (refused.Stream fault)) m now list dataset key s = (now ≡ Some m) × (list ≡ Err fault)
 AnswersScale (Err (refused.TooManyCells cells)) m now list dataset key s = (now ≡ Some m) ×
     IsOkAnd list (λ writes. HasTooMany m dataset s writes cells)
@@ -81,38 +85,46 @@ abbrev pub AnswersAll : Result Written UpdateRefusal → Result Scale NoScale �
     Listing → Name → Name → Type 0
 AnswersAll (Err (refused.NoScale why)) told m now list dataset key = (now ≡ Some m) × (told ≡ Err why)
 AnswersAll (Err (refused.TooManyVoxels voxels)) told m now list dataset key = (now ≡ Some m) ×
-    IsOkAnd told (λ s. (voxels ≡ padded s) × (2 ^ 22 < padded s))
+    IsOkAnd told (λ s. first_wide (all_views s) ≡ Some voxels)
+AnswersAll (Err refused.SeveralSizes) told m now list dataset key = (now ≡ Some m) ×
+    IsOkAnd told (λ s. All IsWritable (all_views s) × (0 < length s.more))
 AnswersAll (Err refused.StoreFault) told m now list dataset key = (now ≡ Some m) ⊎
     IsOkAnd told (λ s. UpdateFront m now (list s) dataset s)
 AnswersAll (Err refused.NoMemory) told m now list dataset key = (now ≡ Some m) ⊎
     IsOkAnd told (λ s. UpdateFront m now (list s) dataset s)
-AnswersAll result told m now list dataset key = IsOkAnd told (λ s. IsWritable s ×
+AnswersAll result told m now list dataset key = IsOkAnd told (λ s. IsWritableAlone s ×
     AnswersScale result m now (list s) dataset key s)
 
--- what it answers over objects alone, the feed told or not: the scale is judged first, then the writing limit, and the feed is read only then
+-- what it answers over objects alone, the feed told or not: the scale is judged first, then the writing limit of all views, then that there is one
+-- chunk size, and the feed is read only then
 abbrev pub Judges : Result Written UpdateRefusal → Result Scale NoScale → Type 0
 Judges (Err (refused.NoScale why)) told = told ≡ Err why
 Judges (Err (refused.TooManyVoxels voxels)) told =
-    IsOkAnd told (λ s. (voxels ≡ padded s) × (2 ^ 22 < padded s))
+    IsOkAnd told (λ s. first_wide (all_views s) ≡ Some voxels)
+Judges (Err refused.SeveralSizes) told = IsOkAnd told (λ s. All IsWritable (all_views s) × (0 < length s.more))
 Judges (Err refused.StoreFault) told = Unit {0}
 Judges (Err refused.NoMemory) told = Unit {0}
-Judges result told = IsOkAnd told IsWritable
+Judges result told = IsOkAnd told IsWritableAlone
 
--- what reading a scale that keeps the writing limit answers
+-- what reading a scale that keeps the writing limit and has one chunk size answers
 abbrev pub ReadsWritable : Result Scale UpdateRefusal → Result Scale NoScale → Type 0
-ReadsWritable (Ok s) told = (told ≡ Ok s) × IsWritable s
+ReadsWritable (Ok s) told = (told ≡ Ok s) × IsWritableAlone s
 ReadsWritable (Err (refused.NoScale why)) told = told ≡ Err why
 ReadsWritable (Err (refused.TooManyVoxels voxels)) told =
-    IsOkAnd told (λ s. (voxels ≡ padded s) × (2 ^ 22 < padded s))
+    IsOkAnd told (λ s. first_wide (all_views s) ≡ Some voxels)
+ReadsWritable (Err refused.SeveralSizes) told =
+    IsOkAnd told (λ s. All IsWritable (all_views s) × (0 < length s.more))
 ReadsWritable (Err refused.StoreFault) told = Unit {0}
 ReadsWritable (Err refused.NoMemory) told = Unit {0}
 ReadsWritable (Err other) told = ⊥
 
--- what is left of the feed: it isn't read where the scale or the limit is refused, and is read to its end by an update that succeeds
+-- what is left of the feed: it isn't read where the scale, the limit or several chunk sizes are refused, and is read to its end by an update that
+-- succeeds
 abbrev pub KeepsFeed : Result Written UpdateRefusal → Option Bytes → Option Bytes → Type 0
 KeepsFeed (Ok written) old new = new ≡ option_map (λ _. []) old
 KeepsFeed (Err (refused.NoScale why)) old new = new ≡ old
 KeepsFeed (Err (refused.TooManyVoxels voxels)) old new = new ≡ old
+KeepsFeed (Err refused.SeveralSizes) old new = new ≡ old
 KeepsFeed (Err other) old new = Unit {0}
 
 -- what is left of the store: it is only read but where the objects of an update were begun
@@ -161,9 +173,9 @@ Updated status told now before after left_old left_new dataset key o =
     × IsRight answer told now before after left_old left_new dataset key
     × Ends count_line update_status (update_line dataset) answer status o
 
--- the scale is there and keeps the writing limit, the list can be written, no shard that it writes anew is refused, and no cell that is stored
--- has a fault
+-- the scale is there, keeps the writing limit and has one chunk size, the list can be written, no shard that it writes anew is refused, and no cell
+-- that is stored has a fault
 abbrev pub CanBeUpdated : Objects → Listing → Name → Name → Type 0
-CanBeUpdated m list dataset key = IsOkAnd (stored_scale m dataset key) (λ s. IsWritable s ×
+CanBeUpdated m list dataset key = IsOkAnd (stored_scale m dataset key) (λ s. IsWritableAlone s ×
     IsOkAnd (list s) (λ writes. (pairs s writes ≤ 2 ^ 22) × (refusal_in m dataset s writes ≡ None) ×
     (update_fault m dataset s writes ≡ None)))

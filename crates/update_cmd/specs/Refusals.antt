@@ -2,7 +2,7 @@
 use Rattle.std.specs.Prelude.{◌≡◌, IfSome, refl}
 use Rattle.vol_shell.specs.Lines.{feed_line, memory_line, store_line}
 use Rattle.vol_spec.specs.Types.{Bytes, Name}
-use Rattle.command_base.specs.Lines.{cells_line, damaged_line, info_line, voxels_line}
+use Rattle.command_base.specs.Lines.{cells_line, damaged_line, info_line, sizes_line, voxels_line}
 use Rattle.command_base.specs.Refusals.{info_text}
 use Rattle.command_base.specs.Statuses.{fixed_line}
 use Rattle.command_base.specs.declared.refusal.ScaleRefusal.{ScaleRefusal}
@@ -41,6 +41,7 @@ not_updated fault.OutOfMemory = update.NoMemory
 abbrev pub update_status : UpdateRefusal → Status
 update_status (update.NoScale why) = InfoRefused
 update_status (update.TooManyVoxels voxels) = RequestRefused
+update_status update.SeveralSizes = RequestRefused
 update_status (update.Stream fault) = RequestRefused
 update_status (update.TooManyCells cells) = RequestRefused
 update_status (update.BadShard shard minishard fault) = Damaged
@@ -52,6 +53,7 @@ update_status update.NoMemory = NoMemory
 abbrev pub update_line : Name → UpdateRefusal → Bytes
 update_line dataset (update.NoScale why) = info_line dataset (info_text why)
 update_line dataset (update.TooManyVoxels voxels) = voxels_line voxels
+update_line dataset update.SeveralSizes = sizes_line
 update_line dataset (update.Stream fault) = stream_line fault
 update_line dataset (update.TooManyCells cells) = cells_line cells
 update_line dataset (update.BadShard shard minishard fault) = shard_line shard minishard fault
@@ -65,6 +67,7 @@ pub update_fixed : (dataset : Name) (refusal : UpdateRefusal) →
     IfSome (fixed_line (update_status refusal)) (λ text. update_line dataset refusal ≡ text)
 update_fixed dataset (update.NoScale why) = tt
 update_fixed dataset (update.TooManyVoxels voxels) = tt
+update_fixed dataset update.SeveralSizes = tt
 update_fixed dataset (update.Stream fault) = tt
 update_fixed dataset (update.TooManyCells cells) = tt
 update_fixed dataset (update.BadShard shard minishard fault) = tt

@@ -8,7 +8,7 @@ ghost use Rattle.write_plan.specs.Stream.{writes_of};
 ghost use Rattle.shard_writer.specs.Writing.{Drops};
 ghost use Rattle.command_base.specs.Ending.{EndsWell, IsCaused};
 ghost use Rattle.command_base.specs.Outlets.{outlets_of};
-ghost use Rattle.command_base.specs.Scales.{stored_scale};
+ghost use Rattle.command_base.specs.Scales.{HasOneSize, stored_scale};
 ghost use Rattle.command_base.specs.Statuses.{prints, puts};
 ghost use Rattle.update_cmd.specs.Answering.{AnswersAll, AnswersScale, BeginsUpdate, CanBeUpdated, DropsOrPuts, DropsUnsharded, Judges, KeepsFeed, LeavesStore, ReadsWritable, Updated, UpdatedBack};
 ghost use Rattle.update_cmd.specs.Refusals.{not_updated};
@@ -22,11 +22,13 @@ use shard_writer::Written;
 use std::alloc::Global;
 use std::sync::Wait;
 use std::thread::Threads;
+use view_writer::find_wide;
 use vol_base::{Feed, Gate, Name, Outlet, Source, Store};
 use vol_spec::Scale;
 use write_plan::read_writes;
 
-// The scale of a key, where it is there and keeps the writing limit.
+// The scale of a key, where it is there, keeps the writing limit and has one chunk size. The limit is judged first, for
+// each view.
 fn read_writable<S: Source>(
     alloc: Global,
     store: &mut S,
@@ -38,6 +40,7 @@ fn read_writable<S: Source>(
     ensures read { IfSome (S.objects store.old) (λ m.
         ReadsWritable result (stored_scale m dataset.now key.now)) }
     ensures writable { IfOk result IsWritable }
+    ensures one { IfOk result HasOneSize }
     ensures bytes { OnOk result (IfSome (S.objects store.old) HaveBytes) }
     ensures unfed { result ≢ Err UpdateRefusal.FeedFault }
     ensures kept { OnlyReads (S.objects store.old) (S.objects store.new) (S.draft store.old)
@@ -45,10 +48,10 @@ fn read_writable<S: Source>(
     ensures cause { HasCauseOf UpdateRefusal.StoreFault (S.faults store.old) (S.faults store.new) result }
 {
     let scale = read_scale(alloc, store, dataset, key)?;
-    if scale.can_encode() {
-        Ok(scale)
-    } else {
-        Err(UpdateRefusal::TooManyVoxels(scale.padded()))
+    match find_wide(&scale) {
+        Some(voxels) => Err(UpdateRefusal::TooManyVoxels(voxels)),
+        None if scale.more.len() > 0 => Err(UpdateRefusal::SeveralSizes),
+        None => Ok(scale),
     }
 }
 
@@ -73,7 +76,7 @@ fn refuse(fault: UpdateFault) -> UpdateRefusal
     }
 }
 
-// Puts the list of writes that a stream has over a scale that keeps the writing limit.
+// Puts the list of writes that a stream has over a scale that keeps the writing limit and has one chunk size.
 fn update_scale<R: Threads + Wait + Sync, S: Store, F: Feed, G: Gate + Sync>(
     crew: &Crew<R, G>,
     store: &mut S,
@@ -83,6 +86,7 @@ fn update_scale<R: Threads + Wait + Sync, S: Store, F: Feed, G: Gate + Sync>(
 ) -> Result<Written, UpdateRefusal>
     requires dataset { length dataset.now ≤ 200 }
     requires writable { IsWritable scale.now }
+    requires one { HasOneSize scale.now }
     requires bytes { IfSome (S.objects store.old) HaveBytes }
     ensures judges { Judges result (Ok scale.now) }
     ensures answers { (key : List ℕ) → IfSome (S.objects store.old) (λ m.
@@ -140,8 +144,8 @@ fn update_stored<R: Threads + Wait + Sync, S: Store, F: Feed, G: Gate + Sync>(
     }
 }
 
-/// The command `update`: puts the list of writes that a stream has over what the scale of a key holds, and prints how
-/// many objects were put and how many cells they hold. The crew encodes. A refusal is told.
+/// The command `update`: puts the list of writes that a stream has over what the scale of a key holds, which has one
+/// chunk size, and prints how many objects were put and how many cells they hold. The crew encodes. A refusal is told.
 pub fn run_update<R, S: Store, F: Feed, O: Outlet, E: Outlet, G: Gate + Sync>(
     crew: &Crew<R, G>,
     store: &mut S,

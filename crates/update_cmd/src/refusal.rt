@@ -9,8 +9,10 @@ use write_plan::PlanFault;
 pub enum UpdateRefusal {
     /// There is no scale.
     NoScale(NoScale),
-    /// The scale has more padded voxels times channels than are written: so many.
+    /// A view of the scale has more padded voxels times channels than are written: so many, the first such view.
     TooManyVoxels(u64),
+    /// The scale has several chunk sizes.
+    SeveralSizes,
     /// The stream of writes has a fault.
     Stream(PlanFault),
     /// The writes meet too many cells, each counted once for each write that meets it; or, once some shard is judged, too

@@ -4,7 +4,8 @@ ghost use Rattle.update_cmd.specs.Refusals.{update_fixed, update_line, update_st
 use crate::lines::write_shard_line;
 use crate::refusal::UpdateRefusal;
 use command_base::{
-    Refusal, Status, write_cells_line, write_damaged_line, write_voxels_line, write_why,
+    Refusal, Status, write_cells_line, write_damaged_line, write_sizes_line, write_voxels_line,
+    write_why,
 };
 use std::alloc::{AllocError, Global};
 use vol_base::Name;
@@ -21,6 +22,7 @@ impl Refusal for UpdateRefusal {
         match self {
             UpdateRefusal::NoScale(_) => Status::InfoRefused,
             UpdateRefusal::TooManyVoxels(_)
+            | UpdateRefusal::SeveralSizes
             | UpdateRefusal::Stream(_)
             | UpdateRefusal::TooManyCells(_) => Status::RequestRefused,
             UpdateRefusal::BadShard { .. } | UpdateRefusal::Damaged { .. } => Status::Damaged,
@@ -36,6 +38,7 @@ impl Refusal for UpdateRefusal {
             UpdateRefusal::TooManyVoxels(voxels) => {
                 Ok(write_voxels_line(alloc, *voxels)?.into_bytes())
             }
+            UpdateRefusal::SeveralSizes => write_sizes_line(alloc),
             UpdateRefusal::Stream(fault) => Ok(write_stream_line(alloc, *fault)?.into_bytes()),
             UpdateRefusal::TooManyCells(cells) => {
                 Ok(write_cells_line(alloc, u128::from(*cells))?.into_bytes())

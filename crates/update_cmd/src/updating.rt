@@ -4,6 +4,7 @@ ghost use Rattle.vol_base.specs.Bytes.{AreBytes};
 ghost use Rattle.vol_base.specs.Causes.{HasCauseOf};
 ghost use Rattle.vol_base.specs.Outside.{HaveBytes};
 ghost use Rattle.vol_spec.specs.Writable.{IsWritable};
+ghost use Rattle.command_base.specs.Scales.{HasOneSize};
 ghost use Rattle.cell_lists.specs.Lists.{AreDistinct, Lists};
 ghost use Rattle.shard_writer.specs.Writing.{Drops};
 ghost use Rattle.update_laws.specs.Overlaid.{is_after};
@@ -116,7 +117,7 @@ fn refuse_plan(refusal: PlanRefusal) -> UpdateFault
     }
 }
 
-/// Puts the objects of writes over what a scale holds. Each cell that some write meets is stored, and, in a sharded
+/// Puts the objects of writes over what a scale of one chunk size holds. Each cell that some write meets is stored, and, in a sharded
 /// scale, each one that is kept of a shard with such a cell; with the last write at each voxel and channel, else what
 /// was there, none missing. Every other object is as before.
 ///
@@ -137,6 +138,7 @@ pub fn update<R: Threads + Wait + Sync, S: Store, G: Gate + Sync>(
 ) -> Result<Written, UpdateFault>
     requires dataset { length dataset.now ≤ 200 }
     requires writable { IsWritable scale.now }
+    requires one { HasOneSize scale.now }
     requires fits { All (IsWriteOf scale.now) writes }
     requires written { All (λ write. AreBytes write.1) writes }
     requires bytes { IfSome (S.objects store.old) HaveBytes }

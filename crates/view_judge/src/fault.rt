@@ -8,7 +8,10 @@ pub enum ViewFault {
     /// A call of the store failed, and its count of faults rose.
     StoreFault,
     /// A cell of the first view has a fault. It was judged before, so it isn't as it was.
-    First { cell: [u64; 3], fault: Fault },
+    First {
+        cell: [u64; 3],
+        fault: Fault,
+    },
     /// The chunk of a cell of a view has a fault.
     Damaged {
         view: u32,

@@ -99,10 +99,7 @@ const CASES: [([&str; 2], Write, [u64; 3], &[(&str, &[u8])]); 5] = [
         ["[4,1,1]", "[2,1,1],[2,1,1]"],
         FOUR,
         [4, 4, 8],
-        &[
-            ("d/s/0-2_0-1_0-1", &[1, 2]),
-            ("d/s/2-4_0-1_0-1", &[3, 4]),
-        ],
+        &[("d/s/0-2_0-1_0-1", &[1, 2]), ("d/s/2-4_0-1_0-1", &[3, 4])],
     ),
     (
         ["[5,1,1]", "[4,1,1],[2,1,1],[3,1,1]"],
@@ -134,22 +131,37 @@ const CASES: [([&str; 2], Write, [u64; 3], &[(&str, &[u8])]); 5] = [
     ),
 ];
 
+// A write by so many workers.
+fn check_case<R: Threads + Wait + Abort + Sync>(
+    rt: &R,
+    alloc: Global,
+    sizes: &[&str; 2],
+    write: &Write,
+    counts: &[u64; 3],
+    stand: &[(&str, &[u8])],
+    workers: u32,
+) -> Result<(), Fail> {
+    let [size, chunks] = *sizes;
+    let scale = read_scale(alloc, &raw_info(alloc, size, chunks)?)?;
+    let mut store = MemoryStore::new(alloc, Vec::new(alloc));
+    let answer = call(rt, alloc, &mut store, &scale, write, workers)?;
+    let [objects, cells, bytes] = *counts;
+    let wanted = Written {
+        objects,
+        cells,
+        bytes,
+    };
+    assert_eq!(rt; answer, Ok(wanted));
+    assert!(rt; has_all(&store, stand));
+    Ok(())
+}
+
 #[test]
 fn stores_each_view(rt: HostRuntime) -> Result<(), Fail> {
     let alloc = rt.alloc();
-    for ([size, chunks], write, [objects, cells, bytes], stand) in &CASES {
-        for workers in [1, 3] {
-            let scale = read_scale(alloc, &raw_info(alloc, size, chunks)?)?;
-            let mut store = MemoryStore::new(alloc, Vec::new(alloc));
-            let answer = call(&rt, alloc, &mut store, &scale, write, workers)?;
-            let wanted = Written {
-                objects: *objects,
-                cells: *cells,
-                bytes: *bytes,
-            };
-            assert_eq!(&rt; answer, Ok(wanted));
-            assert!(&rt; has_all(&store, stand));
-        }
+    for (sizes, write, counts, stand) in &CASES {
+        check_case(&rt, alloc, sizes, write, counts, stand, 1)?;
+        check_case(&rt, alloc, sizes, write, counts, stand, 3)?;
     }
     Ok(())
 }

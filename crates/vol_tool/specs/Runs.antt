@@ -87,12 +87,13 @@ Succeeds (Some (Downsample dataset key to_key method workers)) status before aft
 Succeeds (Some (Serve dataset port connections)) status before after =
     ¬ Rose before.faults.door after.faults.door → ¬ Rose before.faults.out after.faults.out → EndsWell status
 
--- After a `write` or a `generate` that succeeds, each box inside the scale reads back: no cell of it has a fault,
--- and its cutout is exactly the bytes of the last write at each voxel and channel, none missing: one value for each,
--- side by side. After an `update` that succeeds, each box inside the scale that had no fault has none, and its cutout is
--- exactly the bytes of the last write at each voxel and channel, else of what was there. After a `reshard` that succeeds, each box inside the target reads as the source: no cell of it has a
--- fault, and its cutout is exactly the source's, before the copy and after it. After a `downsample` that succeeds, each box inside the target has no
--- fault, and its cutout is exactly the reduced values of the source, which reads as before.
+-- After a `write` or a `generate` that succeeds, each box inside the scale reads back: no cell of it has a fault, and its cutout is
+-- exactly the bytes of the last write at each voxel and channel, none missing: one value for each, side by side; and further chunk sizes
+-- of the scale say the same. After an `update` that succeeds, each box inside the scale that had no fault has none, and its cutout is
+-- exactly the bytes of the last write at each voxel and channel, else of what was there. After a `reshard` that succeeds, each box inside
+-- the target reads as the source: no cell of it has a fault, and its cutout is exactly the source's, before the copy and after it. After a
+-- `downsample` that succeeds, each box inside the target has no fault, and its cutout is exactly the reduced values of the source, which
+-- reads as before.
 abbrev pub Headline : Option Command → Status → Seen → Seen → Type 0
 Headline None status before after = Unit {0}
 Headline (Some (Cutout dataset key part)) status before after = Unit {0}
@@ -146,7 +147,8 @@ Keeps (Some (Update dataset key workers)) status uncalled before after =
 Keeps (Some (Generate dataset key number count workers)) status uncalled before after =
     Drops before.draft after.draft × (puts status ≡ false → LeavesStore before after)
     × (after.left ≡ before.left) × (after.door ≡ before.door) × (prints status ≡ false → uncalled)
--- nothing but an outlet changes; and no more bytes are asked for than twice what the cells of the box cost, where they are told
+-- nothing but an outlet changes; and no more bytes are asked for than twice what the cells of the box cost, and what comparing further chunk
+-- sizes with them costs, where they are told
 Keeps (Some (Verify dataset key part)) status uncalled before after =
     LeavesStore before after × (after.left ≡ before.left) × (after.door ≡ before.door)
     × IfSome before.objects (λ m. AsksTwice m dataset key part before.asked after.asked)

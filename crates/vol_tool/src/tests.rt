@@ -3,6 +3,8 @@
 ghost use Rattle.std.specs.Prelude.{◌≡◌, IfOk, None};
 ghost use Rattle.vol_base.specs.Peers.{IsFresh};
 
+mod sizes;
+
 use crate::top::run;
 use command_base::Status;
 use holding_gate::HoldingGate;
@@ -25,7 +27,16 @@ const COLUMNS: &[u8] =
 const ROW: &[u8] =
     b"{\"type\":\"image\",\"data_type\":\"uint8\",\"num_channels\":1,\"scales\":[{\"key\":\"s\",\"size\":[4,1,1],\"chunk_sizes\":[[4,1,1]],\"resolution\":[8,8,40],\"encoding\":\"raw\"}]}";
 
-const DOCUMENTS: [(&str, &[u8]); 3] = [("d/info", SQUARE), ("e/info", COLUMNS), ("f/info", ROW)];
+// The square as a whole and in columns; and its next scale in two sizes that come to one.
+const COPIES: &[u8] =
+    b"{\"type\":\"image\",\"data_type\":\"uint8\",\"num_channels\":1,\"scales\":[{\"key\":\"s\",\"size\":[2,2,1],\"chunk_sizes\":[[2,2,1],[1,2,1]],\"resolution\":[8,8,40],\"encoding\":\"raw\"},{\"key\":\"t\",\"size\":[1,1,1],\"chunk_sizes\":[[1,1,1],[2,2,1]],\"resolution\":[16,16,80],\"encoding\":\"raw\"}]}";
+
+const DOCUMENTS: [(&str, &[u8]); 4] = [
+    ("d/info", SQUARE),
+    ("e/info", COLUMNS),
+    ("f/info", ROW),
+    ("h/info", COPIES),
+];
 
 // One write: the whole square, of the values 1 to 4.
 const STREAM: &[u8] =
@@ -75,6 +86,18 @@ const LINES: &[(&str, u8, &[u8], &str)] = &[
     ),
     ("update f s", 3, &[], "write 0: outside scale\n"),
     ("cutout f s [0:4,0:1,0:1]", 0, &[0, 0, 1, 0], ""),
+    ("write h s", 0, b"objects 3 cells 3\n", ""),
+    ("verify h s", 0, b"cells 3 stored 3 absent 0\n", ""),
+    ("cutout h s [0:2,0:2,0:1]", 0, &[1, 2, 3, 4], ""),
+    ("update h s", 3, &[], "several chunk sizes\n"),
+    ("reshard d s h s", 3, &[], "several chunk sizes\n"),
+    (
+        "downsample h s t --method=mean",
+        3,
+        &[],
+        "several chunk sizes\n",
+    ),
+    ("reshard h s f s", 3, &[], "differs size\n"),
     ("serve d --port=80 --connections=1", 9, &[], "door fault\n"),
 ];
 
@@ -94,12 +117,13 @@ fn call<R: Threads + Wait + Sync>(
     rt: &R,
     alloc: Global,
     text: &str,
+    stream: &[u8],
     store: &mut MemoryStore,
     out: &mut MemoryOutlet,
     err: &mut MemoryOutlet,
 ) -> Result<Status, Fail> {
     let words = words_of(alloc, text)?;
-    let mut feed = MemoryFeed::new(STREAM.to_vec(alloc)?, 7, Vec::new(alloc));
+    let mut feed = MemoryFeed::new(stream.to_vec(alloc)?, 7, Vec::new(alloc));
     let mut door = NoDoor::new();
     let status = run(
         rt, alloc, &words, store, &mut feed, out, err, &mut door, &FreeGate,
@@ -116,7 +140,7 @@ fn check<R: Threads + Wait + Abort + Sync>(
     let (words, status, printed, told) = *line;
     let mut out = outlet_of(alloc, 7, &[])?;
     let mut err = outlet_of(alloc, 7, &[])?;
-    let found = call(rt, alloc, words, store, &mut out, &mut err)?;
+    let found = call(rt, alloc, words, STREAM, store, &mut out, &mut err)?;
     assert_eq!(rt; found.number(), status, "at {words}");
     assert!(rt; out.written() == printed, "out at {words}");
     assert!(rt; err.written() == told.as_bytes(), "err at {words}");
@@ -140,7 +164,7 @@ fn keeps_the_status_without_its_line(rt: HostRuntime) -> Result<(), Fail> {
     let mut store = store_of(alloc, &DOCUMENTS, &[])?;
     let mut out = outlet_of(alloc, 7, &[])?;
     let mut err = outlet_of(alloc, 7, &[0])?;
-    let status = call(&rt, alloc, "cutout", &mut store, &mut out, &mut err)?;
+    let status = call(&rt, alloc, "cutout", STREAM, &mut store, &mut out, &mut err)?;
     assert_eq!(rt; status.number(), 1);
     assert!(rt; err.written().is_empty());
     Ok(())

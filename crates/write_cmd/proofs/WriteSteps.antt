@@ -5,12 +5,12 @@ use Rattle.std.specs.Option.{option_map}
 use Rattle.std.proofs.lemmas.List.{take_all}
 use Rattle.vol_base.specs.Outside.{Draft, Objects, OnlyReads}
 use Rattle.vol_spec.proofs.Told.{in_told}
-use Rattle.vol_spec.specs.LastWrite.{zeros}
-use Rattle.vol_spec.specs.StoredCells.{chunks_of, put_in}
-use Rattle.vol_spec.specs.StoredLists.{stored_list}
+use Rattle.vol_spec.specs.StoredCells.{put_in}
 use Rattle.vol_spec.specs.Types.{Bytes, Listed, Name, Writes}
 use Rattle.vol_spec.specs.declared.scale.Scale.{Scale}
 use Rattle.shard_writer.specs.Writing.{PutsFront}
+use Rattle.size_laws.specs.Further.{all_views}
+use Rattle.size_laws.specs.Sizes.{stored_all}
 use Rattle.shard_writer.specs.declared.written.Written.{Written}
 use Rattle.write_plan.specs.Readers.{Took}
 use Rattle.write_plan.specs.declared.fault.PlanFault.{PlanFault}
@@ -57,7 +57,7 @@ pub front_all : (m : Objects) (now : Option Objects) (list : Listed) → now ≡
 front_all m now list put = record { count = length list; within = omega arith; put = put ∙ ap (λ xs. Some (put_in m xs)) (sym (take_all (length list) list (omega arith))) }
 
 pub stored_front : (m : Objects) (now : Option Objects) (dataset key : Name) (s : Scale) (list : Result Writes PlanFault) → IsOkAnd list (HasStored m now dataset key s) → FrontPut m now list dataset s
-stored_front m now dataset key s (Ok ws) h = ((h.writable, h.empty), (h.few, front_all m now (stored_list dataset s (chunks_of s zeros ws)) h.put))
+stored_front m now dataset key s (Ok ws) h = ((h.writable, h.empty), (h.few, front_all m now (stored_all dataset (all_views s) ws) h.put))
 stored_front m now dataset key s (Err fault) h = absurd h
 
 pub written_front : (m : Objects) (now : Option Objects) (dataset key : Name) (s : Scale) (list : Result Writes PlanFault) (written : Written) → WritesScale (Ok written) m now list dataset key s → FrontPut m now list dataset s

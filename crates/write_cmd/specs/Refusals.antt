@@ -9,8 +9,6 @@ use Rattle.command_base.specs.declared.status.Status.{Status}
 use Rattle.command_base.specs.declared.status.Status.TheVariants.{InfoRefused, RequestRefused, StoreFault, FeedFault, NoMemory}
 use Rattle.write_plan.specs.declared.fault.PlanFault.{PlanFault}
 use Rattle.write_plan.specs.declared.fault.PlanFault.TheVariants.{FeedFault as StreamFeed, OutOfMemory as StreamMemory}
-use Rattle.write_plan.specs.declared.plan.PlanRefusal.{PlanRefusal}
-use Rattle.write_plan.specs.declared.plan.PlanRefusal.TheVariants.{TooManyCells as PlanCells, OutOfMemory as PlanMemory}
 use Rattle.write_cmd.specs.Lines.{stream_line}
 use Rattle.write_cmd.specs.declared.refusal.WriteRefusal.{WriteRefusal}
 use Rattle.write_cmd.specs.declared.refusal.WriteRefusal.TheVariants as write
@@ -21,16 +19,11 @@ write_without (scale.NoScale why) = write.NoScale why
 write_without scale.StoreFault = write.StoreFault
 write_without scale.NoMemory = write.NoMemory
 
--- a stream that isn't read,
+-- and a stream that isn't read
 abbrev pub unstreamed : PlanFault → WriteRefusal
 unstreamed StreamFeed = write.FeedFault
 unstreamed StreamMemory = write.NoMemory
 unstreamed fault = write.Stream fault
-
--- and writes that aren't planned
-abbrev pub unplanned : PlanRefusal → WriteRefusal
-unplanned (PlanCells cells) = write.TooManyCells cells
-unplanned PlanMemory = write.NoMemory
 
 abbrev pub write_status : WriteRefusal → Status
 write_status (write.NoScale why) = InfoRefused

@@ -1,28 +1,27 @@
 -- What a command that writes a list of writes answers over the objects that a store tells (this project's
 -- profile): `write`, whose list stands in the stream that a feed tells, and in part `generate`.
-use Rattle.std.specs.Prelude.{◌≡◌, ◌⊎◌, ℕ, drop, All, ◌≤◌, ◌<◌, ◌+◌, ◌*◌, ◌^◌, false, [], length, Option, Some, Result, Ok, Err, ⊤, IfErr, IfSome, IsOkAnd, IsSomeAnd}
+use Rattle.std.specs.Prelude.{◌≡◌, ◌⊎◌, ℕ, drop, All, ◌≤◌, ◌+◌, ◌*◌, ◌^◌, true, false, [], length, Option, Some, None, Result, Ok, Err, ⊤, IfErr, IfSome, IsOkAnd, IsSomeAnd}
 use Rattle.std.specs.Option.{option_map}
 use Rattle.vol_base.specs.declared.boxes.Box3.{Box3}
 use Rattle.vol_base.specs.Bytes.{AreBytes}
 use Rattle.vol_base.specs.Outside.{any_under, Draft, Objects, OnlyReads}
 use Rattle.vol_spec.specs.CellNames.{folder_of}
 use Rattle.vol_spec.specs.Grid.{Inside}
-use Rattle.vol_spec.specs.LastWrite.{zeros}
-use Rattle.vol_spec.specs.StoredCells.{chunks_of, met_cells, put_in}
-use Rattle.vol_spec.specs.StoredLists.{stored_list}
 use Rattle.vol_spec.specs.Types.{Bytes, Name, Writes}
-use Rattle.vol_spec.specs.Writable.{IsWritable, padded}
+use Rattle.vol_spec.specs.Writable.{IsWritable}
 use Rattle.vol_spec.specs.declared.scale.Scale.{Scale}
 use Rattle.chunk_laws.specs.Told.{HasLastWrites, ReadsBack}
 use Rattle.shard_writer.specs.Writing.{joint_len, PutsFront}
 use Rattle.shard_writer.specs.declared.written.Written.{Written}
-use Rattle.write_plan.specs.Plans.{pairs}
 use Rattle.write_plan.specs.Stream.{writes_of}
 use Rattle.write_plan.specs.declared.fault.PlanFault.{PlanFault}
 use Rattle.command_base.specs.Ending.{Ends}
 use Rattle.command_base.specs.Lines.{written_line}
 use Rattle.command_base.specs.Outlets.{Outlets}
-use Rattle.command_base.specs.Scales.{IsFull, IsReady, stored_scale}
+use Rattle.size_laws.specs.Further.{all_views, further, written_views}
+use Rattle.size_laws.specs.Sizes.{AllSound, stored_all}
+use Rattle.view_writer.specs.Views.{cells_all, first_many, first_wide}
+use Rattle.command_base.specs.Scales.{stored_scale}
 use Rattle.command_base.specs.Statuses.{puts}
 use Rattle.command_base.specs.declared.refusal.NoScale.{NoScale}
 use Rattle.command_base.specs.declared.status.Status.{Status}
@@ -34,24 +33,31 @@ use Rattle.write_cmd.specs.declared.refusal.WriteRefusal.TheVariants as refused
 abbrev pub Listing : Type 0
 Listing = Scale → Result Writes PlanFault
 
--- what stands after a write: the scale kept the writing limit, its folder was empty, the values are bytes, the objects of the writes were
--- put in and nothing else was changed, so the scale is as before
+-- what stands after a write: each view of the scale kept the writing limit, its folder was empty, the values are bytes, the objects of the
+-- writes were put in for each view and nothing else was changed, so the scale is as before
 pub record HasStored (m : Objects) (now : Option Objects) (dataset key : Name) (s : Scale)
     (writes : Writes) : Type 0 where
-  pub writable : IsWritable s
+  pub writable : All IsWritable (all_views s)
   pub empty : any_under m (folder_of dataset s) ≡ false
   pub bytes : All (λ write. AreBytes write.1) writes
-  pub few : pairs s writes ≤ 2 ^ 22
-  pub put : now ≡ Some (put_in m (stored_list dataset s (chunks_of s zeros writes)))
-  pub same : stored_scale (put_in m (stored_list dataset s (chunks_of s zeros writes))) dataset key
-      ≡ stored_scale m dataset key
+  pub few : first_many (all_views s) writes ≡ None
+  pub put : now ≡ Some (written_views m dataset s writes)
+  pub same : stored_scale (written_views m dataset s writes) dataset key ≡ stored_scale m dataset key
+
+-- each view of the scale keeps the writing limit, and its folder is empty
+abbrev pub AreReady : Objects → Name → Scale → Type 0
+AreReady m dataset s = All IsWritable (all_views s) × (any_under m (folder_of dataset s) ≡ false)
+
+-- or its folder isn't
+abbrev pub AreFull : Objects → Name → Scale → Type 0
+AreFull m dataset s = All IsWritable (all_views s) × (any_under m (folder_of dataset s) ≡ true)
 
 -- each value is the last write, else 0; and each box inside the scale reads back as the writes: no cell of it has a
 -- fault, its cutout is the bytes of the last write at each voxel and channel, else 0, none missing (so many values
--- side by side), and nothing is wrong with its cells
+-- side by side), nothing is wrong with its cells, and the further views say the same
 abbrev pub AllReadBack : Option Objects → Name → Scale → Writes → Type 0
 AllReadBack objects dataset s writes = IsSomeAnd objects (λ now. HasLastWrites now dataset s writes ×
-    ((b : Box3) → Inside s b → ReadsBack now dataset s writes b))
+    ((b : Box3) → Inside s b → ReadsBack now dataset s writes b × AllSound now dataset s (further s) b))
 
 abbrev pub WrittenBack : Objects → Option Objects → Listing → Name → Name → Type 0
 WrittenBack m now list dataset key = IsOkAnd (stored_scale m dataset key) (λ s.
@@ -60,34 +66,34 @@ WrittenBack m now list dataset key = IsOkAnd (stored_scale m dataset key) (λ s.
 -- a front of the objects of writes that can be stored: the limit was kept, the folder was empty, and there are not too many cells
 abbrev pub FrontPut : Objects → Option Objects → Result Writes PlanFault → Name → Scale → Type 0
 FrontPut m now list dataset s =
-    IsReady m dataset s
-    × IsOkAnd list (λ writes. (pairs s writes ≤ 2 ^ 22) ×
-    PutsFront (stored_list dataset s (chunks_of s zeros writes)) m now)
+    AreReady m dataset s
+    × IsOkAnd list (λ writes. (first_many (all_views s) writes ≡ None) ×
+    PutsFront (stored_all dataset (all_views s) writes) m now)
 
--- numbers of objects and of bytes that are those of the objects of the writes, and one of cells that is that of the cells that they meet
+-- numbers of objects and of bytes that are those of the objects of the writes in all views, and one of cells that is that of the cells that
+-- they meet in these
 pub record Counts (written : Written) (dataset : Name) (s : Scale) (writes : Writes) : Type 0 where
-  pub objects : written.objects ≡ length (stored_list dataset s (chunks_of s zeros writes))
-  pub cells : written.cells ≡ length (met_cells s writes)
-  pub bytes : written.bytes ≡ joint_len (stored_list dataset s (chunks_of s zeros writes))
+  pub objects : written.objects ≡ length (stored_all dataset (all_views s) writes)
+  pub cells : written.cells ≡ cells_all (all_views s) writes
+  pub bytes : written.bytes ≡ joint_len (stored_all dataset (all_views s) writes)
 
 -- what writing the objects of writes answers, and what stands after it
 abbrev pub PutsWrites : Result Written WriteRefusal → Objects → Option Objects → Name → Scale → Writes →
     Type 0
-PutsWrites (Ok written) m now dataset s writes = (now
-    ≡ Some (put_in m (stored_list dataset s (chunks_of s zeros writes)))) × (pairs s writes ≤ 2 ^ 22) ×
-    Counts written dataset s writes
-PutsWrites (Err (refused.TooManyCells cells)) m now dataset s writes = (cells ≡ pairs s writes) ×
-    (2 ^ 22 < pairs s writes)
-PutsWrites (Err refused.StoreFault) m now dataset s writes = (pairs s writes ≤ 2 ^ 22) ×
-    PutsFront (stored_list dataset s (chunks_of s zeros writes)) m now
-PutsWrites (Err refused.NoMemory) m now dataset s writes = (now ≡ Some m) ⊎
-    ((pairs s writes ≤ 2 ^ 22) × PutsFront (stored_list dataset s (chunks_of s zeros writes)) m now)
+PutsWrites (Ok written) m now dataset s writes = (now ≡ Some (written_views m dataset s writes)) ×
+    (first_many (all_views s) writes ≡ None) × Counts written dataset s writes
+PutsWrites (Err (refused.TooManyCells cells)) m now dataset s writes = first_many (all_views s) writes ≡ Some cells
+PutsWrites (Err refused.StoreFault) m now dataset s writes = (first_many (all_views s) writes ≡ None) ×
+    PutsFront (stored_all dataset (all_views s) writes) m now
+PutsWrites (Err refused.NoMemory) m now dataset s writes = (first_many (all_views s) writes ≡ None) ×
+    PutsFront (stored_all dataset (all_views s) writes) m now
 PutsWrites (Err other) m now dataset s writes = ⊥
 
 -- what judging the writing limit answers
 abbrev pub JudgesLimit : Result ⊤ WriteRefusal → Scale → Type 0
-JudgesLimit (Ok done) s = IsWritable s
-JudgesLimit (Err refusal) s = (refusal ≡ refused.TooManyVoxels (padded s)) × (2 ^ 22 < padded s)
+JudgesLimit (Ok done) s = All IsWritable (all_views s)
+JudgesLimit (Err (refused.TooManyVoxels voxels)) s = first_wide (all_views s) ≡ Some voxels
+JudgesLimit (Err other) s = ⊥
 
 -- what writing a scale answers, and what stands after it
 abbrev pub WritesScale : Result Written WriteRefusal → Objects → Option Objects → Result Writes PlanFault →
@@ -100,7 +106,7 @@ WritesScale (Err (refused.TooManyVoxels voxels)) m now list dataset key s = Unit
 WritesScale (Err refused.NotEmpty) m now list dataset key s = Unit {0}
 WritesScale (Err (refused.Stream fault)) m now list dataset key s = list ≡ Err fault
 WritesScale (Err (refused.TooManyCells cells)) m now list dataset key s =
-    IsOkAnd list (λ writes. (cells ≡ pairs s writes) × (2 ^ 22 < pairs s writes))
+    IsOkAnd list (λ writes. first_many (all_views s) writes ≡ Some cells)
 WritesScale (Err refused.StoreFault) m now list dataset key s = (now ≡ Some m) ⊎ FrontPut m now list dataset s
 WritesScale (Err refused.NoMemory) m now list dataset key s = (now ≡ Some m) ⊎ FrontPut m now list dataset s
 WritesScale (Err refused.FeedFault) m now list dataset key s = Unit {0}
@@ -121,11 +127,11 @@ WritesAll result told m now list dataset key = IsOkAnd told (λ s.
 abbrev pub Judges : Result Written WriteRefusal → Result Scale NoScale → Objects → Name → Type 0
 Judges (Err (refused.NoScale why)) told m dataset = told ≡ Err why
 Judges (Err (refused.TooManyVoxels voxels)) told m dataset =
-    IsOkAnd told (λ s. (voxels ≡ padded s) × (2 ^ 22 < padded s))
-Judges (Err refused.NotEmpty) told m dataset = IsOkAnd told (IsFull m dataset)
+    IsOkAnd told (λ s. first_wide (all_views s) ≡ Some voxels)
+Judges (Err refused.NotEmpty) told m dataset = IsOkAnd told (AreFull m dataset)
 Judges (Err refused.StoreFault) told m dataset = Unit {0}
 Judges (Err refused.NoMemory) told m dataset = Unit {0}
-Judges result told m dataset = IsOkAnd told (IsReady m dataset)
+Judges result told m dataset = IsOkAnd told (AreReady m dataset)
 
 -- what it leaves where nothing is told: the feed isn't read where the scale, the limit or the folder is refused, and is read to its end by a
 -- write that succeeds; and nothing is put, and what was being written stays, but where the objects of a plan were begun
@@ -178,5 +184,5 @@ Wrote status told now left_old left_new dataset key o = (answer : Result Written
 -- the scale is there and ready, and the list can be written
 abbrev pub CanWrite : Objects → Listing → Name → Name → Type 0
 CanWrite m list dataset key =
-    IsOkAnd (stored_scale m dataset key) (λ s. IsReady m dataset s ×
-    IsOkAnd (list s) (λ writes. pairs s writes ≤ 2 ^ 22))
+    IsOkAnd (stored_scale m dataset key) (λ s. AreReady m dataset s ×
+    IsOkAnd (list s) (λ writes. first_many (all_views s) writes ≡ None))

@@ -1,21 +1,21 @@
 //! Why `write` was refused.
 
 use command_base::{NoScale, ScaleRefusal};
-use write_plan::{PlanFault, PlanRefusal};
+use write_plan::PlanFault;
 
 /// Why `write` was refused.
 #[derive(Clone, Copy)]
 pub enum WriteRefusal {
     /// There is no scale.
     NoScale(NoScale),
-    /// The scale has more padded voxels times channels than are written: so many.
+    /// A view of the scale has more padded voxels times channels than are written: so many, the first such view.
     TooManyVoxels(u64),
     /// An object stands under the folder of the scale that is to be written.
     NotEmpty,
     /// The stream of writes has a fault.
     Stream(PlanFault),
-    /// The writes meet too many cells, each counted once for each write that meets it.
-    TooManyCells(u64),
+    /// The writes meet too many cells of a view, each counted once for each write that meets it: so many in the first such view.
+    TooManyCells(u128),
     StoreFault,
     FeedFault,
     NoMemory,
@@ -47,20 +47,6 @@ impl From<PlanFault> for WriteRefusal {
             PlanFault::FeedFault => WriteRefusal::FeedFault,
             PlanFault::OutOfMemory => WriteRefusal::NoMemory,
             fault => WriteRefusal::Stream(fault),
-        }
-    }
-}
-
-impl From<PlanRefusal> for WriteRefusal {
-    ghost use Rattle.std.specs.Prelude.{◌≡◌};
-    ghost use Rattle.write_cmd.specs.Refusals.{unplanned};
-
-    ghost from_gives = { λ refusal e. e ≡ unplanned refusal };
-
-    fn from(refusal: PlanRefusal) -> WriteRefusal {
-        match refusal {
-            PlanRefusal::TooManyCells { cells } => WriteRefusal::TooManyCells(cells),
-            PlanRefusal::OutOfMemory => WriteRefusal::NoMemory,
         }
     }
 }

@@ -39,7 +39,7 @@ impl Refusal for WriteRefusal {
             WriteRefusal::NotEmpty => write_folder_line(alloc),
             WriteRefusal::Stream(fault) => Ok(write_stream_line(alloc, *fault)?.into_bytes()),
             WriteRefusal::TooManyCells(cells) => {
-                Ok(write_cells_line(alloc, u128::from(*cells))?.into_bytes())
+                Ok(write_cells_line(alloc, *cells)?.into_bytes())
             }
             WriteRefusal::StoreFault | WriteRefusal::FeedFault | WriteRefusal::NoMemory =>
                 unreachable!(),

@@ -115,6 +115,8 @@ const ROWS: [&str; 2] = ["[5,1,1]", "[4,1,1]"];
 
 const CELLS: [&str; 2] = ["[3,1,1]", "[1,1,1]"];
 
+const TWO_SIZES: [&str; 2] = ["[4,1,1]", "[4,1,1],[2,1,1]"];
+
 const WHOLE: Write = Write {
     begin: [0, 0, 0],
     size: [2, 2, 1],
@@ -145,15 +147,28 @@ const THREE: Write = Write {
     values: &[1, 2, 3],
 };
 
+const FOUR: Write = Write {
+    begin: [0, 0, 0],
+    size: [4, 1, 1],
+    values: &[1, 2, 3, 4],
+};
+
 const THREE_OBJECTS: [(&str, &[u8]); 3] = [
     ("d/s/0-1_0-1_0-1", &[1]),
     ("d/s/1-2_0-1_0-1", &[2]),
     ("d/s/2-3_0-1_0-1", &[3]),
 ];
 
-// The size and the chunk size of a raw scale, writes into it, the line that is printed, and the objects that stand
+// Four voxels as one chunk, and as two.
+const TWO_VIEWS: [(&str, &[u8]); 3] = [
+    ("d/s/0-4_0-1_0-1", &[1, 2, 3, 4]),
+    ("d/s/0-2_0-1_0-1", &[1, 2]),
+    ("d/s/2-4_0-1_0-1", &[3, 4]),
+];
+
+// The size and the chunk sizes of a raw scale, writes into it, the line that is printed, and the objects that stand
 // afterwards.
-const CASES: [([&str; 2], &[Write], &str, &[(&str, &[u8])]); 8] = [
+const CASES: [([&str; 2], &[Write], &str, &[(&str, &[u8])]); 9] = [
     (PLANE, &[], "objects 0 cells 0\n", &[]),
     (
         PLANE,
@@ -198,6 +213,7 @@ const CASES: [([&str; 2], &[Write], &str, &[(&str, &[u8])]); 8] = [
         ],
     ),
     (CELLS, &[THREE], "objects 3 cells 3\n", &THREE_OBJECTS),
+    (TWO_SIZES, &[FOUR], "objects 3 cells 3\n", &TWO_VIEWS),
 ];
 
 // Writes into an empty scale, by so many workers.
@@ -395,10 +411,11 @@ const BAD_WRITES: [([&str; 2], &[Write], &str); 4] = [
 ];
 
 // Objects that no refused stream stores.
-const NEVER: [(&str, &[u8]); 3] = [
+const NEVER: [(&str, &[u8]); 4] = [
     ("d/s/0-2_0-2_0-1", &[]),
     ("d/s/0-1_0-1_0-1", &[]),
     ("d/s/0-64_0-64_0-1", &[]),
+    ("d/s/0-4194305_0-1_0-1", &[]),
 ];
 
 // A refusal of a stream, which leaves these objects and stores none. The feed gives so many bytes at a time.
@@ -464,44 +481,70 @@ fn refuses_too_many_cells(rt: HostRuntime) -> Result<(), Fail> {
     check_refusal(&rt, alloc, &sizes, &[], &stream, 255, line)
 }
 
-// One padded voxel more than are written, and more than are read.
-const LIMITS: [(&str, Status, &str); 2] = [
+// More cells of the second size, by whose pairs nothing of the first one is written.
+#[test]
+fn refuses_too_many_cells_of_a_further_size(rt: HostRuntime) -> Result<(), Fail> {
+    let alloc = rt.alloc();
+    let values = vec![in alloc; 1; 4_194_305]?;
+    let write = Write {
+        begin: [0, 0, 0],
+        size: [4_194_305, 1, 1],
+        values: &values,
+    };
+    let stream = stream_of(alloc, &[write])?;
+    let sizes = ["[4194305,1,1]", "[4194305,1,1],[1,1,1]"];
+    let line = "too many cells 4194305\n";
+    check_refusal(&rt, alloc, &sizes, &[], &stream, 255, line)
+}
+
+// The size and the chunk sizes of a segmentation: one padded voxel more than are written, the same by the second size
+// alone, and more than are read.
+const LIMITS: [(&str, &str, Status, &str); 3] = [
     (
+        "[4194305,1,1]",
         "[4194305,1,1]",
         Status::RequestRefused,
         "padded voxels 4194305 over 4194304\n",
     ),
     (
+        "[4194305,1,1]",
+        "[4194304,1,1],[4194305,1,1]",
+        Status::RequestRefused,
+        "padded voxels 4194305 over 4194304\n",
+    ),
+    (
+        "[16777217,1,1]",
         "[16777217,1,1]",
         Status::InfoRefused,
         "info of d: limit padded\n",
     ),
 ];
 
-// A segmentation of one chunk.
-fn label_info(alloc: Global, size: &str) -> Result<String, AllocError> {
+// A segmentation of blocks of one voxel.
+fn label_info(alloc: Global, size: &str, chunks: &str) -> Result<String, AllocError> {
     let mut info = String::from_str(
         alloc,
         "{\"type\":\"segmentation\",\"data_type\":\"uint32\",\"num_channels\":1,\"scales\":[{\"key\":\"s\",\"size\":",
     )?;
     info.push_str(size)?;
     info.push_str(",\"chunk_sizes\":[")?;
-    info.push_str(size)?;
+    info.push_str(chunks)?;
     info.push_str(
         "],\"resolution\":[8,8,40],\"encoding\":\"compressed_segmentation\",\"compressed_segmentation_block_size\":[1,1,1]}]}",
     )?;
     Ok(info)
 }
 
-// A scale of such a size is judged before the folder, and before the stream.
+// A scale of such sizes is judged before the folder, and before the stream.
 fn check_limit<R: Threads + Wait + Abort + Sync>(
     rt: &R,
     alloc: Global,
     size: &str,
+    chunks: &str,
     status: Status,
     line: &str,
 ) -> Result<(), Fail> {
-    let info = label_info(alloc, size)?;
+    let info = label_info(alloc, size, chunks)?;
     let mut store = store_of(alloc, &info, &[])?;
     put(alloc, &mut store, "d/s/x", &[1])?;
     let line = line.as_bytes();
@@ -510,30 +553,52 @@ fn check_limit<R: Threads + Wait + Abort + Sync>(
 
 #[test]
 fn judges_the_limits(rt: HostRuntime) -> Result<(), Fail> {
-    for (size, status, line) in &LIMITS {
-        check_limit(&rt, rt.alloc(), size, *status, line)?;
+    for (size, chunks, status, line) in &LIMITS {
+        check_limit(&rt, rt.alloc(), size, chunks, *status, line)?;
     }
     Ok(())
 }
 
-// Three cells are written while a call fails: so many of their objects stand afterwards.
+// The size and the chunk sizes of a raw scale, a write into it, and its objects in the order in which they are put.
+#[derive(Clone, Copy)]
+struct Case<'a> {
+    sizes: [&'a str; 2],
+    write: Write<'a>,
+    objects: [(&'a str, &'a [u8]); 3],
+}
+
+const IN_CELLS: Case = Case {
+    sizes: CELLS,
+    write: THREE,
+    objects: THREE_OBJECTS,
+};
+
+const IN_VIEWS: Case = Case {
+    sizes: TWO_SIZES,
+    write: FOUR,
+    objects: TWO_VIEWS,
+};
+
+// Three objects are put while a call fails: so many of them stand afterwards.
 fn check_failing<R: Threads + Wait + Abort + Sync>(
     rt: &R,
     alloc: Global,
+    case: &Case,
     workers: u32,
     faults: &Faults,
     status: Status,
     line: &str,
     count: usize,
 ) -> Result<(), Fail> {
-    let info = raw_info(alloc, "[3,1,1]", "[1,1,1]")?;
+    let [size, chunks] = case.sizes;
+    let info = raw_info(alloc, size, chunks)?;
     let mut store = store_of(alloc, &info, faults.store)?;
-    let stream = stream_of(alloc, &[THREE])?;
+    let stream = stream_of(alloc, &[case.write])?;
     let line = line.as_bytes();
     check(
         rt, alloc, &mut store, &stream, workers, faults, status, line,
     )?;
-    let (there, absent) = THREE_OBJECTS.split_at(count.min(3));
+    let (there, absent) = case.objects.split_at(count.min(3));
     assert!(rt; has_all(&store, there) && has_none(&store, absent));
     Ok(())
 }
@@ -547,7 +612,7 @@ fn tells_failing_streams(rt: HostRuntime) -> Result<(), Fail> {
             ..NO_FAULTS
         };
         let status = Status::FeedFault;
-        check_failing(&rt, alloc, 1, &faults, status, "feed fault\n", 0)?;
+        check_failing(&rt, alloc, &IN_CELLS, 1, &faults, status, "feed fault\n", 0)?;
     }
     for call in 0..18 {
         let faults = Faults {
@@ -556,7 +621,16 @@ fn tells_failing_streams(rt: HostRuntime) -> Result<(), Fail> {
             ..NO_FAULTS
         };
         let status = Status::OutFault;
-        check_failing(&rt, alloc, 1, &faults, status, "output fault\n", 3)?;
+        check_failing(
+            &rt,
+            alloc,
+            &IN_CELLS,
+            1,
+            &faults,
+            status,
+            "output fault\n",
+            3,
+        )?;
     }
     Ok(())
 }

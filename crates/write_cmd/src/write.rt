@@ -5,10 +5,10 @@ ghost use Rattle.vol_base.specs.Causes.{HasCauseOf, Rose};
 ghost use Rattle.vol_base.specs.Outside.{any_under, Objects, OnlyReads};
 ghost use Rattle.vol_spec.specs.CellNames.{folder_of};
 ghost use Rattle.vol_spec.specs.Writable.{IsWritable};
-ghost use Rattle.write_plan.specs.Plans.{pairs};
 ghost use Rattle.write_plan.specs.Stream.{writes_of};
 ghost use Rattle.write_plan.specs.WriteLists.{IsWriteOf};
 ghost use Rattle.shard_writer.specs.Writing.{Drops};
+ghost use Rattle.size_laws.specs.Further.{all_views};
 ghost use Rattle.command_base.specs.Ending.{EndsWell, IsCaused};
 ghost use Rattle.command_base.specs.Outlets.{outlets_of};
 ghost use Rattle.command_base.specs.Scales.{stored_scale};
@@ -17,64 +17,29 @@ ghost use Rattle.write_cmd.specs.Storing.{CanWrite, Judges, JudgesLimit, KeepsFe
 
 use crate::refusal::WriteRefusal;
 use chunk_grid::find_folder;
-use chunk_laws::tell_chunks;
 use command_base::{Crew, Status, finish, read_scale, report, write_written_line};
 use info_doc::Scale;
-use shard_writer::{WriteFault, Written, write_scale};
+use shard_writer::Written;
+use size_laws::tell_stored_views;
 use std::sync::Wait;
 use std::thread::Threads;
+use view_writer::{ViewsRefusal, find_wide, write_views};
 use vol_base::{Feed, Gate, Name, Outlet, Store};
-use write_plan::{Plan, Writes, read_writes};
+use write_plan::{Writes, read_writes};
 
-/// Refuses a scale that passes the writing limit, by the number of its padded voxels times channels.
+/// Refuses a scale of which a view passes the writing limit, by the number of the first such view's padded voxels times
+/// channels.
 pub fn judge_limit(scale: &Scale) -> Result<(), WriteRefusal>
     ensures { JudgesLimit result scale.now }
 {
-    if scale.can_encode() {
-        Ok(())
-    } else {
-        Err(WriteRefusal::TooManyVoxels(scale.padded()))
+    match find_wide(scale) {
+        None => Ok(()),
+        Some(voxels) => Err(WriteRefusal::TooManyVoxels(voxels)),
     }
 }
 
-// Puts the objects of a plan.
-fn put_plan<R: Threads + Wait + Sync, S: Store, G: Gate + Sync>(
-    crew: &Crew<R, G>,
-    store: &mut S,
-    dataset: &Name,
-    scale: &Scale,
-    plan: &mut Plan,
-) -> Result<Written, WriteRefusal>
-    requires dataset { length dataset.now ≤ 200 }
-    requires writable { IsWritable scale.now }
-    requires scale { plan.old.scale ≡ scale.now }
-    requires few { pairs scale.now plan.old.writes ≤ 2 ^ 22 }
-    ensures put { IfSome (S.objects store.old) (λ m.
-        PutsWrites result m (S.objects store.new) dataset.now scale.now plan.old.writes) }
-    ensures draft { Drops (S.draft store.old) (S.draft store.new) }
-    ensures kept { IfErr result (λ refusal. KeepsPlan refusal (S.objects store.old) (S.objects store.new)
-        (S.draft store.old) (S.draft store.new)) }
-    ensures cause { HasCauseOf WriteRefusal.StoreFault (S.faults store.old) (S.faults store.new) result }
-{
-    match write_scale(
-        crew.rt,
-        crew.alloc,
-        store,
-        dataset,
-        scale,
-        plan,
-        crew.workers,
-        crew.gate,
-    ) {
-        Ok(written) => Ok(written),
-        Err(WriteFault::StoreFault) => Err(WriteRefusal::StoreFault),
-        Err(WriteFault::Damaged { .. }) => unreachable!(),
-        Err(WriteFault::OutOfMemory) => Err(WriteRefusal::NoMemory),
-    }
-}
-
-// Writes the objects of writes.
-fn write_planned<R: Threads + Wait + Sync, S: Store, G: Gate + Sync>(
+// Writes the objects of writes, once for each view.
+fn write_all<R: Threads + Wait + Sync, S: Store, G: Gate + Sync>(
     crew: &Crew<R, G>,
     store: &mut S,
     dataset: &Name,
@@ -82,7 +47,7 @@ fn write_planned<R: Threads + Wait + Sync, S: Store, G: Gate + Sync>(
     writes: Writes,
 ) -> Result<Written, WriteRefusal>
     requires dataset { length dataset.now ≤ 200 }
-    requires writable { IsWritable scale.now }
+    requires writable { All IsWritable (all_views scale.now) }
     requires fits { All (IsWriteOf scale.now) writes }
     ensures put { IfSome (S.objects store.old) (λ m.
         PutsWrites result m (S.objects store.new) dataset.now scale.now writes) }
@@ -91,11 +56,25 @@ fn write_planned<R: Threads + Wait + Sync, S: Store, G: Gate + Sync>(
         (S.draft store.old) (S.draft store.new)) }
     ensures cause { HasCauseOf WriteRefusal.StoreFault (S.faults store.old) (S.faults store.new) result }
 {
-    let mut plan = Plan::of(crew.alloc, scale, writes)?;
-    put_plan(crew, store, dataset, scale, &mut plan)
+    match write_views(
+        crew.rt,
+        crew.alloc,
+        store,
+        dataset,
+        scale,
+        writes,
+        crew.workers,
+        crew.gate,
+    ) {
+        Ok(written) => Ok(written),
+        Err(ViewsRefusal::TooManyCells { cells }) => Err(WriteRefusal::TooManyCells(cells)),
+        Err(ViewsRefusal::StoreFault) => Err(WriteRefusal::StoreFault),
+        Err(ViewsRefusal::OutOfMemory) => Err(WriteRefusal::NoMemory),
+    }
 }
 
-/// Writes the list that a stream has into a scale that is ready: it keeps the writing limit, and its folder is empty.
+/// Writes the list that a stream has into a scale that is ready: each view keeps the writing limit, and its folder is
+/// empty.
 pub fn write_list<R: Threads + Wait + Sync, S: Store, F: Feed, G: Gate + Sync>(
     crew: &Crew<R, G>,
     store: &mut S,
@@ -104,7 +83,7 @@ pub fn write_list<R: Threads + Wait + Sync, S: Store, F: Feed, G: Gate + Sync>(
     scale: &Scale,
 ) -> Result<Written, WriteRefusal>
     requires dataset { length dataset.now ≤ 200 }
-    requires writable { IsWritable scale.now }
+    requires writable { All IsWritable (all_views scale.now) }
     requires empty { IfSome (S.objects store.old) (λ m.
         any_under m (folder_of dataset.now scale.now) ≡ false) }
     ensures judges { IfSome (S.objects store.old) (λ m. Judges result (Ok scale.now) m dataset.now) }
@@ -120,8 +99,8 @@ pub fn write_list<R: Threads + Wait + Sync, S: Store, F: Feed, G: Gate + Sync>(
     ensures feed_cause { HasCauseOf WriteRefusal.FeedFault (F.faults feed.old) (F.faults feed.new) result }
 {
     let writes = read_writes(crew.alloc, feed, scale)?;
-    tell_chunks(dataset, scale);
-    write_planned(crew, store, dataset, scale, writes)
+    tell_stored_views(dataset, scale);
+    write_all(crew, store, dataset, scale, writes)
 }
 
 // Writes a stream into the scale of a key, which keeps the writing limit and whose folder is empty.

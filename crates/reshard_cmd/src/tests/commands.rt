@@ -26,10 +26,18 @@ const LONGER: &[u8] =
 const MANY: &[u8] =
     b"{\"type\":\"image\",\"data_type\":\"uint32\",\"num_channels\":1,\"scales\":[{\"key\":\"s\",\"size\":[4194305,1,1],\"chunk_sizes\":[[1,1,1]],\"resolution\":[8,8,40],\"encoding\":\"raw\"}]}";
 
+// Several chunk sizes: the second passes the writing limit; three voxels; and two, as in the source.
 const WIDE: &[u8] =
-    b"{\"type\":\"segmentation\",\"data_type\":\"uint32\",\"num_channels\":1,\"scales\":[{\"key\":\"s\",\"size\":[4194305,1,1],\"chunk_sizes\":[[4194305,1,1]],\"resolution\":[8,8,40],\"encoding\":\"compressed_segmentation\",\"compressed_segmentation_block_size\":[1,1,1]}]}";
+    b"{\"type\":\"segmentation\",\"data_type\":\"uint32\",\"num_channels\":1,\"scales\":[{\"key\":\"s\",\"size\":[4194305,1,1],\"chunk_sizes\":[[64,1,1],[4194305,1,1]],\"resolution\":[8,8,40],\"encoding\":\"compressed_segmentation\",\"compressed_segmentation_block_size\":[1,1,1]}]}";
 
-// The data sets with their documents, and what is stored: the first voxel is 7, and the second isn't there.
+const SIZES: &[u8] =
+    b"{\"type\":\"image\",\"data_type\":\"uint32\",\"num_channels\":1,\"scales\":[{\"key\":\"s\",\"size\":[3,1,1],\"chunk_sizes\":[[1,1,1],[3,1,1]],\"resolution\":[8,8,40],\"encoding\":\"raw\"}]}";
+
+const TWICE: &[u8] =
+    b"{\"type\":\"image\",\"data_type\":\"uint32\",\"num_channels\":1,\"scales\":[{\"key\":\"s\",\"size\":[2,1,1],\"chunk_sizes\":[[1,1,1],[2,1,1]],\"resolution\":[8,8,40],\"encoding\":\"raw\"}]}";
+
+// The data sets with their documents, and what is stored: the first voxel is 7, and the second isn't there. The second
+// chunk size of a source says otherwise, and isn't read.
 const OBJECTS: &[(&str, &[u8])] = &[
     ("d/info", SOURCE),
     ("e/info", TARGET),
@@ -37,8 +45,12 @@ const OBJECTS: &[(&str, &[u8])] = &[
     ("g/info", MANY),
     ("h/info", WIDE),
     ("k/info", SOURCE),
+    ("l/info", SIZES),
+    ("m/info", TWICE),
     ("d/s/0-1_0-1_0-1", &[7, 0, 0, 0]),
     ("k/s/1-2_0-1_0-1", &[7, 0, 0]),
+    ("m/s/0-1_0-1_0-1", &[7, 0, 0, 0]),
+    ("m/s/0-2_0-1_0-1", &[9, 0, 0, 0, 9, 0, 0, 0]),
 ];
 
 // The only object that a copy puts: a shard with an entry, a chunk and an index of one row.
@@ -106,6 +118,11 @@ const REQUESTS: &[Row] = &[
         ..REFUSED
     },
     Row {
+        to: ("l", "s"),
+        told: "several chunk sizes\n",
+        ..REFUSED
+    },
+    Row {
         to: ("f", "s"),
         told: "differs size\n",
         ..REFUSED
@@ -147,6 +164,10 @@ const FAULTS: &[Row] = &[
 
 const STORED: &[Row] = &[
     MADE,
+    Row {
+        from: ("m", "s"),
+        ..MADE
+    },
     Row {
         out: &[0],
         status: 7,

@@ -120,9 +120,12 @@ const REFUSED: Row = Row {
     ..CORNER
 };
 
-// A segmentation of a padded voxel more than are written.
+// A segmentation with a second chunk size of a padded voxel more than are written; and four voxels in chunks of two sizes.
 const WIDE: &str =
-    "{\"type\":\"segmentation\",\"data_type\":\"uint32\",\"num_channels\":1,\"scales\":[{\"key\":\"s\",\"size\":[4194305,1,1],\"chunk_sizes\":[[4194305,1,1]],\"resolution\":[8,8,40],\"encoding\":\"compressed_segmentation\",\"compressed_segmentation_block_size\":[1,1,1]}]}";
+    "{\"type\":\"segmentation\",\"data_type\":\"uint32\",\"num_channels\":1,\"scales\":[{\"key\":\"s\",\"size\":[4194305,1,1],\"chunk_sizes\":[[64,1,1],[4194305,1,1]],\"resolution\":[8,8,40],\"encoding\":\"compressed_segmentation\",\"compressed_segmentation_block_size\":[1,1,1]}]}";
+
+const SIZES: &str =
+    "{\"type\":\"image\",\"data_type\":\"uint8\",\"num_channels\":1,\"scales\":[{\"key\":\"s\",\"size\":[4,1,1],\"chunk_sizes\":[[4,1,1],[2,1,1]],\"resolution\":[8,8,40],\"encoding\":\"raw\"}]}";
 
 // In the order in which they are judged: each has the faults of all behind it.
 const IN_ORDER: &[Row] = &[
@@ -136,6 +139,12 @@ const IN_ORDER: &[Row] = &[
         info: WIDE,
         behind: &[0],
         line: "padded voxels 4194305 over 4194304\n",
+        ..REFUSED
+    },
+    Row {
+        info: SIZES,
+        behind: &[0],
+        line: "several chunk sizes\n",
         ..REFUSED
     },
     Row {

@@ -1,6 +1,8 @@
 //! Writes of which one call fails, each in turn, by one worker and by two.
 
-use super::{Faults, NO_FAULTS, PAIR, check, check_failing, store_of, stream_of};
+use super::{
+    Case, Faults, IN_CELLS, IN_VIEWS, NO_FAULTS, PAIR, check, check_failing, store_of, stream_of,
+};
 use command_base::Status;
 use memory_rows::{has_all, has_none};
 use std::alloc::Global;
@@ -32,6 +34,7 @@ const STORE_FAULTS: [(u64, usize); 11] = [
 fn check_store<R: Threads + Wait + Abort + Sync>(
     rt: &R,
     alloc: Global,
+    case: &Case,
     workers: u32,
     call: u64,
     status: Status,
@@ -42,27 +45,32 @@ fn check_store<R: Threads + Wait + Abort + Sync>(
         store: &[call],
         ..NO_FAULTS
     };
-    check_failing(rt, alloc, workers, &faults, status, line, count)
+    check_failing(rt, alloc, case, workers, &faults, status, line, count)
 }
 
 // Each of these fails in turn, and then one that comes no more.
 fn check_stores<R: Threads + Wait + Abort + Sync>(
     rt: &R,
     alloc: Global,
+    case: &Case,
     workers: u32,
     calls: &[(u64, usize)],
 ) -> Result<(), Fail> {
     let line = "store fault\n";
     for (call, count) in calls {
-        check_store(rt, alloc, workers, *call, Status::StoreFault, line, *count)?;
+        let status = Status::StoreFault;
+        check_store(rt, alloc, case, workers, *call, status, line, *count)?;
     }
-    check_store(rt, alloc, workers, 11, Status::Ok, THREE_LINE, 3)
+    check_store(rt, alloc, case, workers, 11, Status::Ok, THREE_LINE, 3)
 }
 
 #[test]
 fn leaves_the_first_objects(rt: HostRuntime) -> Result<(), Fail> {
-    check_stores(&rt, rt.alloc(), 1, &STORE_FAULTS)?;
-    check_stores(&rt, rt.alloc(), 2, &STORE_FAULTS)
+    for case in [&IN_CELLS, &IN_VIEWS] {
+        check_stores(&rt, rt.alloc(), case, 1, &STORE_FAULTS)?;
+        check_stores(&rt, rt.alloc(), case, 2, &STORE_FAULTS)?;
+    }
+    Ok(())
 }
 
 // A call of the feed fails, which gives at most seven bytes.
@@ -80,7 +88,7 @@ fn check_feed<R: Threads + Wait + Abort + Sync>(
         piece: 7,
         ..NO_FAULTS
     };
-    check_failing(rt, alloc, workers, &faults, status, line, count)
+    check_failing(rt, alloc, &IN_CELLS, workers, &faults, status, line, count)
 }
 
 // The stream's head takes two calls, that of the write seven, the values one, and the end one.

@@ -1,0 +1,12 @@
+//! Whether bytes are the reply to a request for an object, judged whole, the plain slow way, to compare clients with.
+#![tactic(auto)]
+
+mod fields;
+mod judge;
+mod numbers;
+mod place;
+mod reply;
+#[cfg(test)]
+mod tests;
+
+pub use reply::{PlainReply, plain_reply};

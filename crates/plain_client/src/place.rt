@@ -1,0 +1,60 @@
+//! The part of an object that a reply says to have.
+ghost use Rattle.std.specs.Prelude.{◌≡◌, All, Some, length, map};
+ghost use Rattle.httparse.specs.Spans.{IsWithin, span_bytes};
+ghost use Rattle.remote_store.specs.Fits.{is_place, only, place_in};
+ghost use Rattle.remote_store.specs.Reading.{capped_in, capped_place};
+
+use crate::fields::find_only;
+use crate::numbers::{read_before, read_number};
+use httparse::spans::Span;
+
+// The first byte, the last, and how many the object has, by a value of the form `bytes a-e/t`; the greatest number of 128
+// bits stands for all above it.
+#[tactic(auto, unfolding(remote_store::specs::Reading::capped_place))]
+fn read_place(value: &[u8]) -> Option<(u128, u128, u128)>
+    ensures { result ≡ capped_place value.now }
+{
+    if value.len() < 6 || &value[..6] != b"bytes ".as_slice() {
+        return None;
+    }
+    let (first, rest) = read_before(b'-', &value[6..])?;
+    let (last, text) = read_before(b'/', rest)?;
+    let total = read_number(text)?;
+    Some((first, last, total))
+}
+
+// The part that the only value says.
+fn find_place(received: &[u8], values: &[Span]) -> Option<(u128, u128, u128)>
+    requires { All (IsWithin (length received.now)) values.now }
+    ensures { result ≡ capped_in (only (map (span_bytes received.now) values.now)) }
+{
+    match find_only(received, values) {
+        Some(value) => read_place(value),
+        None => None,
+    }
+}
+
+// Whether a part is what was asked for, as far as the object reaches, and `len` is its length.
+fn is_place(from: u64, count: u64, len: u64, first: u128, last: u128, total: u128) -> bool
+    ensures { result ≡ is_place from count len (Some (first, last, total)) }
+{
+    let end = (from as u128 + count as u128).min(total);
+    if end <= last {
+        return false;
+    }
+    first == from as u128
+        && from as u128 <= last
+        && last + 1 == end
+        && len as u128 + from as u128 == last + 1
+}
+
+/// Whether the only value says the part that was asked for, as far as the object reaches, and `len` is its length.
+pub(crate) fn is_asked(received: &[u8], values: &[Span], from: u64, count: u64, len: u64) -> bool
+    requires { All (IsWithin (length received.now)) values.now }
+    ensures { result ≡ is_place from count len (place_in (only (map (span_bytes received.now) values.now))) }
+{
+    match find_place(received, values) {
+        Some((first, last, total)) => is_place(from, count, len, first, last, total),
+        None => false,
+    }
+}

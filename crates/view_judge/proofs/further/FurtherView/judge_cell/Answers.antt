@@ -1,0 +1,119 @@
+use Rattle.std.proofs.Common.{◌≡◌, ◌∙◌, ◌≤◌, ◌+◌, Err, IfSome, Ok, ap, arith, length, length-take, refl, rules, subst, sym}
+use Rattle.std.specs.FinMap as fin
+use Rattle.std.specs.Option.{is_some}
+use Rattle.vol_base.specs.Boxes.{Covers}
+use Rattle.vol_spec.specs.Grid.{Inside, IsCell, Meets, cell_box}
+use Rattle.vol_spec.specs.declared.scale.Scale.{Scale}
+use Rattle.cutout.specs.Opened.{Opened}
+use Rattle.size_laws.specs.Findings.{common}
+use Rattle.vol_spec.specs.CellNames.{cell_name}
+use Rattle.view_judge.specs.Answers.{JudgesBox}
+use Rattle.view_judge.specs.Judging.{pair_cost}
+use Rattle.view_judge.proofs.CellSteps.{asked_cell, box_inside, cause_again, held_again, is_short, refused_told, sound_told, stood_again}
+use Rattle.view_judge.proofs.further.FurtherView.judge_cell.Goals as goal
+
+pub shared_box-shared-requires : goal.shared_box-shared-requires
+shared_box-shared-requires g c =
+    let same : c.self.inside.scale ≡ c.args.self.now.scale = cc in
+    let meets : Meets c.self.inside.scale c.args.cell c.args.part.now = subst (λ (v : Scale). Meets v c.args.cell c.args.part.now) (sym same) c.requires.meets in
+    (meets.0, subst (λ b. Covers b meets.0) (sym c.cell_box.ensures.positions) meets.1, meets.2)
+
+pub judge_box-requires-clause-inside : goal.judge_box-requires-clause-inside
+judge_box-requires-clause-inside g c =
+    let same : c.self.inside.scale ≡ c.args.self.now.scale = ap (λ (r : Opened). r.scale) c.self.view_is in
+    let meets : Meets c.self.inside.scale c.args.cell c.args.part.now = subst (λ (v : Scale). Meets v c.args.cell c.args.part.now) (sym same) c.requires.meets in
+    let inside : Inside c.self.inside.scale c.args.part.now = subst (λ (v : Scale). Inside v c.args.part.now) (sym same) c.requires.inside in
+    let cell : IsCell c.self.inside.scale c.args.cell = subst (λ (v : Scale). IsCell v c.args.cell) (sym same) c.requires.cell in
+    box_inside (g.S.Source.objects c.args.store.now) (g.S.Source.objects c.args.store.now) c.args.first.now.dataset c.args.first.now.scale c.args.number c.self.inside.scale c.args.part.now c.args.cell c.shared_box-shared.result inside cell meets
+    (c.shared_box-shared.ensures ∙ ap (λ b. common b c.args.part.now) c.cell_box.ensures.positions) refl
+
+pub judge_box-requires-clause-found : goal.judge_box-requires-clause-found
+judge_box-requires-clause-found g c =
+    let same : c.self.inside.scale ≡ c.args.self.now.scale = ap (λ (r : Opened). r.scale) c.self.view_is in
+    let meets : Meets c.self.inside.scale c.args.cell c.args.part.now = subst (λ (v : Scale). Meets v c.args.cell c.args.part.now) (sym same) c.requires.meets in
+    let short = is_short c.self.inside.scale c.args.part.now c.args.cell c.shared_box-shared.result meets (c.shared_box-shared.ensures ∙ ap (λ b. common b c.args.part.now) c.cell_box.ensures.positions) in
+    let room = short.room in
+    let all = ap length c.room-found.ensures.value in
+    let held = c.self.invariant.room in
+    omega (arith, room, all, held)
+
+pub judge_box-requires-clause-wanted : goal.judge_box-requires-clause-wanted
+judge_box-requires-clause-wanted g c =
+    let same : c.self.inside.scale ≡ c.args.self.now.scale = ap (λ (r : Opened). r.scale) c.self.view_is in
+    let meets : Meets c.self.inside.scale c.args.cell c.args.part.now = subst (λ (v : Scale). Meets v c.args.cell c.args.part.now) (sym same) c.requires.meets in
+    let short = is_short c.self.inside.scale c.args.part.now c.args.cell c.shared_box-shared.result meets (c.shared_box-shared.ensures ∙ ap (λ b. common b c.args.part.now) c.cell_box.ensures.positions) in
+    let room = short.room in
+    let all = ap length c.room-wanted.ensures.value in
+    let held = c.self.invariant.beside in
+    omega (arith, room, all, held)
+
+pub judge_box-requires-clause-limit : goal.judge_box-requires-clause-limit
+judge_box-requires-clause-limit g c =
+    let same : c.self.inside.scale ≡ c.args.self.now.scale = ap (λ (r : Opened). r.scale) c.self.view_is in
+    let meets : Meets c.self.inside.scale c.args.cell c.args.part.now = subst (λ (v : Scale). Meets v c.args.cell c.args.part.now) (sym same) c.requires.meets in
+    let short = is_short c.self.inside.scale c.args.part.now c.args.cell c.shared_box-shared.result meets (c.shared_box-shared.ensures ∙ ap (λ b. common b c.args.part.now) c.cell_box.ensures.positions) in
+    short.few
+
+pub returns-in-Err-clause-judged : goal.returns-in-Err-clause-judged
+returns-in-Err-clause-judged g c =
+    let same : c.self.inside.scale ≡ c.args.self.now.scale = ap (λ (r : Opened). r.scale) c.self.view_is in
+    let o = g.S.Source.objects c.args.store.now in
+    let between = g.S.Source.objects c.find_stored.new.store in
+    let b = c.shared_box-shared.result in
+    let e : b ≡ common (cell_box c.args.self.now.scale c.args.cell) c.args.part.now =
+    c.shared_box-shared.ensures ∙ ap (λ x. common x c.args.part.now) c.cell_box.ensures.positions ∙ ap (λ (v : Scale). common (cell_box v c.args.cell) c.args.part.now) same in
+    refused_told o between c.args.first.now.dataset c.args.first.now.scale c.args.number c.args.self.now.scale c.args.part.now c.args.cell b c.requires.inside c.requires.cell c.requires.meets e c.find_stored.ensures.kept.same_objects
+    c.in-Err.fault (subst (λ (v : Scale). IfSome between (λ m. JudgesBox (Err c.in-Err.fault) m c.args.first.now.dataset c.args.first.now.scale c.args.number v b)) same c.in-Err.ensures.judged)
+
+pub returns-clause-judged : goal.returns-clause-judged
+returns-clause-judged g c =
+    let same : c.self.inside.scale ≡ c.args.self.now.scale = ap (λ (r : Opened). r.scale) c.self.view_is in
+    let o = g.S.Source.objects c.args.store.now in
+    let between = g.S.Source.objects c.find_stored.new.store in
+    let b = c.shared_box-shared.result in
+    let e : b ≡ common (cell_box c.args.self.now.scale c.args.cell) c.args.part.now =
+    c.shared_box-shared.ensures ∙ ap (λ x. common x c.args.part.now) c.cell_box.ensures.positions ∙ ap (λ (v : Scale). common (cell_box v c.args.cell) c.args.part.now) same in
+    let one : c.self.inside.dataset ≡ c.args.first.now.dataset = ap (λ (r : Opened). r.dataset) c.self.view_is ∙ c.requires.dataset in
+    sound_told o between c.args.first.now.dataset c.args.first.now.scale c.args.number c.args.self.now.scale c.args.part.now c.args.cell b c.requires.inside c.requires.cell c.requires.meets e c.find_stored.ensures.kept.same_objects
+    tt c.in_ok-is_stored.is_stored (ap (λ (v : Scale). v.sharding) (sym same) ∙ c.self.invariant.unsharded)
+    (subst (λ (v : Scale). IfSome o (λ m. c.in_ok-is_stored.is_stored ≡ is_some (fin.get m (cell_name c.args.first.now.dataset v c.args.cell)))) same
+    (subst (λ d. IfSome o (λ m. c.in_ok-is_stored.is_stored ≡ is_some (fin.get m (cell_name d c.self.inside.scale c.args.cell)))) one c.in_ok-is_stored.ensures.found))
+    (subst (λ (v : Scale). IfSome between (λ m. JudgesBox (Ok tt) m c.args.first.now.dataset c.args.first.now.scale c.args.number v b)) same c.in-Ok.ensures.judged)
+
+pub returns-in-Err-clause-asked : goal.returns-in-Err-clause-asked
+returns-in-Err-clause-asked g c =
+    let same : c.self.inside.scale ≡ c.args.self.now.scale = ap (λ (r : Opened). r.scale) c.self.view_is in
+    let o = g.S.Source.objects c.args.store.now in
+    let between = g.S.Source.objects c.find_stored.new.store in
+    let b = c.shared_box-shared.result in
+    let e : b ≡ common (cell_box c.args.self.now.scale c.args.cell) c.args.part.now =
+    c.shared_box-shared.ensures ∙ ap (λ x. common x c.args.part.now) c.cell_box.ensures.positions ∙ ap (λ (v : Scale). common (cell_box v c.args.cell) c.args.part.now) same in
+    asked_cell o between c.args.first.now.dataset c.args.first.now.scale c.args.number c.args.self.now.scale c.args.part.now c.args.cell b c.requires.inside c.requires.cell c.requires.meets e c.find_stored.ensures.kept.same_objects
+    (g.S.Source.asked c.args.store.now) (g.S.Source.asked c.find_stored.new.store) _ c.find_stored.ensures.asked
+    (subst (λ (v : Scale). IfSome between (λ m. g.S.Source.asked c.judge_box.new.store ≤ g.S.Source.asked c.find_stored.new.store + pair_cost m c.args.first.now.dataset c.args.first.now.scale v b)) same c.judge_box.ensures.asked)
+
+pub returns-clause-asked : goal.returns-clause-asked
+returns-clause-asked g c =
+    let same : c.self.inside.scale ≡ c.args.self.now.scale = ap (λ (r : Opened). r.scale) c.self.view_is in
+    let o = g.S.Source.objects c.args.store.now in
+    let between = g.S.Source.objects c.find_stored.new.store in
+    let b = c.shared_box-shared.result in
+    let e : b ≡ common (cell_box c.args.self.now.scale c.args.cell) c.args.part.now =
+    c.shared_box-shared.ensures ∙ ap (λ x. common x c.args.part.now) c.cell_box.ensures.positions ∙ ap (λ (v : Scale). common (cell_box v c.args.cell) c.args.part.now) same in
+    asked_cell o between c.args.first.now.dataset c.args.first.now.scale c.args.number c.args.self.now.scale c.args.part.now c.args.cell b c.requires.inside c.requires.cell c.requires.meets e c.find_stored.ensures.kept.same_objects
+    (g.S.Source.asked c.args.store.now) (g.S.Source.asked c.find_stored.new.store) _ c.find_stored.ensures.asked
+    (subst (λ (v : Scale). IfSome between (λ m. g.S.Source.asked c.judge_box.new.store ≤ g.S.Source.asked c.find_stored.new.store + pair_cost m c.args.first.now.dataset c.args.first.now.scale v b)) same c.judge_box.ensures.asked)
+
+pub invariant_of-self : goal.invariant_of-self
+invariant_of-self g c =
+    held_again c.self.inside.dataset c.self.inside.scale c.self.inside.reader c.judge_box.new.reader c.self.inside.found c.self.inside.wanted c.judge_box.new.found c.judge_box.new.wanted c.self.invariant c.judge_box.ensures.reader
+
+pub invariant_of-self-2 : goal.invariant_of-self-2
+invariant_of-self-2 g c =
+    held_again c.self.inside.dataset c.self.inside.scale c.self.inside.reader c.judge_box.new.reader c.self.inside.found c.self.inside.wanted c.judge_box.new.found c.judge_box.new.wanted c.self.invariant c.judge_box.ensures.reader
+
+pub returns-in-Err-clause-cause : goal.returns-in-Err-clause-cause
+returns-in-Err-clause-cause g c = cause_again c.in-Err.fault _ _ _ c.in_ok-is_stored.ensures.cause.stands c.in-Err.ensures.cause
+
+pub returns-clause-cause : goal.returns-clause-cause
+returns-clause-cause g c = stood_again c.in_ok-is_stored.is_stored _ _ _ c.in_ok-is_stored.ensures.cause.stands c.in-Ok.ensures.cause.stands

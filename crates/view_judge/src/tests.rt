@@ -1,0 +1,263 @@
+//! Objects of scales with several chunk sizes, worked out by hand.
+
+use crate::{ViewFault, ViewJudge, ViewsReport, count_view_cells};
+use memory_rows::{name_of, store_of};
+use std::alloc::Global;
+use std::process::Abort;
+use std::test::Fail;
+use vol_base::{Box3, ChunkFault, Fault, MemoryStore, Name};
+use vol_spec::{ChunkSizes, Encoding, Scale};
+
+// Four voxels in one cell, and in two.
+fn row_scale(key: Name) -> Scale
+    requires { length key ≤ 200 }
+{
+    let mut more = ChunkSizes::none();
+    more.push([2, 1, 1]);
+    Scale {
+        key,
+        width: 1,
+        channels: 1,
+        size: [4, 1, 1],
+        offset: [0; 3],
+        chunk: [4, 1, 1],
+        encoding: Encoding::Raw,
+        sharding: None,
+        more,
+    }
+}
+
+// Two by two voxels of two channels in one cell, in two columns, and in two rows.
+fn square_scale(key: Name) -> Scale
+    requires { length key ≤ 200 }
+{
+    let mut more = ChunkSizes::none();
+    more.push([1, 2, 1]);
+    more.push([2, 1, 1]);
+    Scale {
+        key,
+        width: 1,
+        channels: 2,
+        size: [2, 2, 1],
+        offset: [0; 3],
+        chunk: [2, 2, 1],
+        encoding: Encoding::Raw,
+        sharding: None,
+        more,
+    }
+}
+
+// The objects of a scale, those calls of the store that fail, the part that is judged, and the answer.
+struct Row<'a> {
+    objects: &'a [(&'a str, &'a [u8])],
+    failing: &'a [u64],
+    part: Box3,
+    answer: Result<ViewsReport, ViewFault>,
+}
+
+fn check<R: Abort>(rt: &R, alloc: Global, scale: &Scale, row: &Row) -> Result<(), Fail> {
+    let dataset = name_of("d")?;
+    let mut store = store_of(alloc, row.objects, row.failing)?;
+    let mut judge = match ViewJudge::reserve(alloc, &dataset, scale) {
+        Ok(judge) => judge,
+        Err(_) => return Err("there is memory".into()),
+    };
+    assert!(rt; chunk_grid::inside(scale, &row.part));
+    assert!(rt; count_view_cells(scale, &row.part) <= 1 << 22);
+    assert_eq!(rt; judge.judge(&mut store, &row.part), row.answer);
+    Ok(())
+}
+
+const ROW: Box3 = Box3 {
+    begin: [0, 0, 0],
+    size: [4, 1, 1],
+};
+
+// Of these the last chunk of the second size isn't the first one's.
+const OTHER: [(&str, &[u8]); 3] = [
+    ("d/s/0-4_0-1_0-1", &[1, 2, 3, 4]),
+    ("d/s/0-2_0-1_0-1", &[1, 2]),
+    ("d/s/2-4_0-1_0-1", &[3, 5]),
+];
+
+const FOUR: [(&str, &[u8]); 3] = [
+    ("d/s/0-4_0-1_0-1", &[1, 2, 3, 4]),
+    ("d/s/0-2_0-1_0-1", &[1, 2]),
+    ("d/s/2-4_0-1_0-1", &[3, 4]),
+];
+
+#[test]
+fn judges_a_row(rt: HostRuntime) -> Result<(), Fail> {
+    let alloc = rt.alloc();
+    let scale = row_scale(name_of("s")?);
+    let sound = Ok(ViewsReport {
+        cells: 2,
+        stored: 2,
+        absent: 0,
+    });
+    let differs = Err(ViewFault::Differs {
+        view: 1,
+        at: [3, 0, 0],
+        channel: 0,
+        found: 5,
+        wanted: 4,
+    });
+    let three = Box3 {
+        begin: [0, 0, 0],
+        size: [3, 1, 1],
+    };
+    for (objects, part, answer) in [
+        (&FOUR, ROW, sound),
+        (&OTHER, ROW, differs),
+        (&OTHER, three, sound),
+    ] {
+        let row = Row {
+            objects,
+            failing: &[],
+            part,
+            answer,
+        };
+        check(&rt, alloc, &scale, &row)?;
+    }
+    Ok(())
+}
+
+#[test]
+fn judges_chunks(rt: HostRuntime) -> Result<(), Fail> {
+    let alloc = rt.alloc();
+    let scale = row_scale(name_of("s")?);
+    let short = Row {
+        objects: &[
+            ("d/s/0-4_0-1_0-1", &[1, 2, 3, 4]),
+            ("d/s/0-2_0-1_0-1", &[1, 2]),
+            ("d/s/2-4_0-1_0-1", &[3]),
+        ],
+        failing: &[],
+        part: ROW,
+        answer: Err(ViewFault::Damaged {
+            view: 1,
+            cell: [1, 0, 0],
+            fault: Fault::Chunk(ChunkFault::ChunkLength {
+                found: 1,
+                wanted: 2,
+            }),
+        }),
+    };
+    let zeros = Row {
+        objects: &[
+            ("d/s/0-4_0-1_0-1", &[1, 2, 0, 0]),
+            ("d/s/0-2_0-1_0-1", &[1, 2]),
+        ],
+        failing: &[],
+        part: ROW,
+        answer: Ok(ViewsReport {
+            cells: 2,
+            stored: 1,
+            absent: 1,
+        }),
+    };
+    let first = Row {
+        objects: &[("d/s/0-4_0-1_0-1", &[1]), ("d/s/0-2_0-1_0-1", &[1, 2])],
+        failing: &[],
+        part: ROW,
+        answer: Err(ViewFault::First {
+            cell: [0, 0, 0],
+            fault: Fault::Chunk(ChunkFault::ChunkLength {
+                found: 1,
+                wanted: 4,
+            }),
+        }),
+    };
+    for row in [&short, &zeros, &first] {
+        check(&rt, alloc, &scale, row)?;
+    }
+    Ok(())
+}
+
+#[test]
+fn tells_calls_that_fail(rt: HostRuntime) -> Result<(), Fail> {
+    let alloc = rt.alloc();
+    let scale = row_scale(name_of("s")?);
+    for call in 0..6 {
+        let row = Row {
+            objects: &FOUR,
+            failing: &[call],
+            part: ROW,
+            answer: Err(ViewFault::StoreFault),
+        };
+        check(&rt, alloc, &scale, &row)?;
+    }
+    Ok(())
+}
+
+// The values 1 to 4 of channel 0 and 5 to 8 of channel 1, in one cell, in columns and in rows.
+const SQUARE: (&str, &[u8]) = ("d/s/0-2_0-2_0-1", &[1, 2, 3, 4, 5, 6, 7, 8]);
+
+const LEFT: (&str, &[u8]) = ("d/s/0-1_0-2_0-1", &[1, 3, 5, 7]);
+
+const RIGHT: (&str, &[u8]) = ("d/s/1-2_0-2_0-1", &[2, 4, 6, 8]);
+
+const UPPER: (&str, &[u8]) = ("d/s/0-2_0-1_0-1", &[1, 2, 5, 6]);
+
+const LOWER: (&str, &[u8]) = ("d/s/0-2_1-2_0-1", &[3, 4, 7, 8]);
+
+#[test]
+fn judges_a_square(rt: HostRuntime) -> Result<(), Fail> {
+    let alloc = rt.alloc();
+    let scale = square_scale(name_of("s")?);
+    let part = Box3 {
+        begin: [0, 0, 0],
+        size: [2, 2, 1],
+    };
+    let sound = Row {
+        objects: &[SQUARE, LEFT, RIGHT, UPPER, LOWER],
+        failing: &[],
+        part,
+        answer: Ok(ViewsReport {
+            cells: 4,
+            stored: 4,
+            absent: 0,
+        }),
+    };
+    // A later position of channel 0 is told before channel 1 of the first one.
+    let channels = Row {
+        objects: &[
+            SQUARE,
+            ("d/s/0-1_0-2_0-1", &[1, 8, 9, 7]),
+            RIGHT,
+            UPPER,
+            LOWER,
+        ],
+        failing: &[],
+        part,
+        answer: Err(ViewFault::Differs {
+            view: 1,
+            at: [0, 1, 0],
+            channel: 0,
+            found: 8,
+            wanted: 3,
+        }),
+    };
+    let second = Row {
+        objects: &[
+            SQUARE,
+            LEFT,
+            RIGHT,
+            UPPER,
+            ("d/s/0-2_1-2_0-1", &[3, 4, 7, 9]),
+        ],
+        failing: &[],
+        part,
+        answer: Err(ViewFault::Differs {
+            view: 2,
+            at: [1, 1, 0],
+            channel: 1,
+            found: 9,
+            wanted: 8,
+        }),
+    };
+    for row in [&sound, &channels, &second] {
+        check(&rt, alloc, &scale, row)?;
+    }
+    Ok(())
+}
