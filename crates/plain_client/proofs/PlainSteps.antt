@@ -1,5 +1,5 @@
 -- What the plain program finds.
-use Rattle.std.proofs.Common.{◌≡◌, ◌≢◌, ◌∙◌, ℕ, ◌+◌, ◌^◌, ◌<◌, ◌≤◌, min, Bool, true, false, ◌&&◌, ◌==◌, nat_le, List, [], ◌∷◌, length, drop, append-nil, Option, Some, None, option_map, ap, sym, refl, subst, arith}
+use Rattle.std.proofs.Common.{◌≡◌, ◌≢◌, ◌∙◌, ℕ, ◌+◌, ◌^◌, ◌<◌, ◌≤◌, min, ◌&&◌, ◌==◌, nat_le, List, [], length, drop, append-nil, Option, Some, None, option_map, ap, sym, refl, subst, arith}
 use Rattle.httparse.specs.Grammar.{ReadsResponse, ResponseHead, print_response}
 use Rattle.httparse.specs.Spans.{IsResponseOf, ResponseOverflows}
 use Rattle.httparse.specs.declared.spans.HeaderSpan.{HeaderSpan}

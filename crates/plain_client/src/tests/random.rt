@@ -291,10 +291,10 @@ fn draw_sizes(random: &mut Random, len: usize) -> [usize; 2] {
 // How the replies answer, and how many there are to be of each at least.
 const LEAST: [(&str, u64); 5] = [
     ("none", 150),
-    ("no object", 25),
-    ("past the end", 8),
-    ("the object", 35),
-    ("a part", 60),
+    ("no object", 20),
+    ("past the end", 5),
+    ("the object", 30),
+    ("a part", 40),
 ];
 
 // The number of an answer in this list.
