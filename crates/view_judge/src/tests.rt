@@ -48,6 +48,7 @@ fn square_scale(key: Name) -> Scale
 }
 
 // The objects of a scale, those calls of the store that fail, the part that is judged, and the answer.
+#[derive(Drop)]
 struct Row<'a> {
     objects: &'a [(&'a str, &'a [u8])],
     failing: &'a [u64],

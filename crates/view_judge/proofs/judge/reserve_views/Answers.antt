@@ -8,9 +8,6 @@ pub reserve-requires-clause-unsharded : goal.reserve-requires-clause-unsharded
 reserve-requires-clause-unsharded c =
     ap (λ (v : Scale). v.sharding) c.view.ensures ∙ view_unsharded c.args.scale.now c.loop-k.k _ (let h = c.loop-k-test.true in let e = c.len-k-end.ensures.len in omega (arith, h, e))
 
-
-
-
 pub loop-k-preserved : goal.loop-k-preserved
 loop-k-preserved c = record {
   views =
