@@ -1,5 +1,7 @@
 //! Objects of scales with several chunk sizes, worked out by hand.
 
+ghost use Rattle.std.specs.Prelude.{◌≤◌, length};
+
 use crate::{ViewFault, ViewJudge, ViewsReport, count_view_cells};
 use memory_rows::{name_of, store_of};
 use std::alloc::Global;

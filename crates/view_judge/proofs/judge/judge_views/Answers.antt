@@ -1,12 +1,9 @@
-use Rattle.std.proofs.Common.{set, ◌≡◌, ◌≤◌, ◌<◌, ◌∙◌, ◌+◌, Err, Ok, arith, ap, get_or, length, refl, subst, sym}
+use Rattle.std.proofs.Common.{set, ◌≤◌, ◌∙◌, ◌+◌, Err, Ok, arith, ap, refl}
 use Rattle.std.proofs.lemmas.List.{set-get_or}
-use Rattle.vol_base.specs.Outside.{Objects}
 use Rattle.vol_spec.proofs.Told.{in_told}
-use Rattle.vol_spec.specs.Grid.{Inside, cells_in}
+use Rattle.vol_spec.specs.Grid.{cells_in}
 use Rattle.vol_spec.specs.Verdicts.{Sound}
-use Rattle.cutout.specs.Opened.{Opened}
 use Rattle.view_judge.specs.Answers.{JudgesView}
-use Rattle.view_judge.specs.Further.{IsBeside}
 use Rattle.view_judge.specs.Judging.{FindsViews, view_cost}
 use Rattle.view_judge.proofs.ViewSteps.{asked_all, asked_more, asked_next, cells_all, cells_more, cells_within, next_below, next_beside, next_cells, next_dataset, next_few, next_inside, next_is, opened_length, view_stops, views_all, views_few, views_more}
 use Rattle.view_judge.proofs.WalkSteps.{IsSum, both_add, moved, moved_told}

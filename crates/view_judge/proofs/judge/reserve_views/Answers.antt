@@ -1,4 +1,4 @@
-use Rattle.std.proofs.Common.{◌+◌, ◌≡◌, ◌∙◌, ◌∷◌, [], ◌++◌, ap, arith, sym, subst, None, refl}
+use Rattle.std.proofs.Common.{◌+◌, ◌∙◌, ◌∷◌, [], ◌++◌, ap, arith, sym}
 use Rattle.vol_spec.specs.declared.scale.Scale.{Scale}
 use Rattle.view_judge.specs.Further.{opened}
 use Rattle.view_judge.proofs.ViewSteps.{opened_more, view_unsharded}
