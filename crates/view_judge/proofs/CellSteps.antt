@@ -1,6 +1,6 @@
 -- A cell of a view, as far as it lies in a part.
-use Rattle.std.proofs.Common.{◌≡◌, ℕ, ◌+◌, ◌-◌, ◌*◌, ◌^◌, ◌≤◌, ◌<◌, pos, ◌+ℤ◌, ◌≤ℤ◌, IfSome, lit<, min, Bool, true, false, List, [], ◌∷◌, length, map, take, Option, Some, None, Result, Ok, Err, refl, ap, ◌∙◌, sym, subst, arith}
-use Rattle.std.specs.Prelude.{All, Contains, not, ⊤, ℤ}
+use Rattle.std.proofs.Common.{◌≡◌, ℕ, ◌+◌, ◌*◌, ◌^◌, ◌≤◌, ◌<◌, pos, ◌+ℤ◌, ◌≤ℤ◌, IfSome, lit<, Bool, true, List, [], ◌∷◌, length, map, take, Option, Some, None, Result, Ok, Err, refl, ap, ◌∙◌, sym, subst, arith}
+use Rattle.std.specs.Prelude.{Contains, ⊤, ℤ}
 use Rattle.std.specs.FinMap as fin
 use Rattle.std.specs.List.{length_refill, refill}
 use Rattle.std.specs.Option.{is_some, option_map}
@@ -16,9 +16,9 @@ use Rattle.vol_base.specs.Outside.{Objects}
 use Rattle.vol_spec.specs.BoxValues.{first_some}
 use Rattle.vol_spec.specs.CellNames.{cell_name}
 use Rattle.vol_spec.specs.Chunks.{chunk_in, fault_in, fault_of, judged, unless}
-use Rattle.vol_spec.specs.Cut.{faulty, first_fault}
+use Rattle.vol_spec.specs.Cut.{first_fault}
 use Rattle.vol_spec.specs.Encodings.{cell_limit, chunk_fault}
-use Rattle.vol_spec.specs.Grid.{Inside, IsCell, Meets, cell_at, cell_box, cells_in, whole}
+use Rattle.vol_spec.specs.Grid.{Inside, IsCell, Meets, cell_box, cells_in}
 use Rattle.vol_spec.specs.Limits.{first_bytes}
 use Rattle.vol_spec.specs.Places.{id_of}
 use Rattle.vol_spec.specs.Raw.{raw_len}

@@ -1,10 +1,10 @@
 -- What two boxes have in common, as one box.
-use Rattle.std.proofs.Common.{◌≡◌, ◌↔◌, ◌⊎◌, inl, inr, ℕ, ◌+◌, ◌<◌, ℤ, pos, ◌+ℤ◌, ◌-ℤ◌, ◌≤ℤ◌, ◌<ℤ◌, nat_abs, Bool, true, false, List, [], ◌∷◌, length, slice_index, refl, ap, ◌∙◌, sym, arith, lit<}
+use Rattle.std.proofs.Common.{◌≡◌, ◌↔◌, inl, inr, ℕ, ◌<◌, ℤ, pos, ◌+ℤ◌, ◌-ℤ◌, ◌≤ℤ◌, ◌<ℤ◌, nat_abs, Bool, true, false, List, [], ◌∷◌, length, refl, arith, lit<}
 use Rattle.std.specs.Prelude.{int_lt, slice_index_or}
 use Rattle.std.specs.Int.{int_max, int_min}
 use Rattle.std.proofs.lemmas.Int.{clamps, ints}
 use Rattle.vol_base.specs.declared.boxes.Box3.{Box3}
-use Rattle.vol_base.specs.Boxes.{at, end, on_axes, size, Covers, IsSome, Within}
+use Rattle.vol_base.specs.Boxes.{at, end, size, Covers, IsSome, Within}
 use Rattle.voxel_raw.specs.Common.{IsCommon, IsOn}
 use Rattle.voxel_raw.proofs.CommonSteps.{IsGap, common_box, common_is}
 use Rattle.voxel_raw.proofs.Parts.{covers_some, lies_in}

@@ -3,7 +3,7 @@ use Rattle.std.proofs.Common.{◌≡◌, ℕ, zero, suc, ◌+◌, ◌<◌, ◌�
 use Rattle.std.specs.List.{range_with_len, sum_by}
 use Rattle.std.proofs.lemmas.List.{map-append}
 use Rattle.std.proofs.lemmas.List.Sums.{sum_by-append, sum_by-cons}
-use Rattle.vol_spec.proofs.Firsts.{first_some-append, first_some-front}
+use Rattle.vol_spec.proofs.Firsts.{first_some-append}
 use Rattle.vol_spec.specs.BoxValues.{first_some}
 
 module _ {X : Type 0} (f : X → ℕ) where

@@ -1,5 +1,5 @@
 -- The further views, one after the other.
-use Rattle.std.proofs.Common.{lit<, ◌≡◌, ◌≤◌, ◌<◌, ℕ, zero, suc, ◌+◌, ◌*◌, ◌^◌, List, [], ◌∷◌, ◌++◌, length, map, take, get_or, Option, Some, None, Result, Ok, Err, IfSome, refl, ap, ◌∙◌, sym, subst, arith}
+use Rattle.std.proofs.Common.{lit<, ◌≡◌, ◌≤◌, ◌<◌, ℕ, zero, suc, ◌+◌, ◌*◌, ◌^◌, List, [], ◌∷◌, ◌++◌, length, map, take, get_or, Option, Some, None, Ok, Err, IfSome, refl, ap, ◌∙◌, sym, subst, arith}
 use Rattle.std.specs.List.{range_with_len, sum_by}
 use Rattle.std.proofs.lemmas.List.{length-map, map-append, take_all}
 use Rattle.std.proofs.lemmas.List.FromFn.{get_or-map-range_with_len, length-map-range_with_len, map-range_with_len_more}
@@ -25,7 +25,7 @@ use Rattle.size_laws.specs.Findings.{Finding, first_finding, view_finding}
 use Rattle.size_laws.specs.Further.{further}
 use Rattle.view_judge.specs.Answers.{AreCells, JudgesView}
 use Rattle.view_judge.specs.Further.{IsBeside, all_opened, opened}
-use Rattle.view_judge.specs.Judging.{FindsViews, IsViewsReport, absent_in, absent_of, cells_of, stored_in, stored_of, view_cost, views_cost}
+use Rattle.view_judge.specs.Judging.{FindsViews, absent_in, absent_of, cells_of, stored_in, stored_of, view_cost, views_cost}
 use Rattle.view_judge.specs.declared.fault.ViewFault.{ViewFault}
 use Rattle.view_judge.specs.declared.fault.ViewFault.TheVariants as fault
 use Rattle.view_judge.specs.declared.report.ViewsReport.{ViewsReport}

@@ -1,21 +1,20 @@
 -- The cells of a view, one after the other.
-use Rattle.std.proofs.Common.{◌≡◌, ◌≤◌, ℕ, ◌+◌, Bool, true, false, List, [], ◌∷◌, ◌++◌, length, map, Option, Some, None, Result, Ok, Err, IfSome, if◌then◌else◌, refl, ap, ◌∙◌, sym, subst, arith}
+use Rattle.std.proofs.Common.{◌≡◌, ◌≤◌, ℕ, ◌+◌, Bool, true, false, List, [], ◌∷◌, ◌++◌, length, Option, Some, Ok, Err, IfSome, if◌then◌else◌, refl, ap, ◌∙◌, sym, subst, arith}
 use Rattle.std.specs.Prelude.{filter, not}
 use Rattle.std.specs.List.{sum_by}
 use Rattle.std.proofs.lemmas.List.{length-append}
 use Rattle.std.proofs.lemmas.List.Elements.{filter-append}
 use Rattle.std.proofs.lemmas.List.Sums.{sum_by_push}
 use Rattle.vol_base.specs.declared.boxes.Box3.{Box3}
-use Rattle.vol_base.specs.declared.faults.Fault.{Fault}
 use Rattle.vol_base.specs.Outside.{Objects}
 use Rattle.vol_spec.specs.Chunks.{chunk_in}
 use Rattle.vol_spec.specs.Grid.{cell_box, cells_in}
-use Rattle.vol_spec.specs.Types.{Bytes, Cell, Name}
+use Rattle.vol_spec.specs.Types.{Cell, Name}
 use Rattle.vol_spec.specs.declared.scale.Scale.{Scale}
 use Rattle.vol_spec.proofs.Told.{from_told, in_told}
 use Rattle.cutout.specs.Opened.{Opened}
 use Rattle.size_laws.specs.Findings.{common, finding_in}
-use Rattle.view_judge.specs.Answers.{AreCells, HasStored, JudgesCell, JudgesView}
+use Rattle.view_judge.specs.Answers.{AreCells, JudgesCell, JudgesView}
 use Rattle.view_judge.specs.Judging.{is_absent, is_stored, pair_cost, view_cost}
 use Rattle.view_judge.specs.declared.fault.ViewFault.{ViewFault}
 use Rattle.view_judge.specs.declared.fault.ViewFault.TheVariants as fault

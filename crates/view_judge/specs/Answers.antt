@@ -1,5 +1,5 @@
 -- What the steps of judging a view answer (this project's).
-use Rattle.std.specs.Prelude.{◌≡◌, ◌≢◌, ℕ, ◌*◌, ◌<◌, Bool, not, map, filter, length, List, Option, Some, None, Result, Ok, Err, ⊤}
+use Rattle.std.specs.Prelude.{◌≡◌, ℕ, ◌*◌, ◌<◌, Bool, not, map, filter, length, List, Option, Some, None, Result, Ok, Err, ⊤}
 use Rattle.vol_base.specs.Boxes.{voxels}
 use Rattle.vol_base.specs.Outside.{Objects}
 use Rattle.vol_base.specs.declared.boxes.Box3.{Box3}

@@ -1,7 +1,6 @@
 -- The further views that are held to be judged (this project's).
-use Rattle.std.specs.Prelude.{◌≡◌, ◌≤◌, ℕ, length, map, List, None}
+use Rattle.std.specs.Prelude.{◌≡◌, ◌≤◌, length, map, List, None}
 use Rattle.chunk_pool.specs.Frames.{Filled}
-use Rattle.vol_base.specs.declared.boxes.Box3.{Box3}
 use Rattle.vol_spec.specs.Grid.{whole}
 use Rattle.vol_spec.specs.Limits.{first_bytes}
 use Rattle.vol_spec.specs.Types.{Name}

@@ -7,7 +7,7 @@ use Rattle.vol_base.specs.declared.faults.Fault.{Fault}
 use Rattle.vol_spec.specs.Chunks.{chunk_in}
 use Rattle.vol_spec.specs.Costs.{cost}
 use Rattle.vol_spec.specs.Grid.{cell_box, cells_in}
-use Rattle.vol_spec.specs.Types.{Bytes, Cell, Name}
+use Rattle.vol_spec.specs.Types.{Bytes, Name}
 use Rattle.vol_spec.specs.declared.scale.Scale.{Scale}
 use Rattle.size_laws.specs.Findings.{Damaged as DamagedIn, Differs as DiffersIn, common, first_finding}
 use Rattle.size_laws.specs.Further.{further}

@@ -1,5 +1,7 @@
 //! Objects of scales with several chunk sizes, worked out by hand.
 
+ghost use Rattle.std.specs.Prelude.{◌≤◌, length};
+
 use crate::{ViewFault, ViewJudge, ViewsReport, count_view_cells};
 use memory_rows::{name_of, store_of};
 use std::alloc::Global;
@@ -48,6 +50,7 @@ fn square_scale(key: Name) -> Scale
 }
 
 // The objects of a scale, those calls of the store that fail, the part that is judged, and the answer.
+#[derive(Drop)]
 struct Row<'a> {
     objects: &'a [(&'a str, &'a [u8])],
     failing: &'a [u64],

@@ -1,7 +1,7 @@
-use Rattle.std.proofs.Common.{◌≡◌, ◌≤◌, ◌<◌, ◌+◌, ◌*◌, ◌^◌, arith, length, subst, sym}
+use Rattle.std.proofs.Common.{◌<◌, ◌+◌, arith, length, subst, sym}
 use Rattle.vol_spec.specs.Grid.{Inside}
 use Rattle.vol_spec.specs.declared.scale.Scale.{Scale}
-use Rattle.view_judge.proofs.ViewSteps.{IsCounted, cells_all, counted_more, inside_view}
+use Rattle.view_judge.proofs.ViewSteps.{cells_all, counted_more, inside_view}
 use Rattle.view_judge.proofs.counts.count_view_cells.Goals as goal
 
 pub count_cells-count-requires : goal.count_cells-count-requires

@@ -1,12 +1,9 @@
-use Rattle.std.proofs.Common.{set, ◌≡◌, ◌≤◌, ◌<◌, ◌∙◌, ◌+◌, Err, Ok, arith, ap, get_or, length, refl, subst, sym}
+use Rattle.std.proofs.Common.{set, ◌≤◌, ◌∙◌, ◌+◌, Err, Ok, arith, ap, refl}
 use Rattle.std.proofs.lemmas.List.{set-get_or}
-use Rattle.vol_base.specs.Outside.{Objects}
 use Rattle.vol_spec.proofs.Told.{in_told}
-use Rattle.vol_spec.specs.Grid.{Inside, cells_in}
+use Rattle.vol_spec.specs.Grid.{cells_in}
 use Rattle.vol_spec.specs.Verdicts.{Sound}
-use Rattle.cutout.specs.Opened.{Opened}
 use Rattle.view_judge.specs.Answers.{JudgesView}
-use Rattle.view_judge.specs.Further.{IsBeside}
 use Rattle.view_judge.specs.Judging.{FindsViews, view_cost}
 use Rattle.view_judge.proofs.ViewSteps.{asked_all, asked_more, asked_next, cells_all, cells_more, cells_within, next_below, next_beside, next_cells, next_dataset, next_few, next_inside, next_is, opened_length, view_stops, views_all, views_few, views_more}
 use Rattle.view_judge.proofs.WalkSteps.{IsSum, both_add, moved, moved_told}
@@ -70,16 +67,16 @@ loop-k-preserved g c =
     record {
       within = omega (arith, below);
       cells = cells_more c.args.first.now.scale c.args.part.now c.loop-k.k c.loop-k.report c.in-Ok.more c.add-report.result below sum c.loop-k.invariant.cells
-      (next_cells c.args.first.now c.loop-k.first c.loop-k.further c.loop-k.k c.index-further-k.result c.args.part.now c.loop-k.invariant.first (c.loop-k.invariant.views ∙ c.requires.views) c.loop-k-test.true c.in-Ok.more.cells c.in-Ok.ensures.cells);
+          (next_cells c.args.first.now c.loop-k.first c.loop-k.further c.loop-k.k c.index-further-k.result c.args.part.now c.loop-k.invariant.first (c.loop-k.invariant.views ∙ c.requires.views) c.loop-k-test.true c.in-Ok.more.cells c.in-Ok.ensures.cells);
       both = both_add c.loop-k.report c.in-Ok.more c.add-report.result sum c.loop-k.invariant.both c.in-Ok.ensures.both;
       agree = λ m told. views_more m c.args.first.now.dataset c.args.first.now.scale c.args.part.now c.loop-k.k c.loop-k.report c.in-Ok.more c.add-report.result below sum (c.loop-k.invariant.agree m told)
-      (moved (λ m f r. JudgesView (Ok c.in-Ok.more) m f.dataset f.scale (c.loop-k.k + 1) r.scale c.args.part.now (cells_in r.scale c.args.part.now)) (g.S.Source.objects c.args.store.now) (g.S.Source.objects c.loop-k.store) c.loop-k.first _ c.args.first.now _ c.loop-k.invariant.kept.same_objects c.loop-k.invariant.first (next_is c.args.first.now c.loop-k.first c.loop-k.further c.loop-k.k c.index-further-k.result c.args.part.now c.loop-k.invariant.first (c.loop-k.invariant.views ∙ c.requires.views) c.loop-k-test.true)
-    c.in-Ok.ensures.judged m told);
+          (moved (λ m f r. JudgesView (Ok c.in-Ok.more) m f.dataset f.scale (c.loop-k.k + 1) r.scale c.args.part.now (cells_in r.scale c.args.part.now)) (g.S.Source.objects c.args.store.now) (g.S.Source.objects c.loop-k.store) c.loop-k.first _ c.args.first.now _ c.loop-k.invariant.kept.same_objects c.loop-k.invariant.first (next_is c.args.first.now c.loop-k.first c.loop-k.further c.loop-k.k c.index-further-k.result c.args.part.now c.loop-k.invariant.first (c.loop-k.invariant.views ∙ c.requires.views) c.loop-k-test.true)
+          c.in-Ok.ensures.judged m told);
       views = ap (λ x. set c.loop-k.further c.loop-k.k x) c.judge.ensures.same ∙ set-get_or c.loop-k.further c.loop-k.k c.index-further-k.result ∙ c.loop-k.invariant.views;
       first = c.judge.ensures.first ∙ c.loop-k.invariant.first;
       asked = asked_more (g.S.Source.objects c.args.store.now) c.args.first.now.dataset c.args.first.now.scale c.args.part.now (g.S.Source.objects c.args.store.now) c.loop-k.k _ _ _ below refl c.loop-k.invariant.asked
-      (moved_told (λ m f r. g.S.Source.asked c.judge.new.store ≤ g.S.Source.asked c.loop-k.store + view_cost m f.dataset f.scale c.args.part.now r.scale) (g.S.Source.objects c.args.store.now) (g.S.Source.objects c.loop-k.store) c.loop-k.first _ c.args.first.now _ c.loop-k.invariant.kept.same_objects c.loop-k.invariant.first (next_is c.args.first.now c.loop-k.first c.loop-k.further c.loop-k.k c.index-further-k.result c.args.part.now c.loop-k.invariant.first (c.loop-k.invariant.views ∙ c.requires.views) c.loop-k-test.true)
-    c.judge.ensures.asked);
+          (moved_told (λ m f r. g.S.Source.asked c.judge.new.store ≤ g.S.Source.asked c.loop-k.store + view_cost m f.dataset f.scale c.args.part.now r.scale) (g.S.Source.objects c.args.store.now) (g.S.Source.objects c.loop-k.store) c.loop-k.first _ c.args.first.now _ c.loop-k.invariant.kept.same_objects c.loop-k.invariant.first (next_is c.args.first.now c.loop-k.first c.loop-k.further c.loop-k.k c.index-further-k.result c.args.part.now c.loop-k.invariant.first (c.loop-k.invariant.views ∙ c.requires.views) c.loop-k-test.true)
+          c.judge.ensures.asked);
       kept = record {
         same_objects = c.judge.ensures.kept.same_objects ∙ c.loop-k.invariant.kept.same_objects;
         same_draft = c.judge.ensures.kept.same_draft ∙ c.loop-k.invariant.kept.same_draft;

@@ -1,4 +1,4 @@
-use Rattle.std.proofs.Common.{◌+◌, ◌≡◌, ◌∙◌, ◌∷◌, [], ◌++◌, ap, arith, sym, subst, None, refl}
+use Rattle.std.proofs.Common.{◌+◌, ◌∙◌, ◌∷◌, [], ◌++◌, ap, arith, sym}
 use Rattle.vol_spec.specs.declared.scale.Scale.{Scale}
 use Rattle.view_judge.specs.Further.{opened}
 use Rattle.view_judge.proofs.ViewSteps.{opened_more, view_unsharded}
@@ -7,9 +7,6 @@ use Rattle.view_judge.proofs.judge.reserve_views.Goals as goal
 pub reserve-requires-clause-unsharded : goal.reserve-requires-clause-unsharded
 reserve-requires-clause-unsharded c =
     ap (λ (v : Scale). v.sharding) c.view.ensures ∙ view_unsharded c.args.scale.now c.loop-k.k _ (let h = c.loop-k-test.true in let e = c.len-k-end.ensures.len in omega (arith, h, e))
-
-
-
 
 pub loop-k-preserved : goal.loop-k-preserved
 loop-k-preserved c = record {

@@ -1,6 +1,6 @@
 use mir.Syntax.{w64}
 use mir.Val.{SFits}
-use Rattle.std.proofs.Common.{◌∷◌, [], ◌∙◌, lit<, rules}
+use Rattle.std.proofs.Common.{◌∷◌, [], lit<, rules}
 use Rattle.std.proofs.lemmas.Int.{to_z-of_z}
 use Rattle.chunk_grid.proofs.GridSteps.{Inside-small}
 use Rattle.view_judge.proofs.values.find_place.Goals as goal

@@ -1,8 +1,7 @@
-use Rattle.std.proofs.Common.{◌≡◌, ◌≤◌, ◌∙◌, ◌+◌, Err, Ok, arith, ap, length, refl, subst, sym}
+use Rattle.std.proofs.Common.{◌≤◌, ◌∙◌, ◌+◌, Err, Ok, ap, length, refl, subst, sym}
 use Rattle.std.specs.List.{All}
 use Rattle.std.proofs.lemmas.List.{length-append}
 use Rattle.std.proofs.lemmas.List.Elements.{All-contains}
-use Rattle.vol_base.specs.Outside.{Objects}
 use Rattle.vol_spec.proofs.Told.{in_told}
 use Rattle.vol_spec.specs.Grid.{cell_box, cells_in, Inside, IsCell, Meets}
 use Rattle.chunk_grid.proofs.Walked.{at_end, here, one_on}

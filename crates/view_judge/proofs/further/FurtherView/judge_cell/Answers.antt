@@ -1,4 +1,4 @@
-use Rattle.std.proofs.Common.{◌≡◌, ◌∙◌, ◌≤◌, ◌+◌, Err, IfSome, Ok, ap, arith, length, length-take, refl, rules, subst, sym}
+use Rattle.std.proofs.Common.{◌≡◌, ◌∙◌, ◌≤◌, ◌+◌, Err, IfSome, Ok, ap, arith, length, refl, subst, sym}
 use Rattle.std.specs.FinMap as fin
 use Rattle.std.specs.Option.{is_some}
 use Rattle.vol_base.specs.Boxes.{Covers}
