@@ -27,27 +27,30 @@ pub(crate) struct Volume<'a> {
     pub(crate) verified: &'a str,
 }
 
+// A box, and one that lies partly over it.
+const BOXES: &[Write] = &[
+    Write {
+        part: Box3 {
+            begin: [-2, 1, 0],
+            size: [4, 3, 2],
+        },
+        first: 1,
+        step: 1,
+    },
+    Write {
+        part: Box3 {
+            begin: [-1, 2, 1],
+            size: [3, 3, 1],
+        },
+        first: 201,
+        step: 3,
+    },
+];
+
 // Cells of six voxels, and of three, two and one at the edges; two channels.
 pub(crate) const RAW: Volume = Volume {
     info: b"{\"type\":\"image\",\"data_type\":\"uint16\",\"num_channels\":2,\"scales\":[{\"key\":\"s\",\"size\":[5,4,2],\"voxel_offset\":[-2,1,0],\"chunk_sizes\":[[2,3,1]],\"resolution\":[8,8,40],\"encoding\":\"raw\"}]}",
-    writes: &[
-        Write {
-            part: Box3 {
-                begin: [-2, 1, 0],
-                size: [4, 3, 2],
-            },
-            first: 1,
-            step: 1,
-        },
-        Write {
-            part: Box3 {
-                begin: [-1, 2, 1],
-                size: [3, 3, 1],
-            },
-            first: 201,
-            step: 3,
-        },
-    ],
+    writes: BOXES,
     written: "objects 6 cells 6\n",
     verified: "cells 12 stored 6 absent 6\n",
 };
@@ -55,7 +58,7 @@ pub(crate) const RAW: Volume = Volume {
 // The same, once more in slabs of twenty voxels and less.
 pub(crate) const RAW_TWICE: Volume = Volume {
     info: b"{\"type\":\"image\",\"data_type\":\"uint16\",\"num_channels\":2,\"scales\":[{\"key\":\"s\",\"size\":[5,4,2],\"voxel_offset\":[-2,1,0],\"chunk_sizes\":[[2,3,1],[5,2,2]],\"resolution\":[8,8,40],\"encoding\":\"raw\"}]}",
-    writes: RAW.writes,
+    writes: BOXES,
     written: "objects 8 cells 8\n",
     verified: "cells 14 stored 8 absent 6\n",
 };

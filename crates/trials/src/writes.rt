@@ -106,7 +106,7 @@ fn reads_what_was_written_last(rt: HostRuntime) -> Result<(), Fail> {
     Ok(())
 }
 
-const VOLUMES: [&Volume; 4] = [&RAW, &SHARDED, &SEGMENTED, &LABELS];
+const VOLUMES: [&Volume; 5] = [&RAW, &RAW_TWICE, &SHARDED, &SEGMENTED, &LABELS];
 
 // All of a volume is found sound.
 fn check_sound<R: Threads + Wait + Abort + Sync>(
