@@ -380,7 +380,7 @@ def rows():
         yield title, answers, files, words, refused(told), feed
     yield "the input of an update that is refused", leaves_stream
     for (title, volume), count in itertools.product(SCALES, (0, 20)):
-        yield f"{title}, a list of {count}", is_generated, volume, 7 + count, count, 1 + count
+        yield f"{title}, a list of {count}", is_generated, volume, 7 + count, count, 1 + count % 3
     for seed, (title, volume) in enumerate(SCALES):
         yield f"{title}, copied from", is_copied, volume, seed
 
