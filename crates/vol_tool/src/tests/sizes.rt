@@ -213,7 +213,7 @@ const COPIES: [Copies; 18] = [
     },
     // labels in blocks that are larger, 2 channels
     Copies {
-        info: "{\"type\":\"segmentation\",\"data_type\":\"uint32\",\"num_channels\":2,\"scales\":[{\"key\":\"s\",\"size\":[5,4,3],\"chunk_sizes\":[[2,2,2],[5,4,1]],\"resolution\":[8,8,40],\"encoding\":\"compressed_segmentation\",\"voxel_offset\":[0,0,0],\"compressed_segmentation_block_size\":[8,8,8]}]}",
+        info: "{\"type\":\"image\",\"data_type\":\"uint32\",\"num_channels\":2,\"scales\":[{\"key\":\"s\",\"size\":[5,4,3],\"chunk_sizes\":[[2,2,2],[5,4,1]],\"resolution\":[8,8,40],\"encoding\":\"compressed_segmentation\",\"voxel_offset\":[0,0,0],\"compressed_segmentation_block_size\":[8,8,8]}]}",
         writes: [([1, 1, 0], [3, 2, 2]), ([4, 3, 0], [1, 1, 1])],
         value_len: 8,
         written: "objects 7 cells 7\n",
