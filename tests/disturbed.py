@@ -75,13 +75,24 @@ LIST_CHUNKS = ROW_VOLUME.chunks_after(LIST)
 LIST_OBJECTS = ROW_VOLUME.files(LIST_CHUNKS)
 LIST_SHARDS = shards_of(*LIST_CHUNKS.values())
 
+# A row of four voxels that is stored whole and in halves, what it and a list leave, and the same where a half differs.
+SIZES_VOLUME = Volume([4, 1, 1], [4, 1, 1], more=([2, 1, 1],))
+FOUR = (along(0, 4), b"\1\2\3\4")
+SIZES_OBJECTS = SIZES_VOLUME.files_after([FOUR])[0]
+OTHER_SIZES = {**SIZES_OBJECTS, "d/s/2-4_0-1_0-1": b"\3\5"}
+SIZES_LIST = generated(SIZES_VOLUME, 7, 3)
+LIST_SIZES, LIST_PUT, _ = SIZES_VOLUME.files_after(SIZES_LIST)
+FOURS = info_of([4, 1, 1], [2, 1, 1])
+FOUR_OBJECTS = {"d/s/0-2_0-1_0-1": b"\1\2", "d/s/2-4_0-1_0-1": b"\3\4"}
+COPIED_FOURS = {name.replace("d/", "e/"): content for name, content in FOUR_OBJECTS.items()}
+
 THREE = stream_of([(along(0, 3), b"\1\2\3")])
 TWICE = stream_of([(along(0, 3), b"\1\2\3"), (along(1, 2), b"\2")])
 OUTSIDE = stream_of([(along(0, 4), b"\1\2\3\4")])
 FIRST = stream_of([(along(0, 1), b"\1")])
 WRITE, GENERATE, VERIFY, COPY, CUT = "write d s", "generate d s 7 3", "verify d s", "reshard d s e s", "cutout d s [0:3,0:1,0:1]"
 UPDATE, DOWN = "update d s", "downsample d s t --method=mean"
-CUT_LAYERS = "cutout d s [0:1,0:1,0:2]"
+CUT_LAYERS, CUT_FOUR = "cutout d s [0:1,0:1,0:2]", "cutout d s [0:4,0:1,0:1]"
 WORKERS = " --workers=3"
 FULL = refused("folder not empty")
 BEYOND = refused("box [0:4,0:1,0:1] outside [0:3,0:1,0:1]")
@@ -167,6 +178,20 @@ def deep_runs(title, volume):
 
 DEEP_RUNS = [run for title, volume in DEEP.items() for run in deep_runs(title, volume)]
 
+# Of a scale of two chunk sizes.
+SIZES = SIZES_VOLUME.info()
+SIZES_RUNS = [
+    Run("a write of two sizes", SIZES, {}, WRITE, stream_of([FOUR]), stored(3, 3), SIZES_OBJECTS),
+    Run("a write of two sizes with workers", SIZES, {}, WRITE + WORKERS, stream_of([FOUR]), stored(3, 3), SIZES_OBJECTS),
+    Run("a list of two sizes", SIZES, {}, GENERATE, b"", answer(3, LIST_PUT, sum_of(SIZES_VOLUME, SIZES_LIST)), LIST_SIZES),
+    Run("an update of two sizes", SIZES, SIZES_OBJECTS, UPDATE, stream_of([FOUR]), refused("several chunk sizes")),
+    Run("a cutout of two sizes", SIZES, SIZES_OBJECTS, CUT_FOUR, b"", printed(b"\1\2\3\4")),
+    Run("a judgement of two sizes", SIZES, SIZES_OBJECTS, VERIFY, b"", sound(3, 3)),
+    Run("a judgement of sizes that differ", SIZES, OTHER_SIZES, VERIFY, b"", refused("conflict 1 3,0,0 0 5 4")),
+    Run("a copy of two sizes", SIZES, with_target(FOURS, SIZES_OBJECTS), COPY, b"", stored(2, 2), COPIED_FOURS),
+    Run("a copy into two sizes", FOURS, with_target(SIZES, FOUR_OBJECTS), COPY, b"", refused("several chunk sizes")),
+]
+
 RUNS = [
     Run("a write", ROW, {}, WRITE, TWICE, stored(3, 3), ROW_OBJECTS),
     Run("a write with workers", ROW, {}, WRITE + WORKERS, THREE, stored(3, 3), ROW_OBJECTS),
@@ -225,6 +250,7 @@ RUNS = [
     Run("a broken info", ROW[:-1], {}, CUT, b"", refused("info of d: not json")),
     Run("no info", None, {}, CUT, b"", refused("info of d: absent")),
     Run("no command", ROW, {}, "cut", b"", refused("usage")),
+    *SIZES_RUNS,
     *DEEP_RUNS,
 ]
 

@@ -21,6 +21,17 @@ BYTES = 2**30
 CUBE = info_of([1024, 1024, 1024], [1024, 1024, 128])
 
 
+# So many bytes of an info document are read at first, and at most.
+FRONT = 2**16
+DOCUMENT = 2**20
+
+
+def padded(length):
+    """An info document of so many bytes, whose last is the brace that closes it."""
+    info = info_of([1, 1, 1], [1, 1, 1])
+    return info[:-1] + b" " * (length - len(info)) + info[-1:]
+
+
 def line_of(cells, chunk=1, **scale):
     """A line of so many cells, in shards."""
     return info_of([cells, 1, 1], [chunk, 1, 1], None, **{"sharding": SHARDING, **scale})
@@ -54,6 +65,9 @@ ONE = "cutout d s [0:1,0:1,0:1]"
 EMPTY_OUTSIDE = head_of(1) + bytes_of([9, 9, 9], [0, 1, 1])
 CLIPPED = info_of([10] * 3, [512] * 3, {"type": "segmentation", "data_type": "uint32"}, **SEGMENTED)
 
+# Lengths of info documents.
+LENGTHS = [FRONT - 1, FRONT, FRONT + 1, 2 * FRONT, DOCUMENT - 1, DOCUMENT]
+
 # title, the infos of the data sets d and e, words, what the run ends with, the stream
 RUNS = [
     ("verify of 2^22 cells", [line_of(CELLS)], VERIFY, printed(f"cells {CELLS} stored 0 absent {CELLS}"), b""),
@@ -74,6 +88,8 @@ RUNS = [
     # 1,321 x 793 x 1,025 is one more
     ("a cutout of a byte more", [info_of([1321, 793, 1025], [64, 64, 64])], "cutout d s [0:1321,0:793,0:1025]",
      refused(f"box too large {BYTES + 1}"), b""),
+    *((f"an info of {length} bytes", [padded(length)], ONE, printed(b"\0"), b"") for length in LENGTHS),
+    ("an info of a byte more", [padded(DOCUMENT + 1)], ONE, refused("info of d: too long"), b""),
     # what is judged first, where two things are wrong
     ("chunk bytes before the bits of a code", [wide(2**27 + 1)], ONE, refused("info of d: limit chunk_bytes"), b""),
     ("the bits of a code", [wide(2**27)], ONE, refused("info of d: limit morton_bits"), b""),

@@ -4,9 +4,9 @@
     tests/no_room.py [PROGRAM]
 
 A write, a list, an update, a copy and a reduction are run over scales of every form, with several shards, minishards and layers, by one
-worker and by two; and the limit is that of each object that is due, a byte less, half of it, and none. The first object that is longer
-is a fault of the store. Then the command is run again without a limit, and all objects stand: over what is left where it may be there,
-else in an emptied folder.
+worker and by two, the first two also into two chunk sizes; and the limit is that of each object that is due, a byte less, half of it, and
+none. The first object that is longer is a fault of the store. Then the command is run again without a limit, and all objects stand: over
+what is left where it may be there, else in an emptied folder.
 """
 import dataclasses
 import itertools
@@ -26,6 +26,9 @@ FORMS = {
     "segmentations in shards": dataclasses.replace(RAW, block=(2, 1, 2), sharding=SHARDING),
 }
 WORKERS = ([], ["--workers=2"])
+
+# Two chunk sizes, of which no box is the other's too.
+SIZES = dataclasses.replace(RAW, more=([3, 3, 3],))
 
 
 def at_random(seed, box):
@@ -50,16 +53,15 @@ class Work:
 
 
 def write_of(volume):
-    chunks = volume.chunks_after(ALL)
-    files = volume.files(chunks)
-    return Work(volume.words("write"), stream_of(ALL), {}, files, stored(len(files), len(chunks)))
+    files, put, cells = volume.files_after(ALL)
+    return Work(volume.words("write"), stream_of(ALL), {}, files, stored(len(put), cells))
 
 
 def list_of(volume):
     number, count = LIST
     writes = generated(volume, number, count)
-    files = volume.files(volume.chunks_after(writes))
-    return Work(volume.words("generate", str(number), str(count)), b"", {}, files, answer(count, files.values(), sum_of(volume, writes)))
+    files, put, _ = volume.files_after(writes)
+    return Work(volume.words("generate", str(number), str(count)), b"", {}, files, answer(count, put, sum_of(volume, writes)))
 
 
 def over_of(volume):
@@ -87,7 +89,8 @@ def reduction_from(volume):
     return Work(words, b"", {**infos_of(source, volume), **before}, made.files, made.answer())
 
 
-WORKS = {"a write": write_of, "a list": list_of, "an update": over_of, "a copy": copy_from, "a reduction": reduction_from}
+IN_EACH_SIZE = {"a write": write_of, "a list": list_of}
+WORKS = {**IN_EACH_SIZE, "an update": over_of, "a copy": copy_from, "a reduction": reduction_from}
 
 
 def rooms_of(files):
@@ -120,6 +123,8 @@ def is_full(trial, volume, make_work, options):
 def rows():
     for (form, volume), (title, work), options in itertools.product(FORMS.items(), WORKS.items(), WORKERS):
         yield f"{title}, {form}, {' '.join(options)}", is_full, volume, work, options
+    for (title, work), options in itertools.product(IN_EACH_SIZE.items(), WORKERS):
+        yield f"{title}, chunks of two sizes, {' '.join(options)}", is_full, SIZES, work, options
 
 
 if __name__ == "__main__":

@@ -15,13 +15,13 @@ def connect(port, address="127.0.0.1"):
     return socket.create_connection((address, port), LIMIT)
 
 
-def talk(port, request, pieces=(), half_close=True, address="127.0.0.1"):
+def talk(port, request, pieces=(), half_close=True, address="127.0.0.1", pause=0.01):
     """All that a server sends to a request, whose pieces are sent apart."""
     with connect(port, address) as peer:
         for piece in pieces or [request]:
             peer.sendall(piece)
             if pieces:
-                time.sleep(0.01)
+                time.sleep(pause)
         if half_close:
             peer.shutdown(socket.SHUT_WR)
         with peer.makefile("rb") as received:

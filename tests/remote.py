@@ -8,11 +8,13 @@ COUNT scales, of every form in turn, some damaged, each served by vol_tool, vol_
 at random for each, against a plain model (model/fitting.py). Servers of the tests' own reply in odd ways, or in ways that fit nothing: then
 it tells a store fault behind a front of the cutout.
 """
+import contextlib
 import dataclasses
 import itertools
 import math
 import random
 import re
+import socket
 import subprocess
 import time
 
@@ -24,7 +26,7 @@ from model.infos import Refused as BadInfo
 from model.infos import scale_in
 from model.odd import pick_info, pick_reply, pick_reply_pieces
 from model.replies import MOST_HEAD, PAUSE, SILENCE
-from servers import CLOSE, HOLD, HOST, KEEP, RESET, Closing, fetch_words, find_nginx, free_port, nginx, own, python, read_file, telling
+from servers import CLOSE, HOLD, HOST, KEEP, RESET, Breaking, Closing, fetch_words, find_nginx, free_port, nginx, own, python, read_file, telling
 
 OTHER_HOST = "127.0.0.2"
 FAULT = refused("store fault")
@@ -175,6 +177,17 @@ def is_part(reply):
     return reply.status.startswith("206")
 
 
+def is_length(reply):
+    """To a HEAD, of an object that has bytes."""
+    return reply.status.startswith("200") and not reply.body and reply.length() > 0
+
+
+def as_part(reply):
+    """A length that is told as a part of as many bytes."""
+    length = reply.length()
+    return dataclasses.replace(reply, status="206 Partial Content").with_field(f"Content-Range: bytes 0-{length - 1}/{length}")
+
+
 def shift_range(reply, **by):
     """A part that says it is another one."""
     found = re.search(r"bytes (\d+)-(\d+)/(\d+)", reply.fields[1])
@@ -226,6 +239,8 @@ UNFIT = {
     "no range": (is_part, lambda reply: without(reply, 1).whole(), HOLD),
     "two ranges": (is_part, lambda reply: reply.with_field(reply.fields[1]).whole(), HOLD),
     "several parts": (is_part, lambda reply: without(reply, 1).with_field("Content-Type: multipart/byteranges").whole(), HOLD),
+    "a part for a length": (is_length, lambda reply: as_part(reply).whole(), HOLD),
+    "no part for a length": (is_length, status("416 Range Not Satisfiable"), HOLD),
     "a redirect": (is_any, lambda reply: Honest("302 Found", ["Content-Length: 0", "Location: /info"], b"").whole(), HOLD),
     "a coding": (is_any, field("Content-Encoding: gzip"), HOLD),
     "a fault": (is_any, status("500 Internal Server Error"), HOLD),
@@ -270,6 +285,7 @@ FIT = {
     "with an end that is told": (field("Connection: keep-alive, CLOSE"), CLOSE, True),
     "with an end that isn't told": (Honest.whole, CLOSE, True),
     "with an end that is told, and doesn't come": (field("Connection: close"), HOLD, True),
+    "with a reset behind it": (Honest.whole, RESET, True),
     "with odd heads": (odd_head, KEEP, False),
     "with long pages": (with_page, KEEP, False),
     "with the longest heads": (lambda reply: pad_head(reply, MOST_HEAD).whole(), KEEP, False),
@@ -377,7 +393,7 @@ LINE = along(0, 11)
 
 # The scale, what the request asks that is replied to, and whether another one follows
 CASES = {
-    "info": (ONE, Asked(0, 2**20 + 1), True),
+    "info": (ONE, Asked(0, 2**16), True),
     "chunk": (ONE, Asked(0, 12), False),
     "length": (ONE_IN_SHARD, LENGTH, True),
     "part": (ONE_IN_SHARD, Asked(16, 11), False),
@@ -448,9 +464,9 @@ def judges_replies(trial, seed):
 
 # What a cutout of one chunk asks for: the method, the object and the range.
 ASKS = {
-    "d/s/0-11_0-1_0-1": ["GET /info 0-1048576", "GET /s/0-11_0-1_0-1 0-11"],
+    "d/s/0-11_0-1_0-1": ["GET /info 0-65535", "GET /s/0-11_0-1_0-1 0-11"],
     "d/s/0.shard": [
-        "GET /info 0-1048576", "HEAD /s/0.shard", "GET /s/0.shard 0-15", "GET /s/0.shard 27-34", "GET /s/0.shard 35-42",
+        "GET /info 0-65535", "HEAD /s/0.shard", "GET /s/0.shard 0-15", "GET /s/0.shard 27-34", "GET /s/0.shard 35-42",
         "GET /s/0.shard 43-50", "GET /s/0.shard 16-26",
     ],
 }
@@ -508,6 +524,12 @@ def refuses_words(trial):
             want_ending(fetcher(trial).run(words), refused("usage"), f"{words!r:.200}")
         want_ending(fetcher(trial).run([b"\xff", *good[1:]]), refused("usage"), "a word that isn't text")
         want(server.connections, 0, "the connections")
+
+
+def takes_words_at_limits(trial):
+    """The longest host, which has no address, and the least and the greatest port, where nobody listens: the words are a line."""
+    for host, port in (("a" * 255, "80"), (HOST, "1"), (HOST, "65535")):
+        want_ending(fetcher(trial).run([host, port, *GOOD[2:]]), FAULT, f"{host:.20} {port}")
 
 
 def takes_names(trial):
@@ -570,6 +592,39 @@ def lets_silent_servers_go(trial):
         want_true(SILENCE - 1 < spent < SILENCE + 5, f"it took {spent:.1f} s")
 
 
+def lets_busy_servers_go(trial):
+    """One that takes no connection, and whose queue of them is full."""
+    with contextlib.ExitStack() as held:
+        door = held.enter_context(socket.create_server((HOST, 0), backlog=0))
+        for _ in range(4):
+            peer = held.enter_context(socket.socket())
+            peer.setblocking(False)
+            peer.connect_ex(door.getsockname())
+        begin = time.monotonic()
+        want_ending(fetch(trial, door.getsockname()[1], ONE, LINE), FAULT)
+        spent = time.monotonic() - begin
+        want_true(SILENCE - 1 < spent < SILENCE + 5, f"it took {spent:.1f} s")
+
+
+def lets_breaking_servers_go(trial):
+    """One that breaks off each connection as it takes it, before the request or amid it: no second one is dialled."""
+    trial.lay_out(files_of(ONE))
+    for number in range(20):
+        with telling(None, Breaking) as server:
+            want_ending(fetch(trial, server.port, ONE, LINE), FAULT, f"fetch {number}")
+            want(server.connections, 1, "the connections")
+
+
+def waits_for_a_page(trial, length, is_waited_for):
+    """Where there is no object a page of 2^30 bytes is waited for, of which none comes, and a longer one isn't."""
+    trial.lay_out(infos_of(ONE))
+    with telling(answering(trial.folder / "d", lambda reply: reply.with_length(length).head(), HOLD, 1)) as server:
+        begin = time.monotonic()
+        want_ending(fetch(trial, server.port, ONE, LINE), FAULT)
+        spent = time.monotonic() - begin
+        want_true((spent > SILENCE - 1) == is_waited_for, f"it took {spent:.1f} s")
+
+
 def goes_on_behind_a_slow_reader(trial):
     """The output waits for its reader longer than the server keeps a connection that idles: another one is dialled."""
     volume = Volume([256, 256, 4], [256, 256, 1])
@@ -584,6 +639,10 @@ def goes_on_behind_a_slow_reader(trial):
 
 def rows(count):
     yield "a server that is silent", lets_silent_servers_go
+    yield "a server that takes no connection", lets_busy_servers_go
+    yield "a server that breaks off", lets_breaking_servers_go
+    yield "a page of 2^30 bytes", waits_for_a_page, 2**30, True
+    yield "a page of a byte more", waits_for_a_page, 2**30 + 1, False
     for seed in range(count):
         yield f"replies {seed}", judges_replies, seed
         yield f"a scale {seed}", cuts_scale, seed
@@ -595,6 +654,7 @@ def rows(count):
         yield f"requests of one chunk, {'in a shard' if volume.sharding else 'unsharded'}", asks_once, volume
     yield "requests of several chunks", asks_for_chunks
     yield "words", refuses_words
+    yield "words at their limits", takes_words_at_limits
     yield "names", takes_names
     yield "other hosts and ports", dials_its_words
     yield "no server, and no data set", lays_no_server

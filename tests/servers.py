@@ -196,8 +196,8 @@ class Told(socketserver.ThreadingTCPServer):
     allow_reuse_address = True
     request_queue_size = 64
 
-    def __init__(self, answer):
-        super().__init__((HOST, 0), Peer)
+    def __init__(self, answer, peer):
+        super().__init__((HOST, 0), peer)
         self.answer = answer
         self.lock = threading.Lock()
         self.connections = 0
@@ -227,6 +227,11 @@ class Peer(socketserver.StreamRequestHandler):
             self.server.requests.append(request)
         return request
 
+    def break_off(self):
+        self.request.setsockopt(socket.SOL_SOCKET, socket.SO_LINGER, struct.pack("ii", 1, 0))
+        self.rfile.close()
+        self.request.close()
+
     def serve(self, connection):
         while (request := self.read_request(connection)) is not None:
             pieces, then = self.server.answer(request)
@@ -237,9 +242,7 @@ class Peer(socketserver.StreamRequestHandler):
             if then == CLOSE:
                 self.request.shutdown(socket.SHUT_WR)
             if then == RESET:
-                self.request.setsockopt(socket.SOL_SOCKET, socket.SO_LINGER, struct.pack("ii", 1, 0))
-                self.rfile.close()
-                self.request.close()
+                self.break_off()
                 return
             if then != KEEP:
                 # until the peer lets it go
@@ -256,9 +259,16 @@ class Peer(socketserver.StreamRequestHandler):
             self.serve(connection)
 
 
+class Breaking(Peer):
+    """A connection that is broken off as it is taken."""
+
+    def serve(self, connection):
+        self.break_off()
+
+
 @contextlib.contextmanager
-def telling(answer):
+def telling(answer, peer=Peer):
     """A server that is told what to say."""
-    server = Told(answer)
+    server = Told(answer, peer)
     with running(server):
         yield server

@@ -114,19 +114,36 @@ def gives_large_objects(trial):
         want(fetch(client, "/s/large", "bytes=65535-3000000")[1] == large[65535:3000001], True, "a large part")
 
 
+RANGED = ask("GET /s/x", "Range: bytes=2-4")
+
+# Streams that are cut short, hostile, or closed by their first request, and what is sent to each.
+HOSTILE = [
+    (b"", b""),
+    (b"GET /s/x HTTP/1.1\r\n", BAD),
+    (b"a" * MOST_HEAD + RANGED, BAD),
+    (b"\0" + RANGED, BAD),
+    (RANGED + b"\0", PART + BAD),
+    (ask("GET /../x") + RANGED, ABSENT + PART),
+    (ask("GET /s/x", "Range: bytes=2-4", "Connection: Keep-Alive, CLOSE") + RANGED, closing(PART)),
+    (ask("GET /s/x", f"Range: bytes={'9' * 400}-"), NO_PART),
+]
+
+
+def answers_in_each_cut(trial):
+    """Each such stream in every cut into two pieces; of the one that is longer than a head, cuts around that length."""
+    cuts_of = {stream: range(1, len(stream)) for stream, _ in HOSTILE if len(stream) < MOST_HEAD}
+    cuts_of[HOSTILE[2][0]] = [1, MOST_HEAD - 1, MOST_HEAD, MOST_HEAD + 1]
+    with serving(trial, sum(map(len, cuts_of.values()))) as port:
+        for stream, wanted in HOSTILE:
+            for cut in cuts_of[stream]:
+                want(talk(port, stream, [stream[:cut], stream[cut:]]), wanted, f"to {stream[:60]!r}, cut at {cut}")
+
+
 def answers_bytes_exactly(trial):
-    ranged = ask("GET /s/x", "Range: bytes=2-4")
     rows_of = [
-        (ranged, PART),
-        (ranged + ASK, PART + WHOLE),
-        (b"", b""),
-        (b"GET /s/x HTTP/1.1\r\n", BAD),
-        (b"a" * 8192 + ASK, BAD),
-        (b"\0" + ASK, BAD),
-        (ranged + b"\0", PART + BAD),
-        (ask("GET /s/x", f"Range: bytes={'9' * 400}-"), NO_PART),
-        (ask("GET /s/x", "Range: bytes=2-4", "Connection: Keep-Alive, CLOSE") + ranged, closing(PART)),
-        (ask("GET /../x") + ranged, ABSENT + PART),
+        (RANGED, PART),
+        (RANGED + ASK, PART + WHOLE),
+        *HOSTILE,
         (ask("GET /../x") + ASK, ABSENT + WHOLE),
         (ask("GET /%2e%2e/x"), ABSENT),
         (ask("GET /s/x?a"), ABSENT),
@@ -134,9 +151,10 @@ def answers_bytes_exactly(trial):
     ]
     with serving(trial, 3 * len(rows_of)) as port:
         for request, wanted in rows_of:
-            each = [request[at : at + 1] for at in range(len(request))] if len(request) < 200 else in_halves(request)
+            each = [request[at : at + 1] for at in range(len(request))] if len(request) < MOST_HEAD else in_halves(request)
             for pieces in ((), in_halves(request), each):
-                want(talk(port, request, pieces), wanted, f"to {request[:60]!r}")
+                # what comes behind a reply that closes is drained for a second alone
+                want(talk(port, request, pieces, pause=0.002), wanted, f"to {request[:60]!r}")
 
 
 def want_soon(begin, what):
@@ -555,13 +573,13 @@ REPLIES = {
 
 # The longest first.
 CASES = [
-    lets_silent_peers_go, lets_dripping_peers_go, lets_idle_peers_go, serves_eight_that_keep_their_connections, answers_bytes_exactly,
-    closes_behind_the_last_request, gives_whole_objects, gives_ranges, gives_large_objects, closes_where_it_is_asked, refuses_at_once,
-    answers_before_more_comes, finds_names, gives_files_as_they_stand,
-    judges_ranges_by_the_file_that_stands, says_that_the_store_failed, breaks_off_where_a_file_gets_shorter,
-    keeps_the_last_reply, passes_over_peers_that_reset, serves_one_after_the_other, refuses_taken_ports,
-    refuses_words_and_outputs, binds_the_address_that_is_named, is_loopback_alone, serves_shards_as_a_viewer_reads_them,
-    serves_curl, ends_where_it_is_stopped,
+    lets_silent_peers_go, lets_dripping_peers_go, answers_in_each_cut, answers_bytes_exactly, lets_idle_peers_go,
+    serves_eight_that_keep_their_connections, closes_behind_the_last_request, gives_whole_objects, gives_ranges,
+    gives_large_objects, closes_where_it_is_asked, refuses_at_once, answers_before_more_comes, finds_names,
+    gives_files_as_they_stand, judges_ranges_by_the_file_that_stands, says_that_the_store_failed,
+    breaks_off_where_a_file_gets_shorter, keeps_the_last_reply, passes_over_peers_that_reset, serves_one_after_the_other,
+    refuses_taken_ports, refuses_words_and_outputs, binds_the_address_that_is_named, is_loopback_alone,
+    serves_shards_as_a_viewer_reads_them, serves_curl, ends_where_it_is_stopped,
 ]
 
 

@@ -19,7 +19,7 @@ import subprocess
 import sys
 import typing
 
-from disturbed import DEEP_RUNS, ROW, ROW_OBJECTS, RUNS, in_store
+from disturbed import DEEP_RUNS, ROW, ROW_OBJECTS, RUNS, SIZES_RUNS, in_store
 from harness import LIMIT, Wrong, main, want, want_true
 from model import DOOR, FEED, OK, OUTPUT, STORE
 from peers import PEERS, SERVE, WHOLE, failed_of, fronts_of, is_answered, serve_peers
@@ -59,7 +59,8 @@ TRACED = [
     "an update", "an update of nothing", "an update of a shard", "an update of shards", "an update of a damaged shard", "a cutout",
     "a cutout of shards", "a cutout of nothing", "a cutout of layers", "a cutout of a damaged layer", "a copy", "a copy into shards",
     "a next scale", "a next scale in shards",
-    "a copy out of shards", "a judgement", "a judgement of shards", *(run.title for run in DEEP_RUNS),
+    "an update of blocks", "a copy into blocks", "a copy out of shards", "a judgement", "a judgement of shards",
+    *(run.title for run in SIZES_RUNS + DEEP_RUNS),
 ]
 
 FAULTS = {STORE: b"store fault\n", FEED: b"feed fault\n", OUTPUT: b"output fault\n"}

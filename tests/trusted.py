@@ -1,11 +1,11 @@
 #!/usr/bin/env python3
-"""Checks that docs/trusted.md lists exactly the modules of definitions, and the types of the code, that the contracts of `run`
-and `serve_all` reach, and that each word that it names for some modules is defined in one of them.
+"""Checks that docs/trusted.md lists exactly the modules of definitions, and the types of the code, that the contracts of `run`,
+`serve_all` and `fetch` reach, and that each word that it names for some modules is defined in one of them.
 
     tests/trusted.py
 
-It reads docs/ and crates/, and runs nothing. A module is reached where the contract, or a module that is reached, names it in a
-`use` line. The last line is 'N passed, N failed', and the status is 1 where a module is missing, or listed and not reached.
+It reads docs/ and crates/, and runs nothing. A module is reached where the contract, a dial's, or a module that is reached, names it in
+a `use` line. The last line is 'N passed, N failed', and the status is 1 where a module is missing, or listed and not reached.
 """
 import re
 
@@ -21,8 +21,9 @@ def path_of(crate, module):
 
 def find_reached():
     """The modules of definitions and the files of types that are reached, each as a crate and a name."""
-    modules, files = set(), {("vol_base", "outside")}
-    waiting = [CRATES / "vol_tool/src/top.rt", CRATES / "vol_serve/src/top.rt"]
+    modules, files = set(), {("vol_base", "outside"), ("remote_store", "dial")}
+    contracts = ["vol_tool/src/top.rt", "vol_serve/src/top.rt", "vol_fetch/src/fetch.rt", "remote_store/src/dial.rt"]
+    waiting = [CRATES / path for path in contracts]
     while waiting:
         for crate, is_type, name in USE.findall(waiting.pop().read_text()):
             if not (CRATES / crate).is_dir():

@@ -223,6 +223,7 @@ IN_PAIRS = Volume([8, 1, 1], [1, 1, 1], sharding=Sharding(1, False, 1, 1))
 HASHED = Volume([2, 1, 1], [1, 1, 1], sharding=Sharding(0, True, 3, 4))
 MANY_SHARDS = Volume([12, 1, 1], [1, 1, 1], sharding=Sharding(shard_bits=5))
 ALL_IN_ONE = Volume([2, 1, 1], [1, 1, 1], sharding=Sharding(64, True))
+TWO_IN_ONE = Volume([2, 1, 1], [1, 1, 1], sharding=Sharding())
 # The grid has 4 x 2 x 2 cells. Of the cells (3,0,0), (0,1,0), (1,1,0) and (0,0,1) the ids are 9, 2, 3 and 4.
 BLOCK = Volume([4, 2, 2], [1, 1, 1], sharding=Sharding())
 EIGHT = "cells 8 stored 8 absent 0"
@@ -249,6 +250,7 @@ IN_SHARDS = [
     ("a shard's number in decimal", MANY_SHARDS, [row(0, 0, "0a.shard", id=11)], None, "misplaced 10 0 11"),
     ("one place for all ids", ALL_IN_ONE, [row(0, 1, id=TOP)], None, "cells 2 stored 1 absent 1"),
     ("a first id that is the greatest", ALL_IN_ONE, [row(0, 0, id=TOP)], None, "damaged 0,0,0: index id 1"),
+    ("such a first id, by the ids as they are", TWO_IN_ONE, [row(0, 0, id=TOP)], None, "damaged 0,0,0: index id 1"),
     ("a first size that is the greatest", ALL_IN_ONE, [row(0, 0, size=TOP)], None, "damaged 0,0,0: index start 1"),
     ("x before a lower id", BLOCK, [row(0, 9, size=0), row(0, 2, size=0)], None, "damaged 3,0,0: chunk length 0 wanted 1"),
     ("y before z", BLOCK, [row(0, 3, size=0), row(0, 4, size=0)], None, "damaged 1,1,0: chunk length 0 wanted 1"),

@@ -5,8 +5,6 @@ mod boxes;
 mod layout;
 mod listing;
 mod stored;
-#[cfg(test)]
-mod tests;
 mod text;
 mod walk;
 

@@ -6,8 +6,6 @@ mod downsampling;
 mod parsers;
 mod resharding;
 mod serving;
-#[cfg(test)]
-mod tests;
 mod updating;
 mod verifying;
 mod words;

@@ -5,8 +5,6 @@ mod copier;
 mod found;
 mod marks;
 mod reading;
-#[cfg(test)]
-mod tests;
 
 pub use copier::{Copier, reserve_frames};
 pub use found::{mark_source, reserve_marks};

@@ -11,8 +11,6 @@ mod keeping;
 mod layers;
 mod reader;
 mod stream;
-#[cfg(test)]
-mod tests;
 mod values;
 
 pub use chunk::read_stored;

@@ -96,8 +96,9 @@ fn cut_scale<S: Source, O: Outlet>(
     ensures cause { HasCauseOf CutoutRefusal.StoreFault (S.faults store.old) (S.faults store.new) result }
     ensures out_cause { HasCauseOf CutoutRefusal.OutFault (O.faults out.old) (O.faults out.new) result }
     ensures unwritten { Writes result part.now (O.written out.old) (O.written out.new) }
-    ensures unread { IfErr result (λ refusal. refuses (cutout_status refusal) ≡ true →
-        S.asked store.new ≡ S.asked store.old) }
+    // Of a box that is refused neither the store nor the output is called.
+    ensures unasked { IfErr result (λ refusal. refuses (cutout_status refusal) ≡ true →
+        store.new ≡ store.old) }
     ensures unprinted { IfErr result (λ refusal. refuses (cutout_status refusal) ≡ true → out.new ≡ out.old) }
 {
     judge_part(scale, part)?;

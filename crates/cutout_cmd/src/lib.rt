@@ -4,8 +4,6 @@
 mod cut_out;
 mod refusal;
 mod report;
-#[cfg(test)]
-mod tests;
 
 pub use cut_out::{judge_part, run_cutout, stream_part};
 pub use refusal::CutoutRefusal;

@@ -4,8 +4,6 @@
 mod command;
 mod downsampling;
 mod judge;
-#[cfg(test)]
-mod tests;
 
 pub use command::run_downsample;
 pub use downsampling::downsample;

@@ -1,5 +1,5 @@
 mod Counts
-mod Firsts
+pub mod Firsts
 pub mod Homes
 pub mod Indexed
 mod Orderly

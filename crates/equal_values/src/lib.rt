@@ -10,8 +10,6 @@ mod group;
 mod hash;
 pub mod index;
 mod search;
-#[cfg(test)]
-mod tests;
 
 pub use finder::Finder;
 use group::group_values;

@@ -6,8 +6,6 @@ mod generate;
 mod lines;
 mod refusal;
 mod report;
-#[cfg(test)]
-mod tests;
 
 pub use generate::{Summary, run_generate};
 pub use refusal::GenerateRefusal;

@@ -13,8 +13,6 @@ mod porch;
 mod rest;
 mod run;
 mod seats;
-#[cfg(test)]
-mod tests;
 mod turn;
 
 pub use host::PlainExit;

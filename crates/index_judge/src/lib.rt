@@ -8,8 +8,6 @@ mod judge;
 mod key;
 mod row;
 mod rows;
-#[cfg(test)]
-mod tests;
 
 pub use entry::open_index;
 pub use fault::JudgeFault;

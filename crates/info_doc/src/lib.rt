@@ -9,8 +9,6 @@ mod limit;
 mod member;
 mod shape;
 mod shards;
-#[cfg(test)]
-mod tests;
 mod volume;
 
 pub use fault::{InfoFault, Item, What};

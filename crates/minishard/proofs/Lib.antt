@@ -1,5 +1,4 @@
 pub mod ColumnSteps
-mod FewRows
 pub mod ReadBack
 pub mod Steps
 mod Vectors

@@ -5,8 +5,6 @@
 
 mod columns;
 mod index;
-#[cfg(test)]
-mod tests;
 mod walk;
 
 pub use columns::write_rows;

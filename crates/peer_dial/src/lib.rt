@@ -5,8 +5,6 @@ mod entry;
 mod peer;
 mod serving;
 mod shelf;
-#[cfg(test)]
-mod tests;
 
 pub use entry::{Address, Entry};
 pub use peer::PeerDial;

@@ -61,6 +61,7 @@ fn give_piece(replies: &[u8], given: usize, piece: usize, out: &mut [u8]) -> usi
     requires piece { 0 < piece }
     requires room { 0 < length out.old }
     ensures within { result ≤ length out.old }
+    ensures short { result ≤ piece }
     ensures gives { Gives result out.new (drop given replies.now) }
 {
     let at = given.min(replies.len());
@@ -137,6 +138,13 @@ impl PeerDial {
             received: Vec::new(alloc),
             dialled: Vec::new(alloc),
         }
+    }
+
+    /// How often it was dialled.
+    pub fn dials(&self) -> usize
+        ensures { result ≡ length (dialled_on self.now.dialled.items) }
+    {
+        self.dialled.len()
     }
 }
 

@@ -6,7 +6,5 @@ mod judge;
 mod numbers;
 mod place;
 mod reply;
-#[cfg(test)]
-mod tests;
 
 pub use reply::{PlainReply, plain_reply};

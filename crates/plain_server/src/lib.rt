@@ -5,8 +5,6 @@ mod heads;
 mod objects;
 mod plan;
 mod replies;
-#[cfg(test)]
-mod tests;
 mod text;
 
 pub use replies::plain_replies;

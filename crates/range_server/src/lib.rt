@@ -11,8 +11,6 @@ mod range;
 mod reply;
 mod send;
 mod serve;
-#[cfg(test)]
-mod tests;
 mod text;
 mod write;
 

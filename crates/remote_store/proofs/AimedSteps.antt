@@ -1,5 +1,5 @@
 -- What a dial to one peer dialled.
-use Rattle.std.proofs.Common.{◌≡◌, ◌∙◌, ℕ, ◌+◌, ◌-◌, List, [], ◌∷◌, ◌++◌, length, length-append, replicate, append_assoc, append-nil, Option, Some, None, option_map, inl, inr, ap, sym, refl, subst, arith}
+use Rattle.std.proofs.Common.{◌≡◌, ◌∙◌, ℕ, ◌+◌, ◌-◌, List, [], ◌∷◌, ◌++◌, length, length-append, replicate, append_assoc, append-nil, Option, Some, None, option_map, inl, inr, ap, sym, subst, arith}
 use Rattle.std.proofs.lemmas.List.{length-replicate, replicate-append-replicate}
 use Rattle.remote_store.specs.Dials.{Dialled, Dials, DialsOnly}
 

@@ -1,12 +1,13 @@
 -- Whether what came of a reply with a body fits.
-use Rattle.std.proofs.Common.{◌≡◌, ◌∙◌, ℕ, ◌+◌, ◌-◌, ◌<◌, ◌≤◌, ◌^◌, min, Bool, true, false, ◌&&◌, ◌==◌, nat_le, codes, if◌then◌else◌, append-nil, List, [], ◌++◌, length, length-append, length-drop, take, drop, IfOk, Result, Ok, Err, Option, Some, None, IfSome, inl, inr, ap, sym, refl, subst, arith}
+use Rattle.std.proofs.Common.{◌≡◌, ◌∙◌, ℕ, ◌+◌, ◌-◌, ◌<◌, ◌≤◌, ◌^◌, min, Bool, true, false, ◌&&◌, ◌==◌, nat_le, codes, if◌then◌else◌, append-nil, List, [], ◌∷◌, ◌++◌, ◌≢◌, not, length, length-append, length-drop, take, drop, IfOk, Result, Ok, Err, Option, Some, None, IfSome, inl, inr, ap, sym, refl, subst, arith}
 use Rattle.std.proofs.lemmas.List.{drop-append-le, nil_from_length}
-use Rattle.httparse.specs.Grammar.{HasNoResponse, ReadsResponse, ResponseHead, print_response, status_code}
+use Rattle.httparse.specs.Ascii.{space}
+use Rattle.httparse.specs.Grammar.{HasNoResponse, ReadsResponse, ResponseHead, print_blank, print_end, print_reason, print_response, print_section, print_version, status_code}
 use Rattle.httparse.specs.Spans.{IsResponseOf}
 use Rattle.httparse.specs.declared.spans.HeaderSpan.{HeaderSpan}
 use Rattle.httparse.specs.declared.spans.ResponseSpans.{ResponseSpans}
 use Rattle.httparse.proofs.GrammarLemmas.{ReadsResponse-append, response_prefix_free, response_unique}
-use Rattle.remote_store.specs.Bodies.{Ended, Finished, HasHead, HasRoom, IsBegun, IsCounted, IsHeard, Passed, Said}
+use Rattle.remote_store.specs.Bodies.{Ended, Finished, HasHead, HasRoom, IsBegun, IsCounted, IsHeard, IsKeptBehind, Passed, Said}
 use Rattle.remote_store.specs.Dials.{Line}
 use Rattle.remote_store.specs.Placed.{placed}
 use Rattle.remote_store.specs.Fits.{Fits, NeverFits, Place, bytes_said, ends_behind, following, is_place, judged, kind_of, length_told, only, place_in, promised}
@@ -101,6 +102,32 @@ heard_some {wanted = wanted} {g = g} o e h = subst (λ x. IfSome x (λ b. IsHear
 
 pub begun_some : {wanted : Wanted} {g : List ℕ} {b : Begun} (o : Option Begun) → o ≡ Some b → IfSome o (λ b. IsBegun wanted g b) → IsBegun wanted g b
 begun_some {wanted = wanted} {g = g} o e h = subst (λ x. IfSome x (λ b. IsBegun wanted g b)) e h
+
+-- no head is empty
+head_there : (h : ResponseHead) (rest : List ℕ) → ReadsResponse [] h rest → ⊥
+unfolding print_response
+head_there h rest x =
+    let lead = print_blank h.blank ++ print_version h.minor in
+    let code = lead ++ (space ∷ h.digits) in
+    let reason = code ++ print_reason h.reason in
+    let line = reason ++ print_end h.line_end in
+    let none : length (print_response h ++ rest) ≡ 0 = ap length (sym x.1) in
+    let all : length (print_response h ++ rest) ≡ length (print_response h) + length rest = length-append (print_response h) rest in
+    let head : length (print_response h) ≡ length line + length (print_section h.fields h.last) = length-append line (print_section h.fields h.last) in
+    let first = length-append code (print_reason h.reason) in
+    let second = length-append reason (print_end h.line_end) in
+    let third = length-append lead (space ∷ h.digits) in
+    absurd (omega (arith, none, all, head, first, second, third))
+
+pub heard_there : {wanted : Wanted} {b : Begun} (g : List ℕ) (n : ℕ) → IsHeard wanted (take n g) b → n ≢ 0
+heard_there {b = b} g n h e = head_there h.head (drop b.head []) (subst (λ k. ReadsResponse (take k g) h.head (drop b.head (take k g))) e h.reads)
+
+-- behind a reply that doesn't close, and no other, an end is kept
+pub kept_behind : {wanted : Wanted} {g : List ℕ} {b : Begun} → IsHeard wanted g b → IsKeptBehind g (not b.closes)
+kept_behind {g = g} {b = b} h = λ head rest x. ap not (h.ends ∙ ap ends_behind (response_unique g h.head head (drop b.head g) rest h.reads x.0).0)
+
+pub kept_nowhere : (kept : Bool) → IsKeptBehind [] kept
+kept_nowhere kept = λ head rest x. absurd (head_there head rest x.0)
 
 -- a part is no longer than what was asked for
 place_room : (from count len : ℕ) (p : Option Place) → is_place from count len p ≡ true → len ≤ count

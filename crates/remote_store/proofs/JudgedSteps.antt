@@ -1,5 +1,5 @@
 -- What the calls of a store answer, by what came.
-use Rattle.std.proofs.Common.{◌≡◌, ◌≢◌, ◌∙◌, ℕ, ◌+◌, ◌≤◌, ◌==◌, Bool, true, false, List, [], ◌∷◌, ◌++◌, length, take, drop, Option, Some, None, IfOk, IfSome, OnErr, Result, Ok, Err, ◌⊎◌, if◌then◌else◌, inl, inr, ap, sym, refl, subst, arith}
+use Rattle.std.proofs.Common.{◌≡◌, ◌≢◌, ◌∙◌, ℕ, ◌≤◌, List, [], length, Option, Some, None, IfOk, IfSome, OnErr, Result, Ok, Err, ◌⊎◌, if◌then◌else◌, inl, inr, ap, sym, refl, subst}
 use Rattle.std.specs.Result.{result_ok}
 use Rattle.std.specs.Vec.{with_items}
 use Rattle.std.specs.declared.vec.Vec.{Vec}

@@ -152,6 +152,14 @@ module _ (answer : Result (Option Promise) Failed) (r : Result Promise Failed) (
       by_cases (Ok o) (Ok q) said f = subst (λ o. IfSome o P) (sym said) f
       by_cases (Err e) (Ok q) said f = absurd (cc said)
 
+  pub settled_again : (Q : Type 0) (dial0 dial1 : ℕ) → HasCause dial0 dial1 answer → IfOk answer (λ o. o ≡ None → Q) → OnErr r ((Rose dial0 dial1 → ⊥) → Q)
+  settled_again Q dial0 dial1 cause f = by_cases answer r said cause f
+    where
+      by_cases : (answer : Result (Option Promise) Failed) (r : Result Promise Failed) → result_ok r ≡ promise_in answer → HasCause dial0 dial1 answer → IfOk answer (λ o. o ≡ None → Q) → OnErr r ((Rose dial0 dial1 → ⊥) → Q)
+      by_cases answer (Ok q) said cause f = tt
+      by_cases (Ok o) (Err x) said cause f = λ calm. f (sym said)
+      by_cases (Err e) (Err x) said cause f = λ calm. absurd (calm cause.failed)
+
   module _ (dataset : List ℕ) (peer0 peer1 : Option Peer) (dial0 dial1 own0 own1 : ℕ) (same : peer1 ≡ peer0) (cause : HasCause dial0 dial1 answer)
       (stands : OnOk r (own1 ≡ own0)) (counts : OnErr r (own1 ≡ min (own0 + 1) (2 ^ 64 - 1))) (told : IfOk answer (λ o. (p : Peer) → peer0 ≡ Some p → p.dataset ≡ dataset → o ≢ None)) where
     pub settled_cause : HasCause (count_at (shown dataset peer0) dial0 own0) (count_at (shown dataset peer1) dial1 own1) r

@@ -1,5 +1,5 @@
 -- The bytes that calls receive, piece by piece (this project's).
-use Rattle.std.specs.Prelude.{◌≡◌, ◌≤◌, ◌<◌, ℕ, ◌-◌, min, ⊤, ◌==◌, Bool, true, false, List, ◌++◌, length, take, drop, Option, Some, None, IfSome, IfOk, Result}
+use Rattle.std.specs.Prelude.{◌≡◌, ◌≤◌, ◌<◌, ℕ, ◌-◌, min, ⊤, ◌==◌, Bool, true, false, not, List, ◌++◌, length, take, drop, Option, Some, None, IfSome, IfOk, Result}
 use Rattle.std.specs.Option.{option_map}
 use Rattle.vol_base.specs.Causes.{Rose}
 use Rattle.vol_base.specs.declared.outside.Got.{Got}
@@ -86,6 +86,10 @@ pub record IsBegun (wanted : Wanted) (received : List ℕ) (b : Begun) : Type 0 
 -- a head of at most 8,192 bytes stands at the front, and then this
 abbrev pub HasHead : List ℕ → ResponseHead → List ℕ → Type 0
 HasHead gained head rest = ReadsResponse gained head rest × (length (print_response head) ≤ 8192)
+
+-- an end is kept exactly where the reply whose head came doesn't close
+abbrev pub IsKeptBehind : List ℕ → Bool → Type 0
+IsKeptBehind gained kept = (head : ResponseHead) (rest : List ℕ) → HasHead gained head rest → kept ≡ not (ends_behind head)
 
 -- so many of the bytes that came stand behind the head, none where there is no head; and more than 8,192 came only of a reply that
 -- says so

@@ -32,9 +32,13 @@ given_more bytes line = record line { given = line.given ++ bytes }
 abbrev pub Dialled : Type 0
 Dialled = List (List ℕ × ℕ)
 
--- a call dialled once more, or was refused before it did
+-- a call dialled once more
+abbrev pub DialsOnce : List ℕ × ℕ → Option Dialled → Option Dialled → Type 0
+DialsOnce peer old new = new ≡ option_map (λ list. list ++ peer ∷ []) old
+
+-- or it was refused before it did
 abbrev pub Dials : List ℕ × ℕ → Option Dialled → Option Dialled → Type 0
-Dials peer old new = (new ≡ option_map (λ list. list ++ peer ∷ []) old) ⊎ (new ≡ old)
+Dials peer old new = DialsOnce peer old new ⊎ (new ≡ old)
 
 -- how many more were dialled
 abbrev pub more_dialled : Option Dialled → Option Dialled → ℕ

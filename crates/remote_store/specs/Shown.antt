@@ -1,5 +1,5 @@
 -- The objects that a remote store has: those of the peer below one data set (this project's).
-use Rattle.std.specs.Prelude.{ℕ, ◌+◌, Bool, ◌&&◌, List, length, drop, filter, Option, Some, None, if◌then◌else◌, bytes_eq}
+use Rattle.std.specs.Prelude.{◌≡◌, ℕ, ◌+◌, Bool, ◌&&◌, List, length, drop, filter, Option, Some, None, if◌then◌else◌, bytes_eq}
 use Rattle.std.specs.FinMap as map
 use Rattle.vol_base.specs.Causes.{IsCount, counted, is_count}
 use Rattle.vol_base.specs.Names.{is_name}
@@ -25,6 +25,10 @@ under dataset m = map.from_entries (filter (λ e. has_key dataset e.0) (map.entr
 abbrev pub shown : List ℕ → Option Peer → Option Objects
 shown dataset None = None
 shown dataset (Some p) = if bytes_eq p.dataset dataset then Some (under dataset p.objects) else None
+
+-- the peer is told, and serves the data set
+abbrev pub IsServed : List ℕ → Option Peer → Type 0
+IsServed dataset peer = (p : Peer) × (peer ≡ Some p) × (p.dataset ≡ dataset)
 
 -- the count of faults of a store: where the peer is told and serves the data set, its dial's
 abbrev pub count_at : Option Objects → ℕ → ℕ → ℕ

@@ -19,8 +19,6 @@ mod room;
 mod script;
 mod start;
 mod talk;
-#[cfg(test)]
-mod tests;
 mod text;
 mod wait;
 mod wanted;

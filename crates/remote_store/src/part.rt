@@ -4,10 +4,11 @@ ghost use Rattle.vol_base.specs.Causes.{HasCause};
 ghost use Rattle.vol_base.specs.Gains.{Gains};
 ghost use Rattle.remote_store.specs.Answers.{IsAsked};
 ghost use Rattle.remote_store.specs.Asking.{IsAskFor};
-ghost use Rattle.remote_store.specs.Bodies.{Finished, IsBegun, IsCounted, Replied};
-ghost use Rattle.remote_store.specs.Dials.{Dials, SamePeer};
+ghost use Rattle.remote_store.specs.Bodies.{Finished, IsBegun, IsCounted, IsKeptBehind, Replied};
+ghost use Rattle.remote_store.specs.Dials.{Dials, DialsOnce, SamePeer};
 ghost use Rattle.remote_store.specs.Fits.{Fits};
 ghost use Rattle.remote_store.specs.Quiet.{IsQuietFor};
+ghost use Rattle.remote_store.specs.Shown.{IsServed};
 ghost use Rattle.remote_store.specs.Talks.{IsUnfit, SaysLength, SaysPart};
 ghost use Rattle.remote_store.specs.declared.wanted.Wanted.TheVariants.{Length, Part};
 
@@ -85,6 +86,12 @@ pub(crate) fn ask_length<D: Dial>(
         → (IsTrue kept.old → IsQuietFor dataset (D.peer dial.old) (D.line dial.old))
         → IsQuietFor dataset (D.peer dial.new) (D.line dial.new) }
     ensures dialled { Dials (host.now, port) (D.dialled dial.old) (D.dialled dial.new) }
+    ensures again { IfOk result (λ o. o ≡ None → there.new ≡ 0
+        → DialsOnce (host.now, port) (D.dialled dial.old) (D.dialled dial.new)) }
+    ensures goes_on { IfOk result (λ _. (dataset key : List ℕ) → IsAskFor dataset host.now port key Length text.now
+        → IsTrue kept.old → IsQuietFor dataset (D.peer dial.old) (D.line dial.old) → IsServed dataset (D.peer dial.old)
+        → D.dialled dial.new ≡ D.dialled dial.old) }
+    ensures kept_end { IfOk result (λ o. IfSome o (λ _. IsKeptBehind (take there.new received.new) kept.new)) }
     ensures peer { D.peer dial.new ≡ D.peer dial.old }
     ensures cause { HasCause (D.faults dial.old) (D.faults dial.new) result }
 {
@@ -148,6 +155,12 @@ pub(crate) fn ask_part<D: Dial>(
         → (IsTrue kept.old → IsQuietFor dataset (D.peer dial.old) (D.line dial.old))
         → IsQuietFor dataset (D.peer dial.new) (D.line dial.new) }
     ensures dialled { Dials (host.now, port) (D.dialled dial.old) (D.dialled dial.new) }
+    ensures again { IfOk result (λ o. o ≡ None → there.new ≡ 0
+        → DialsOnce (host.now, port) (D.dialled dial.old) (D.dialled dial.new)) }
+    ensures goes_on { IfOk result (λ _. (dataset key : List ℕ) → IsAskFor dataset host.now port key (Part from (length out.old)) text.now
+        → IsTrue kept.old → IsQuietFor dataset (D.peer dial.old) (D.line dial.old) → IsServed dataset (D.peer dial.old)
+        → D.dialled dial.new ≡ D.dialled dial.old) }
+    ensures kept_end { IfOk result (λ o. IfSome o (λ _. IsKeptBehind (take there.new received.new) kept.new)) }
     ensures peer { D.peer dial.new ≡ D.peer dial.old }
     ensures cause { HasCause (D.faults dial.old) (D.faults dial.new) result }
 {

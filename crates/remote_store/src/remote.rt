@@ -1,17 +1,17 @@
 //! A store over HTTP.
-ghost use Rattle.std.specs.Prelude.{◌≡◌, ◌+◌, ◌<◌, ◌≤◌, ◌^◌, length, take, string_bytes, vec_capacity, IfOk, IfSome, IsTrue, OnErr, OnOk, None, Some};
+ghost use Rattle.std.specs.Prelude.{◌≡◌, ◌+◌, ◌<◌, ◌≤◌, ◌^◌, length, take, string_bytes, vec_capacity, IfOk, IfSome, IsTrue, OnErr, OnOk, None, Ok, Some};
 ghost use Rattle.std.specs.Option.{option_map};
 ghost use Rattle.std.specs.FinMap as map;
-ghost use Rattle.vol_base.specs.Causes.{HasCause, counted, is_count};
+ghost use Rattle.vol_base.specs.Causes.{HasCause, Rose, counted, is_count};
 ghost use Rattle.vol_base.specs.Outside.{HaveBytes, KeepsRest, OnlyReads, Reads, asked_after};
-ghost use Rattle.remote_store.specs.Bodies.{got_of_kind, stretch_count};
+ghost use Rattle.remote_store.specs.Bodies.{IsKeptBehind, got_of_kind, stretch_count};
 ghost use Rattle.remote_store.specs.Answers.{IsAsked};
-ghost use Rattle.remote_store.specs.Dials.{Dials, DialsOnly};
+ghost use Rattle.remote_store.specs.Dials.{Dials, DialsOnce, DialsOnly};
 ghost use Rattle.remote_store.specs.Hosts.{is_host};
 ghost use Rattle.remote_store.specs.Quiet.{IsQuietFor};
 ghost use Rattle.remote_store.specs.Remotes.{IsJudged, IsPlaced, IsRead, IsSame, IsSize, wanted_of};
 ghost use Rattle.remote_store.specs.Requests.{peer_value};
-ghost use Rattle.remote_store.specs.Shown.{count_at, key_in, shown};
+ghost use Rattle.remote_store.specs.Shown.{IsServed, count_at, key_in, shown};
 ghost use Rattle.remote_store.specs.Talks.{SaysLength, SaysPart};
 ghost use Rattle.remote_store.specs.declared.wanted.Wanted.TheVariants.{Length, Part};
 
@@ -82,6 +82,7 @@ impl<D: Dial + Drop> Remote<D> {
         ensures port { IfOk result (λ r. r.port ≡ port) }
         ensures faults { IfOk result (λ r. r.faults ≡ 0) }
         ensures asked { IfOk result (λ r. r.asked ≡ 0) }
+        ensures silent { IfOk result (λ r. (r.there ≡ 0) × (r.body ≡ 0)) }
     {
         let peer = write_peer(alloc, host.as_str(), port)?;
         let text = reserve_text(alloc, 1024)?;
@@ -116,6 +117,8 @@ impl<N: Aim, D: Dial> Remote<AimedDial<N, D>> {
         ensures dataset { result.dataset ≡ self.dataset }
         ensures faults { result.faults ≡ self.faults }
         ensures asked { result.asked ≡ self.asked }
+        ensures last { take result.there result.received.items ≡ take self.there self.received.items }
+        ensures body { result.body ≡ self.body }
         ensures only { DialsOnly (N.host, N.port) N.before (D.dialled result.dial) }
     {
         let Remote {
@@ -177,6 +180,11 @@ impl<D: Dial> Remote<D> {
             self.new.body (D.received self.old.dial) (D.received self.new.dial) (D.ends self.old.dial) (D.ends self.new.dial)
             (D.faults self.old.dial) (D.faults self.new.dial) result }
         ensures dialled { Dials (string_bytes self.old.host, self.old.port) (D.dialled self.old.dial) (D.dialled self.new.dial) }
+        ensures again { OnErr result ((Rose (D.faults self.old.dial) (D.faults self.new.dial) → ⊥) → self.new.there ≡ 0
+            → DialsOnce (string_bytes self.old.host, self.old.port) (D.dialled self.old.dial) (D.dialled self.new.dial)) }
+        ensures goes_on { IfOk result (λ _. IsTrue self.old.kept → IsServed self.old.dataset (D.peer self.old.dial)
+            → D.dialled self.new.dial ≡ D.dialled self.old.dial) }
+        ensures kept_end { IfOk result (λ _. IsKeptBehind (take self.new.there self.new.received.items) self.new.kept) }
         ensures peer { D.peer self.new.dial ≡ D.peer self.old.dial }
         ensures dataset { self.new.dataset ≡ self.old.dataset }
         ensures asked { self.new.asked ≡ self.old.asked }
@@ -212,6 +220,11 @@ impl<D: Dial> Remote<D> {
             self.new.body (D.received self.old.dial) (D.received self.new.dial) (D.ends self.old.dial) (D.ends self.new.dial)
             (D.faults self.old.dial) (D.faults self.new.dial) result }
         ensures dialled { Dials (string_bytes self.old.host, self.old.port) (D.dialled self.old.dial) (D.dialled self.new.dial) }
+        ensures again { OnErr result ((Rose (D.faults self.old.dial) (D.faults self.new.dial) → ⊥) → self.new.there ≡ 0
+            → DialsOnce (string_bytes self.old.host, self.old.port) (D.dialled self.old.dial) (D.dialled self.new.dial)) }
+        ensures goes_on { IfOk result (λ _. IsTrue self.old.kept → IsServed self.old.dataset (D.peer self.old.dial)
+            → D.dialled self.new.dial ≡ D.dialled self.old.dial) }
+        ensures kept_end { IfOk result (λ _. IsKeptBehind (take self.new.there self.new.received.items) self.new.kept) }
         ensures peer { D.peer self.new.dial ≡ D.peer self.old.dial }
         ensures dataset { self.new.dataset ≡ self.old.dataset }
         ensures asked { self.new.asked ≡ self.old.asked }
@@ -271,8 +284,17 @@ impl<D: Dial> Source for Remote<D> {
             self.new.body (D.received self.old.dial) (D.received self.new.dial) (D.ends self.old.dial) (D.ends self.new.dial)
             (D.faults self.old.dial) (D.faults self.new.dial) result) }
         ensures nothing { key_in self.old.dataset name.now ≡ None → self.new.dial ≡ self.old.dial }
+        ensures absent { key_in self.old.dataset name.now ≡ None → result ≡ Ok None }
         ensures silent { key_in self.old.dataset name.now ≡ None → (self.new.there ≡ 0) × (self.new.body ≡ 0) }
         ensures dialled { Dials (string_bytes self.old.host, self.old.port) (D.dialled self.old.dial) (D.dialled self.new.dial) }
+        // A call that failed though no call of the dial did, and to which nothing came, dialled: that an end was kept is no
+        // reason to fail.
+        ensures again { OnErr result ((Rose (D.faults self.old.dial) (D.faults self.new.dial) → ⊥) → self.new.there ≡ 0
+            → DialsOnce (string_bytes self.old.host, self.old.port) (D.dialled self.old.dial) (D.dialled self.new.dial)) }
+        // A peer that is told isn't dialled while an end is kept, and one is kept behind each reply that doesn't close.
+        ensures goes_on { IfOk result (λ _. IsTrue self.old.kept → IsServed self.old.dataset (D.peer self.old.dial)
+            → D.dialled self.new.dial ≡ D.dialled self.old.dial) }
+        ensures kept_end { IfOk result (λ _. IsKeptBehind (take self.new.there self.new.received.items) self.new.kept) }
     {
         self.there = 0;
         self.body = 0;
@@ -306,8 +328,14 @@ impl<D: Dial> Source for Remote<D> {
             self.new.body (D.received self.old.dial) (D.received self.new.dial) (D.ends self.old.dial) (D.ends self.new.dial)
             (D.faults self.old.dial) (D.faults self.new.dial) result) }
         ensures nothing { key_in self.old.dataset name.now ≡ None → self.new.dial ≡ self.old.dial }
+        ensures absent { key_in self.old.dataset name.now ≡ None → (result ≡ Ok Got.Absent) × (out.new ≡ out.old) }
         ensures silent { key_in self.old.dataset name.now ≡ None → (self.new.there ≡ 0) × (self.new.body ≡ 0) }
         ensures dialled { Dials (string_bytes self.old.host, self.old.port) (D.dialled self.old.dial) (D.dialled self.new.dial) }
+        ensures again { OnErr result ((Rose (D.faults self.old.dial) (D.faults self.new.dial) → ⊥) → self.new.there ≡ 0
+            → DialsOnce (string_bytes self.old.host, self.old.port) (D.dialled self.old.dial) (D.dialled self.new.dial)) }
+        ensures goes_on { IfOk result (λ _. IsTrue self.old.kept → IsServed self.old.dataset (D.peer self.old.dial)
+            → D.dialled self.new.dial ≡ D.dialled self.old.dial) }
+        ensures kept_end { IfOk result (λ _. IsKeptBehind (take self.new.there self.new.received.items) self.new.kept) }
     {
         self.there = 0;
         self.body = 0;

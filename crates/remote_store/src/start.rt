@@ -1,12 +1,13 @@
 //! A request that is sent, and the front of the reply to it.
-ghost use Rattle.std.specs.Prelude.{◌≡◌, ◌≤◌, ℕ, List, None, length, take, IfOk, IfSome, IsTrue, OnErr};
+ghost use Rattle.std.specs.Prelude.{◌≡◌, ◌≢◌, ◌≤◌, ℕ, List, None, length, take, IfOk, IfSome, IsTrue, OnErr};
 ghost use Rattle.vol_base.specs.Causes.{HasCause};
 ghost use Rattle.vol_base.specs.Gains.{Gains};
 ghost use Rattle.remote_store.specs.Answers.{IsAsked};
 ghost use Rattle.remote_store.specs.Asking.{HasBegun, IsAskFor};
 ghost use Rattle.remote_store.specs.Bodies.{IsBegun, IsCounted};
-ghost use Rattle.remote_store.specs.Dials.{Dials, SamePeer};
+ghost use Rattle.remote_store.specs.Dials.{Dials, DialsOnce, SamePeer};
 ghost use Rattle.remote_store.specs.Quiet.{IsQuietFor};
+ghost use Rattle.remote_store.specs.Shown.{IsServed};
 ghost use Rattle.remote_store.specs.Talks.{IsUnfit};
 
 use crate::begin::begin;
@@ -71,6 +72,10 @@ fn ask_kept<D: Dial>(
     ensures within { there.new ≤ 8192 }
     ensures received { Gains (D.received dial.old) (D.received dial.new) (take there.new received.new) }
     ensures again { IfOk result (λ t. t ≡ None → there.new ≡ 0) }
+    ensures some { IfOk result (λ t. IfSome t (λ o. o ≡ None → there.new ≢ 0)) }
+    ensures goes_on { IfOk result (λ t. t ≡ None → (dataset host key : List ℕ) (port : ℕ)
+        → IsAskFor dataset host port key wanted text.now → IsTrue kept
+        → IsQuietFor dataset (D.peer dial.old) (D.line dial.old) → IsServed dataset (D.peer dial.old) → ⊥) }
     ensures begun { IfOk result (λ t. IfSome t (λ o. IfSome o (λ b. IsBegun wanted (take there.new received.new) b))) }
     ensures unfit { IfOk result (λ t. IfSome t (λ o. o ≡ None → IsUnfit wanted (take there.new received.new)
         (D.ends dial.old) (D.ends dial.new))) }
@@ -133,6 +138,11 @@ fn ask<D: Dial>(
     ensures held { IfOk result (λ _. IsTrue (D.holds dial.new)) }
     ensures ends { D.ends dial.old ≤ D.ends dial.new }
     ensures dialled { Dials (host.now, port) (D.dialled dial.old) (D.dialled dial.new) }
+    ensures again { IfOk result (λ o. o ≡ None → there.new ≡ 0
+        → DialsOnce (host.now, port) (D.dialled dial.old) (D.dialled dial.new)) }
+    ensures goes_on { IfOk result (λ _. (dataset key : List ℕ) → IsAskFor dataset host.now port key wanted text.now
+        → IsTrue kept → IsQuietFor dataset (D.peer dial.old) (D.line dial.old) → IsServed dataset (D.peer dial.old)
+        → D.dialled dial.new ≡ D.dialled dial.old) }
     ensures peer { D.peer dial.new ≡ D.peer dial.old }
     ensures cause { HasCause (D.faults dial.old) (D.faults dial.new) result }
 {
@@ -180,6 +190,11 @@ pub(crate) fn start<D: Dial>(
     ensures held { IfOk result (λ _. IsTrue (D.holds dial.new)) }
     ensures ends { D.ends dial.old ≤ D.ends dial.new }
     ensures dialled { Dials (host.now, port) (D.dialled dial.old) (D.dialled dial.new) }
+    ensures again { IfOk result (λ o. o ≡ None → there.new ≡ 0
+        → DialsOnce (host.now, port) (D.dialled dial.old) (D.dialled dial.new)) }
+    ensures goes_on { IfOk result (λ _. (dataset key : List ℕ) → IsAskFor dataset host.now port key wanted text.now
+        → IsTrue kept → IsQuietFor dataset (D.peer dial.old) (D.line dial.old) → IsServed dataset (D.peer dial.old)
+        → D.dialled dial.new ≡ D.dialled dial.old) }
     ensures peer { D.peer dial.new ≡ D.peer dial.old }
     ensures cause { HasCause (D.faults dial.old) (D.faults dial.new) result }
     ensures counted { IsCounted wanted (take there.new received.new) body.new }

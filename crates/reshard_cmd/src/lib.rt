@@ -8,8 +8,6 @@ mod judge;
 mod lines;
 mod refusal;
 mod report;
-#[cfg(test)]
-mod tests;
 
 pub use command::{read_target, refuse, run_reshard};
 pub use copying::reshard;

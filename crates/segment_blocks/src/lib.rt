@@ -16,8 +16,6 @@ mod row;
 mod scratch;
 mod single;
 mod table;
-#[cfg(test)]
-mod tests;
 mod voxels;
 mod word;
 mod writing;

@@ -1,8 +1,10 @@
 -- What `serve` answers, by what opening the door and serving its ends answer.
-use Rattle.std.proofs.Common.{◌≡◌, ◌∙◌, ℕ, ◌+◌, ◌<◌, List, [], ◌∷◌, ◌++◌, length, length-append, codes, ◌≢◌, ◌-◌, Option, Some, None, IfSome, ap, sym, inr, subst, arith}
+use Rattle.std.proofs.Common.{◌≡◌, ◌∙◌, ℕ, ◌+◌, ◌<◌, List, [], ◌∷◌, ◌++◌, length, length-append, codes, ◌≢◌, ◌-◌, ◌≤◌, ◌⊎◌, take, Option, Some, None, IfSome, ap, sym, inr, subst, arith}
+use Rattle.std.proofs.Math.Seq.{take-append_seam}
+use Rattle.vol_base.specs.Causes.{most_count}
 use Rattle.vol_base.specs.Outside.{Ended, Objects}
 use Rattle.range_server.specs.Bodies.{WhereTold}
-use Rattle.range_server.specs.Serving.{AddsServed, EndsBy, GaveBefore, NotesGiven}
+use Rattle.range_server.specs.Serving.{AddsServed, AtMostBroken, EndsBy, EndsCutShort, EndsServed, GaveBefore, NotesGiven}
 use Rattle.range_server.specs.declared.fault.DoorRefusal.{DoorRefusal}
 use Rattle.range_server.specs.declared.fault.DoorRefusal.TheVariants as refusal
 use Rattle.vol_spec.proofs.Told.{in_told}
@@ -13,7 +15,7 @@ use Rattle.vol_shell.specs.Lines.{line_feed}
 use Rattle.serve_cmd.specs.Lines.{listening_line}
 use Rattle.vol_spec.specs.Types.{Bytes, Name}
 use Rattle.command_base.specs.Outlets.{Outlets, Tells}
-use Rattle.serve_cmd.specs.Servings.{AcceptsEnds, AreServed, Doorway, Ends, IsBoundTo, NotesEnds, PortTold, SaysFixed, ServeLeaves, serve_status, ServeShows, TellsFirst, TellsPort}
+use Rattle.serve_cmd.specs.Servings.{AcceptsEnds, AreServed, BreaksFew, Doorway, Ends, FewBroken, IsBoundTo, NotesEnds, PortTold, SaysFixed, ServeLeaves, serve_status, ServeShows, TellsFirst, TellsPort}
 use Rattle.command_base.specs.Statuses.{fixed_line}
 use Rattle.serve_cmd.specs.declared.refusal.ServeRefusal.{ServeRefusal}
 use Rattle.serve_cmd.specs.declared.refusal.ServeRefusal.TheVariants as refused
@@ -28,13 +30,32 @@ by_door refusal.OutOfMemory = refused.NoMemory
 abbrev door_status : DoorRefusal → Status
 door_status why = serve_status (by_door why)
 
+-- that few of the ends that were served are broken
+abbrev pub FewLaw : Type 0
+FewLaw = (m : Objects) (dataset : List ℕ) (before now : ℕ) (ends : List Ended) → EndsServed m dataset before now ends → (most_count ≤ now) ⊎ AtMostBroken m dataset ends (now - before)
+
+served_later : (m : Objects) (dataset : Name) (before mid now : ℕ) (ends : Ends) → mid ≤ now → EndsServed m dataset before mid ends → EndsServed m dataset before now ends
+served_later m dataset before mid now [] le h = omega (arith, le, h)
+served_later m dataset before mid now (end ∷ ends) le h = (h.0, h.1, h.2, h.3, h.4, served_later m dataset h.1 mid now ends le h.5)
+
+all_but_last : (first : Ends) (last : Ended) → take (length (first ++ last ∷ []) - 1) (first ++ last ∷ []) ≡ first
+all_but_last first last =
+    let count : length (first ++ last ∷ []) - 1 ≡ length first = omega (arith, length-append first (last ∷ [])) in
+    ap (λ n. take n (first ++ last ∷ [])) count ∙ take-append_seam first (last ∷ [])
+
+-- of ends amid the last of which memory ran out, few of the others are broken
+cut_few : FewLaw → (m : Objects) (dataset : Name) (from to : ℕ) (ends : Ends) → EndsCutShort m dataset from to ends → FewBroken m dataset from to (take (length ends - 1) ends)
+cut_few few m dataset from to ends (mid, first, last, is, served, le, stopped) =
+    let one : FewBroken m dataset from to first = few m dataset from to first (served_later m dataset from mid to first le served) in
+    subst (λ all. FewBroken m dataset from to (take (length all - 1) all)) (sym is) (subst (λ some. FewBroken m dataset from to some) (sym (all_but_last first last)) one)
+
 module _ (objects : Option Objects) (dataset : Name) (before mid after : Doorway) (from to : ℕ) (same : mid.served ≡ before.served) (none : mid.accepted ≡ before.accepted) where
   -- all the ends were served
-  pub all_shown : (wanted : ℕ) → WhereTold objects (λ m. WhereTold mid.served (λ list. AddsServed m dataset wanted from to list after.served))
+  pub all_shown : FewLaw → (wanted : ℕ) → WhereTold objects (λ m. WhereTold mid.served (λ list. AddsServed m dataset wanted from to list after.served))
       → IfSome objects (λ m. ServeShows Ok m dataset before after from to)
-  all_shown wanted adds =
+  all_shown few wanted adds =
       in_told objects _ (λ m told. in_told before.served _ (λ list noted.
-      let h = adds m told list (same ∙ noted) in (h.0, h.1, h.3)))
+      let h = adds m told list (same ∙ noted) in (h.0, h.1, h.3, few m dataset from to h.0 h.3)))
 
   -- and noted
   pub ends_noted : NotesGiven mid.served after.served mid.accepted after.accepted → NotesEnds before after
@@ -42,18 +63,20 @@ module _ (objects : Option Objects) (dataset : Name) (before mid after : Doorway
       let h = notes list (same ∙ told) in (h.0, h.1, h.2 ∙ ap (λ n. n + length h.0) none))
 
   -- the door refused
-  pub some_shown : (found why : DoorRefusal) (wanted : ℕ) → found ≡ why
+  pub some_shown : FewLaw → (found why : DoorRefusal) (wanted : ℕ) → found ≡ why
       → WhereTold objects (λ m. WhereTold mid.served (λ list. (ends : List Ended) × (after.served ≡ Some (list ++ ends)) × (after.accepted ≡ mid.accepted + length ends)
       × EndsBy m dataset found wanted from to ends))
       → IfSome objects (λ m. ServeShows (door_status why) m dataset before after from to)
-  some_shown found why wanted is adds =
+  some_shown few found why wanted is adds =
       in_told objects _ (λ m told. in_told before.served _ (λ list noted.
       let h = adds m told list (same ∙ noted) in
-      (h.0, h.1, by_refusal why m h.0 (subst (λ r. EndsBy m dataset r wanted from to h.0) is h.3))))
+      let shown = by_refusal why m h.0 (subst (λ r. EndsBy m dataset r wanted from to h.0) is h.3) in
+      (h.0, h.1, shown.0, shown.1)))
     where
-      by_refusal : (why : DoorRefusal) (m : Objects) (ends : Ends) → EndsBy m dataset why wanted from to ends → AreServed (door_status why) m dataset from to ends
-      by_refusal refusal.DoorFault m ends h = h.1
-      by_refusal refusal.OutOfMemory m ends h = inr h.1
+      by_refusal : (why : DoorRefusal) (m : Objects) (ends : Ends) → EndsBy m dataset why wanted from to ends
+          → AreServed (door_status why) m dataset from to ends × BreaksFew (door_status why) m dataset from to ends
+      by_refusal refusal.DoorFault m ends h = (h.1, few m dataset from to ends h.1)
+      by_refusal refusal.OutOfMemory m ends h = (inr h.1, cut_few few m dataset from to ends h.1)
 
   fewer_given : (why : DoorRefusal) (wanted : ℕ) → GaveBefore why wanted mid.accepted after.accepted → AcceptsEnds (door_status why) wanted before after
   fewer_given refusal.DoorFault wanted h = (after.accepted - before.accepted, omega (arith, none, h.0, h.1), omega (arith, none, h.0, h.1))

@@ -1,7 +1,8 @@
 -- What `serve` answers, and what stands after it (this project's profile).
-use Rattle.std.specs.Prelude.{◌≡◌, ◌≢◌, ◌⊎◌, ℕ, ◌+◌, ◌<◌, ◌≤◌, List, ◌++◌, length, Option, Some, None, Result, Ok as Done, Err, ⊤, IfSome, IsSomeAnd}
+use Rattle.std.specs.Prelude.{◌≡◌, ◌≢◌, ◌⊎◌, ℕ, ◌+◌, ◌-◌, ◌<◌, ◌≤◌, List, ◌++◌, length, take, Option, Some, None, Result, Ok as Done, Err, ⊤, IfSome, IsSomeAnd}
+use Rattle.vol_base.specs.Causes.{most_count}
 use Rattle.vol_base.specs.Outside.{Objects}
-use Rattle.range_server.specs.Serving.{EndsCutShort, EndsServed}
+use Rattle.range_server.specs.Serving.{AtMostBroken, EndsCutShort, EndsServed}
 use Rattle.vol_base.specs.Gains.{Gains, GainsFront}
 use Rattle.serve_cmd.specs.Lines.{listening_line}
 use Rattle.vol_spec.specs.Types.{Bytes, Name}
@@ -83,11 +84,20 @@ AreServed NoMemory m dataset from to ends = EndsServed m dataset from to ends �
     EndsCutShort m dataset from to ends
 AreServed other m dataset from to ends = EndsServed m dataset from to ends
 
--- the ends that the door noted were served so
+-- of the ends whose link didn't fail no more are not whole than that count rose by; or it stands at its end
+abbrev pub FewBroken : Objects → Name → ℕ → ℕ → Ends → Type 0
+FewBroken m dataset from to ends = (most_count ≤ to) ⊎ AtMostBroken m dataset ends (to - from)
+
+-- the same by the status: where memory ran out, of all ends but the last
+abbrev pub BreaksFew : Status → Objects → Name → ℕ → ℕ → Ends → Type 0
+BreaksFew NoMemory m dataset from to ends = FewBroken m dataset from to (take (length ends - 1) ends)
+BreaksFew other m dataset from to ends = FewBroken m dataset from to ends
+
+-- the ends that the door noted were served so, and few of them are broken
 abbrev pub ServeShows : Status → Objects → Name → Doorway → Doorway → ℕ → ℕ → Type 0
 ServeShows status m dataset before after from to =
     IfSome before.served (λ list. (ends : Ends) × (after.served ≡ Some (list ++ ends)) ×
-    AreServed status m dataset from to ends)
+    AreServed status m dataset from to ends × BreaksFew status m dataset from to ends)
 
 -- the door noted as many ends as it gave, whatever the store tells
 abbrev pub NotesEnds : Doorway → Doorway → Type 0

@@ -8,7 +8,7 @@ ghost use Rattle.serve_cmd.specs.Servings.{AcceptsEnds, Announces, doorway, IsBo
 use crate::lines::write_listening_line;
 use crate::refusal::ServeRefusal;
 use command_base::{Status, tell};
-use range_server::{DoorRefusal, serve_ends};
+use range_server::{DoorRefusal, serve_ends, tell_replies};
 use std::alloc::Global;
 use vol_base::{Door, Name, Outlet, Source, write_all};
 
@@ -71,6 +71,7 @@ fn serve<S: Source, O: Outlet, D: Door>(
     ensures door_cause { HasCauseOf ServeRefusal.DoorFault (D.faults door.old) (D.faults door.new) result }
 {
     announce(alloc, out, door, port)?;
+    tell_replies();
     match serve_ends(alloc, door, store, dataset, u64::from(connections)) {
         Ok(()) => Ok(()),
         Err(DoorRefusal::DoorFault) => Err(ServeRefusal::DoorFault),

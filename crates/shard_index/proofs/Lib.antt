@@ -1,3 +1,2 @@
 pub mod EntrySteps
-mod KnownScales
 pub mod NameSteps

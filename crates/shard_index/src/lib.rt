@@ -5,8 +5,6 @@
 mod entries;
 mod names;
 mod places;
-#[cfg(test)]
-mod tests;
 
 pub use entries::{base_len, judge_entry, read_entry, write_entry};
 pub use names::shard_name;

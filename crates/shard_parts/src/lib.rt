@@ -5,7 +5,5 @@
 
 mod index;
 mod shard;
-#[cfg(test)]
-mod tests;
 
 pub use shard::{begin_if, end_if, finish_if};

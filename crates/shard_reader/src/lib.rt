@@ -10,8 +10,6 @@ mod opened;
 mod reader;
 mod scan;
 mod span;
-#[cfg(test)]
-mod tests;
 mod window;
 
 pub use bytes::LookupFault;

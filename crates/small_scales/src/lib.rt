@@ -4,8 +4,6 @@
 mod names;
 mod scales;
 mod sizes;
-#[cfg(test)]
-mod tests;
 
 pub use names::short_name;
 pub use scales::raw_scale;

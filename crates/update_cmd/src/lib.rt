@@ -7,8 +7,6 @@ mod lines;
 mod putting;
 mod refusal;
 mod report;
-#[cfg(test)]
-mod tests;
 mod updating;
 
 pub use command::run_update;

@@ -3,7 +3,5 @@
 
 mod outlet;
 mod sums;
-#[cfg(test)]
-mod tests;
 
 pub use outlet::SumOutlet;

@@ -5,8 +5,6 @@ mod draws;
 mod generator;
 mod place;
 mod plain;
-#[cfg(test)]
-mod tests;
 mod values;
 mod vectors;
 

@@ -11,8 +11,6 @@ mod parts;
 mod refusal;
 mod report;
 mod telling;
-#[cfg(test)]
-mod tests;
 
 pub use command::run_verify;
 pub use fault::VerifyFault;

@@ -29,7 +29,7 @@ use Rattle.cutout.specs.Opened.{Opened}
 use Rattle.cutout.specs.Reading.{HasCut}
 use Rattle.cutout.specs.declared.fault.CutFault.{CutFault}
 use Rattle.cutout.specs.declared.fault.CutFault.TheVariants as cutting
-use Rattle.view_judge.specs.Answers.{Compares, IsDifference, JudgesBox, of_first, of_view}
+use Rattle.view_judge.specs.Answers.{Compares, ComparesBox, IsDifference, JudgesBox, of_first, of_view}
 use Rattle.view_judge.specs.Further.{IsBeside}
 use Rattle.view_judge.specs.Judging.{pair_cost}
 use Rattle.view_judge.specs.declared.fault.ViewFault.{ViewFault}
@@ -178,6 +178,14 @@ module _ (o : Option Objects) (reader first : Opened) (k : ℕ) (v : Scale) (b :
       let own : between ≤ was + cost m first.dataset v b = of_reader (λ d s. between ≤ was + cost m d s b) (from_told o _ m is h) in
       let more : now ≤ between + cost m first.dataset first.scale b = from_told same _ m (kept ∙ is) l in
       omega (arith, own, more))
+
+-- a box of a view that was read, beside values that may be those of another scale
+pub compares : (o : Option Objects) (dataset : Name) (k : ℕ) (v : Scale) (b : Box3) (found wanted : Bytes) (done : ⊤) (result : Result ⊤ ViewFault) → Inside v b → IfSome o HaveBytes
+    → IfSome o (λ m. HasCut (Ok done) m dataset v b found) → Compares result k b v.channels v.width found wanted → IfSome o (λ m. ComparesBox result m dataset k v b wanted)
+compares o dataset k v b found wanted done result inside have cut_v h =
+    in_told o _ (λ m is s beside cut_s.
+    let own : HasCut (Ok done) m dataset v b found = from_told o _ m is cut_v in
+    compared m dataset s k v b found wanted (from_told o _ m is have) beside.widths beside.channel_counts inside (beside_inside s v b beside inside) own.0 cut_s.0 own.1 cut_s.1 result h)
 
 -- the front of a room, as long as a box's values
 pub front_len : (room : Bytes) (raw len : ℕ) → raw ≤ length room → raw ≤ 2 ^ 30 → len ≡ min raw (2 ^ 128 - 1) → length (take len room) ≡ raw

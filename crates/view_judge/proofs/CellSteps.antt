@@ -1,8 +1,7 @@
 -- A cell of a view, as far as it lies in a part.
-use Rattle.std.proofs.Common.{◌≡◌, ℕ, ◌+◌, ◌*◌, ◌^◌, ◌≤◌, ◌<◌, pos, ◌+ℤ◌, ◌≤ℤ◌, IfSome, lit<, Bool, true, List, [], ◌∷◌, length, map, take, Option, Some, None, Result, Ok, Err, refl, ap, ◌∙◌, sym, subst, arith}
+use Rattle.std.proofs.Common.{◌≡◌, ℕ, ◌+◌, ◌*◌, ◌^◌, ◌≤◌, ◌<◌, pos, ◌+ℤ◌, ◌≤ℤ◌, IfSome, lit<, Bool, true, List, [], ◌∷◌, map, take, Option, Some, None, Result, Ok, Err, refl, ap, ◌∙◌, sym, subst, arith}
 use Rattle.std.specs.Prelude.{Contains, ⊤, ℤ}
 use Rattle.std.specs.FinMap as fin
-use Rattle.std.specs.List.{length_refill, refill}
 use Rattle.std.specs.Option.{is_some, option_map}
 use Rattle.std.proofs.lemmas.Int.{ints}
 use Rattle.std.proofs.lemmas.List.Elements.{All-contains}
@@ -10,7 +9,7 @@ use Rattle.std.proofs.lemmas.Nat.{mul-le}
 use Rattle.vol_base.specs.declared.boxes.Box3.{Box3}
 use Rattle.vol_base.specs.declared.faults.ChunkFault.{ChunkFault}
 use Rattle.vol_base.specs.declared.faults.Fault.{Fault}
-use Rattle.vol_base.specs.Boxes.{Covers, size}
+use Rattle.vol_base.specs.Boxes.{Covers, Within, size}
 use Rattle.vol_base.specs.Causes.{HasCauseOf, Rose}
 use Rattle.vol_base.specs.Outside.{Objects}
 use Rattle.vol_spec.specs.BoxValues.{first_some}
@@ -30,7 +29,6 @@ use Rattle.vol_spec.specs.declared.scale.Scale.{Scale}
 use Rattle.voxel_raw.proofs.Parts.{lies_in}
 use Rattle.chunk_grid.proofs.GridSteps.{cell_at-only, cell_box-short}
 use Rattle.chunk_grid.proofs.ListingSteps.{Contains-cons, cells_in-Contains, cells_in-IsCell, cells_in-Meets}
-use Rattle.chunk_pool.specs.Frames.{Filled}
 use Rattle.cutout.specs.Opened.{Opened}
 use Rattle.copy_laws.proofs.CopyValues.{none_in}
 use Rattle.size_laws.specs.Findings.{Finding, common, difference_in, finding_in}
@@ -41,9 +39,10 @@ use Rattle.view_judge.specs.Judging.{pair_cost}
 use Rattle.view_judge.specs.declared.fault.ViewFault.{ViewFault}
 use Rattle.view_judge.specs.declared.fault.ViewFault.TheVariants as fault
 use Rattle.view_judge.proofs.SharedSteps.{common_covers, common_left, common_right, common_some}
+use Rattle.view_judge.proofs.SumSteps.{first_two}
 
 -- a first fault is one of its cell, which is listed
-record IsOf (f : Cell → Option Fault) (cells : List Cell) (cell : Cell) (found : Fault) : Type 0 where
+pub record IsOf (f : Cell → Option Fault) (cells : List Cell) (cell : Cell) (found : Fault) : Type 0 where
   pub listed : Contains cells cell
   pub faulty : f cell ≡ Some found
 
@@ -76,10 +75,6 @@ unfolding first_fault
 first_of m dataset s b cell found e = listed_first (fault_in m dataset s) (cells_in s b) cell found e
 
 -- nothing wrong with a cell, so no fault
-first_two : {A : Type 0} (o : Option A) (rest : List (Option A)) → first_some (o ∷ rest) ≡ None → (o ≡ None) × (first_some rest ≡ None)
-first_two None rest e = (refl, e)
-first_two (Some a) rest e = absurd (cc e)
-
 judge_fault : (m : Objects) (dataset : Name) (s : Scale) (cell : Cell) → judge m dataset s cell ≡ None → fault_in m dataset s cell ≡ None
 unfolding judge
 judge_fault m dataset s cell e =
@@ -89,6 +84,21 @@ judge_fault m dataset s cell e =
     undamaged : (o : Option Fault) → damage o ≡ None → o ≡ None
     undamaged None e = refl
     undamaged (Some found) e = absurd (cc e)
+
+-- a fault of a box in a part is one of the part
+pub in_part : (m : Objects) (dataset : Name) (s : Scale) (b part : Box3) (at : Cell) (found : Fault) → Within b part → first_fault m dataset s b ≡ Some (at, found) → IsOf (fault_in m dataset s) (cells_in s part) at found
+in_part m dataset s b part at found within e =
+    let first = first_of m dataset s b at found e in
+    let (p, own, covered) = All-contains (λ c. Meets s c b) (cells_in s b) at (cells_in-Meets s b) first.listed in
+    let grid : IsCell s at = All-contains (IsCell s) (cells_in s b) at (cells_in-IsCell s b) first.listed in
+    record { listed = cells_in-Contains s part at grid (p, own, within p covered); faulty = first.faulty }
+
+-- so the part isn't sound
+pub unsound : (m : Objects) (dataset : Name) (s : Scale) (b part : Box3) (at : Cell) (found : Fault) → Within b part → first_fault m dataset s b ≡ Some (at, found) → Sound m dataset s part → ⊥
+unsound m dataset s b part at found within e sound =
+    let first = in_part m dataset s b part at found within e in
+    let none = judge_fault m dataset s at (All-contains (λ c. judge m dataset s c ≡ None) (cells_in s part) at sound first.listed) in
+    cc (none, first.faulty)
 
 -- whether a chunk without a fault is stored
 has_unless : (o : Option ChunkFault) (bytes : Bytes) → fault_of (unless o bytes) ≡ None → HasStored true (unless o bytes)
@@ -152,28 +162,18 @@ module _ (v : Scale) (part : Box3) (cell : Cell) (inside : Inside v part) (is : 
         let (same, own) = fault_is at found first in
         ap (λ o. found_as o (difference_in m dataset s view v shared)) own ∙ (λ i. Some (Damaged (sym e i) (sym same i) found))
 
-    behind_fault : (o : Option Finding) → fault_in m dataset v cell ≡ None → difference_in m dataset s view v shared ≡ o → finding_in m dataset s view v part cell ≡ o
+    pub behind_fault : (o : Option Finding) → fault_in m dataset v cell ≡ None → difference_in m dataset s view v shared ≡ o → finding_in m dataset s view v part cell ≡ o
     behind_fault o none e = (λ i. found_as (none i) (e i)) ∙ alone o
       where
         alone : (o : Option Finding) → first_some (o ∷ []) ≡ o
         alone None = refl
         alone (Some a) = refl
 
-    -- a fault of the first view
-    unsound : (at : Cell) (found : Fault) → first_fault m dataset s shared ≡ Some (at, found) → Sound m dataset s part → ⊥
-    unsound at found e sound =
-        let first = first_of m dataset s shared at found e in
-        let (p, own, covered) = All-contains (λ c. Meets s c shared) (cells_in s shared) at (cells_in-Meets s shared) first.listed in
-        let grid : IsCell s at = All-contains (IsCell s) (cells_in s shared) at (cells_in-IsCell s shared) first.listed in
-        let listed : Contains (cells_in s part) at = cells_in-Contains s part at grid (p, own, common_right (cell_box v cell) part p covered) in
-        let none = judge_fault m dataset s at (All-contains (λ c. judge m dataset s c ≡ None) (cells_in s part) at sound listed) in
-        cc (none, first.faulty)
-
     -- what judging the box answers is what judging the cell does
     pub cell_refused : (why : ViewFault) → JudgesBox (Err why) m dataset s view v shared → JudgesCell (Err why) m dataset s view v part cell
     cell_refused (fault.Damaged k at found) h = damaged k at found h.0 h.1
     cell_refused (fault.Differs k place c u w) h = behind_fault _ (none_of h.0) h.1
-    cell_refused (fault.First at found) h = unsound at found h
+    cell_refused (fault.First at found) h = unsound m dataset s shared part at found (common_right (cell_box v cell) part) h
     cell_refused fault.StoreFault h = tt
 
     pub cell_sound : (done : ⊤) (stored : Bool) → v.sharding ≡ None → stored ≡ is_some (fin.get m (cell_name dataset v cell)) → JudgesBox (Ok done) m dataset s view v shared
@@ -236,16 +236,9 @@ module _ (o same : Option Objects) (dataset : Name) (s : Scale) (view : ℕ) (v 
   pub box_inside : Inside v b
   box_inside = subst (Inside v) (sym e) (shared_inside v part cell inside is meets)
 
--- its buffers are as long as before, once they were lent
-pub held_again : (dataset : Name) (v : Scale) (reader now : Opened) (found wanted : Filled) (new_found new_wanted : Bytes) → IsHeld dataset v reader found wanted → now ≡ reader
-    → IsHeld dataset v now (record { bytes = refill (length found.bytes) found.bytes new_found; used = found.used }) (record { bytes = refill (length wanted.bytes) wanted.bytes new_wanted; used = wanted.used })
-held_again dataset v reader now found wanted new_found new_wanted h e = record {
-  short = h.short;
-  unsharded = h.unsharded;
-  reads = e ∙ h.reads;
-  room = sym (length_refill (length found.bytes) found.bytes new_found refl) ∙ h.room;
-  beside = sym (length_refill (length wanted.bytes) wanted.bytes new_wanted refl) ∙ h.beside;
-}
+-- its reader is as before
+pub held_again : (dataset : Name) (v : Scale) (reader now : Opened) → IsHeld dataset v reader → now ≡ reader → IsHeld dataset v now
+held_again dataset v reader now h e = record { short = h.short; unsharded = h.unsharded; reads = e ∙ h.reads }
 
 -- what failed, and what didn't, after a call that didn't
 pub cause_again : (why : ViewFault) (before between now : ℕ) → between ≡ before → HasCauseOf {T = ⊤} fault.StoreFault between now (Err why) → HasCauseOf {T = Bool} fault.StoreFault before now (Err why)

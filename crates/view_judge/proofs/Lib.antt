@@ -1,5 +1,7 @@
 pub mod BoxSteps
 pub mod CellSteps
+pub mod JointSteps
+pub mod RegionSteps
 pub mod SharedSteps
 pub mod SumSteps
 pub mod ValueSteps

@@ -36,6 +36,11 @@ module _ {X A : Type 0} (f : X → Option A) where
       ∙ first_some-append (map f done) (f x ∷ map f rest) none
       ∙ ap (λ o. first_some (o ∷ map f rest)) here
 
+-- where there is no first one, there is none
+pub first_two : {A : Type 0} (o : Option A) (rest : List (Option A)) → first_some (o ∷ rest) ≡ None → (o ≡ None) × (first_some rest ≡ None)
+first_two None rest e = (refl, e)
+first_two (Some a) rest e = absurd (cc e)
+
 -- the first of numbers
 module _ {A : Type 0} (f : ℕ → Option A) where
   from_first : (count n from : ℕ) (a : A) → n < count → ((i : ℕ) → i < n → f (from + i) ≡ None) → f (from + n) ≡ Some a → first_some (map f (range_with_len from count)) ≡ Some a
@@ -63,3 +68,14 @@ module _ {A : Type 0} (f : ℕ → Option A) where
           let none_yet : f from ≡ None = ap f (let e : from ≡ from + 0 = omega arith in e) ∙ none 0 (omega arith) in
           ap (λ o. first_some (o ∷ map f (range_with_len (from + 1) count))) none_yet
           ∙ from_none count (from + 1) (λ i h. ap f (let e : from + 1 + i ≡ from + (i + 1) = omega arith in e) ∙ none (i + 1) (omega arith))
+
+  pub none_at : (count n : ℕ) → first_some (map f (range_with_len 0 count)) ≡ None → n < count → f n ≡ None
+  none_at count n none l = ap f (let e : n ≡ 0 + n = omega arith in e) ∙ none_from count n 0 none l
+    where
+      none_from : (count n from : ℕ) → first_some (map f (range_with_len from count)) ≡ None → n < count → f (from + n) ≡ None
+      none_from zero n from none l = absurd (omega arith)
+      none_from (suc count) zero from none l =
+          ap f (let e : from + 0 ≡ from = omega arith in e) ∙ (first_two (f from) (map f (range_with_len (from + 1) count)) none).0
+      none_from (suc count) (suc n) from none l =
+          ap f (let e : from + suc n ≡ from + 1 + n = omega arith in e)
+          ∙ none_from count n (from + 1) (first_two (f from) (map f (range_with_len (from + 1) count)) none).1 (omega arith)

@@ -1,6 +1,6 @@
 -- The further views, one after the other.
 use Rattle.std.proofs.Common.{lit<, ◌≡◌, ◌≤◌, ◌<◌, ℕ, zero, suc, ◌+◌, ◌*◌, ◌^◌, List, [], ◌∷◌, ◌++◌, length, map, take, get_or, Option, Some, None, Ok, Err, IfSome, refl, ap, ◌∙◌, sym, subst, arith}
-use Rattle.std.specs.List.{range_with_len, sum_by}
+use Rattle.std.specs.List.{All, range_with_len, sum_by}
 use Rattle.std.proofs.lemmas.List.{length-map, map-append, take_all}
 use Rattle.std.proofs.lemmas.List.FromFn.{get_or-map-range_with_len, length-map-range_with_len, map-range_with_len_more}
 use Rattle.std.proofs.lemmas.List.Sums.{get_or-le-sum_by, sum_by-cons, sum_by-take-le, sum_by_more, sum_by_more_le}
@@ -24,8 +24,9 @@ use Rattle.cutout.specs.Opened.{Opened}
 use Rattle.size_laws.specs.Findings.{Finding, first_finding, view_finding}
 use Rattle.size_laws.specs.Further.{further}
 use Rattle.view_judge.specs.Answers.{AreCells, JudgesView}
-use Rattle.view_judge.specs.Further.{IsBeside, all_opened, opened}
-use Rattle.view_judge.specs.Judging.{FindsViews, absent_in, absent_of, cells_of, stored_in, stored_of, view_cost, views_cost}
+use Rattle.view_judge.specs.Further.{HasRoom, IsBeside, all_opened, opened}
+use Rattle.view_judge.specs.Judging.{FindsViews, absent_in, absent_of, cells_of, stored_in, stored_of}
+use Rattle.view_judge.specs.Regions.{own_regions}
 use Rattle.view_judge.specs.declared.fault.ViewFault.{ViewFault}
 use Rattle.view_judge.specs.declared.fault.ViewFault.TheVariants as fault
 use Rattle.view_judge.specs.declared.report.ViewsReport.{ViewsReport}
@@ -151,35 +152,35 @@ module _ (m : Objects) (dataset : Name) (s : Scale) (part : Box3) where
   view_stops k report fault.StoreFault l h here sound = tt
 
 -- what is asked for
-module _ (o : Option Objects) (dataset : Name) (s : Scale) (part : Box3) where
-  pub asked_none : (begin : ℕ) → IfSome o (λ m. begin ≤ begin + sum_by (view_cost m dataset s part) (take 0 (further s)))
+module _ (o : Option Objects) (s : Scale) (f : Objects → Scale → ℕ) where
+  pub asked_none : (begin : ℕ) → IfSome o (λ m. begin ≤ begin + sum_by (f m) (take 0 (further s)))
   asked_none begin = in_told o _ (λ m told. omega arith)
 
-  pub asked_more : (same : Option Objects) (k begin was now : ℕ) → k < length s.more → same ≡ o → IfSome o (λ m. was ≤ begin + sum_by (view_cost m dataset s part) (take k (further s)))
-      → IfSome same (λ m. now ≤ was + view_cost m dataset s part (get_or (further s) k s)) → IfSome o (λ m. now ≤ begin + sum_by (view_cost m dataset s part) (take (k + 1) (further s)))
+  pub asked_more : (same : Option Objects) (k begin was now : ℕ) → k < length s.more → same ≡ o → IfSome o (λ m. was ≤ begin + sum_by (f m) (take k (further s)))
+      → IfSome same (λ m. now ≤ was + f m (get_or (further s) k s)) → IfSome o (λ m. now ≤ begin + sum_by (f m) (take (k + 1) (further s)))
   asked_more same k begin was now l e h one =
       in_told o _ (λ m told.
       let n = further_length s in
       let so_far = from_told o _ m told h in
       let more = from_told same _ m (e ∙ told) one in
-      let sum = sum_by_more (view_cost m dataset s part) (further s) k s (omega (arith, n, l)) in
+      let sum = sum_by_more (f m) (further s) k s (omega (arith, n, l)) in
       omega (arith, so_far, more, sum))
 
-  pub asked_all : (k begin now : ℕ) → IfSome o (λ m. now ≤ begin + sum_by (view_cost m dataset s part) (take k (further s))) → IfSome o (λ m. now ≤ begin + views_cost m dataset s part)
+  pub asked_all : (k begin now : ℕ) → IfSome o (λ m. now ≤ begin + sum_by (f m) (take k (further s))) → IfSome o (λ m. now ≤ begin + sum_by (f m) (further s))
   asked_all k begin now h =
       in_told o _ (λ m told.
       let so_far = from_told o _ m told h in
-      let front = sum_by-take-le (view_cost m dataset s part) (further s) k in
+      let front = sum_by-take-le (f m) (further s) k in
       omega (arith, so_far, front))
 
-  pub asked_next : (same : Option Objects) (k begin was now : ℕ) → k < length s.more → same ≡ o → IfSome o (λ m. was ≤ begin + sum_by (view_cost m dataset s part) (take k (further s)))
-      → IfSome same (λ m. now ≤ was + view_cost m dataset s part (get_or (further s) k s)) → IfSome o (λ m. now ≤ begin + views_cost m dataset s part)
+  pub asked_next : (same : Option Objects) (k begin was now : ℕ) → k < length s.more → same ≡ o → IfSome o (λ m. was ≤ begin + sum_by (f m) (take k (further s)))
+      → IfSome same (λ m. now ≤ was + f m (get_or (further s) k s)) → IfSome o (λ m. now ≤ begin + sum_by (f m) (further s))
   asked_next same k begin was now l e h one =
       in_told o _ (λ m told.
       let n = further_length s in
       let so_far = from_told o _ m told h in
       let more = from_told same _ m (e ∙ told) one in
-      let next = sum_by_more_le (view_cost m dataset s part) (further s) k s (omega (arith, n, l)) in
+      let next = sum_by_more_le (f m) (further s) k s (omega (arith, n, l)) in
       omega (arith, so_far, more, next))
 
 -- a view has at most 2^120 cells in a part
@@ -205,7 +206,7 @@ counted_more s v part k was here l inside is h small e =
     record { counted = (λ i. h i + (e ∙ ap (λ w. length (cells_in w part)) own) i) ∙ sym sum; small = omega (arith, small, e, most) }
 
 -- each view has a cell in a part, so there are no more views than cells
-some_cell : (v : Scale) (part : Box3) → Inside v part → 1 ≤ length (cells_in v part)
+pub some_cell : (v : Scale) (part : Box3) → Inside v part → 1 ≤ length (cells_in v part)
 some_cell v part inside =
     let listed = cells_in-covered v part part.begin inside (covers_begin part inside.some) in
     let below = listed.1 in
@@ -250,3 +251,11 @@ module _ (was first : Opened) (list : List Opened) (k : ℕ) (e : Opened) (part 
 
   pub next_cells : (n : ℕ) → n ≡ length (cells_in next.scale part) → n ≡ length (cells_in (get_or (further was.scale) k was.scale) part)
   next_cells n h = h ∙ ap (λ (r : Opened). length (cells_in r.scale part)) next_is
+
+  pub next_room : (len : ℕ) → All (λ v. HasRoom v len) (further was.scale) → HasRoom next.scale len
+  next_room len h = let n = further_length was.scale in subst (λ (r : Opened). HasRoom r.scale len) (sym next_is) (h k was.scale (let below = next_below in omega (arith, n, below)))
+
+  pub next_own : (len : ℕ) → All (λ v. HasRoom (own_regions was.scale v) len) (further was.scale) → HasRoom (own_regions first.scale next.scale) len
+  next_own len h =
+      let n = further_length was.scale in
+      subst (λ (r : Opened). HasRoom (own_regions r.scale next.scale) len) (sym same) (subst (λ (r : Opened). HasRoom (own_regions was.scale r.scale) len) (sym next_is) (h k was.scale (let below = next_below in omega (arith, n, below))))

@@ -8,14 +8,14 @@ use Rattle.std.proofs.lemmas.List.Sums.{sum_by_push}
 use Rattle.vol_base.specs.declared.boxes.Box3.{Box3}
 use Rattle.vol_base.specs.Outside.{Objects}
 use Rattle.vol_spec.specs.Chunks.{chunk_in}
-use Rattle.vol_spec.specs.Grid.{cell_box, cells_in}
+use Rattle.vol_spec.specs.Grid.{cells_in}
 use Rattle.vol_spec.specs.Types.{Cell, Name}
 use Rattle.vol_spec.specs.declared.scale.Scale.{Scale}
 use Rattle.vol_spec.proofs.Told.{from_told, in_told}
 use Rattle.cutout.specs.Opened.{Opened}
-use Rattle.size_laws.specs.Findings.{common, finding_in}
-use Rattle.view_judge.specs.Answers.{AreCells, JudgesCell, JudgesView}
-use Rattle.view_judge.specs.Judging.{is_absent, is_stored, pair_cost, view_cost}
+use Rattle.size_laws.specs.Findings.{finding_in}
+use Rattle.view_judge.specs.Answers.{AreCells, AreNamed, JudgesCell, JudgesView, is_named}
+use Rattle.view_judge.specs.Judging.{is_absent, is_stored}
 use Rattle.view_judge.specs.declared.fault.ViewFault.{ViewFault}
 use Rattle.view_judge.specs.declared.fault.ViewFault.TheVariants as fault
 use Rattle.view_judge.specs.declared.report.ViewsReport.{ViewsReport}
@@ -69,6 +69,13 @@ both_add report more new sum h k =
     let c = sum.absent in
     omega (arith, a, b, c, h, k)
 
+pub named_more : (m : Objects) (dataset : Name) (v : Scale) (done : List Cell) (cell : Cell) (report more new : ViewsReport) (is : Bool) → IsSum report more new → IsOne is more
+    → AreNamed m dataset v done report → is ≡ is_named m dataset v cell → AreNamed m dataset v (done ++ cell ∷ []) new
+named_more m dataset v done cell report more new is sum one so_far e = record {
+  stored = sum.stored ∙ (λ i. so_far.stored i + one.stored i) ∙ sym (count_one (is_named m dataset v) done cell is (sym e));
+  absent = sum.absent ∙ (λ i. so_far.absent i + (one.absent ∙ sym (turned is)) i) ∙ sym (count_one (λ c. not (is_named m dataset v c)) done cell (not is) (ap not (sym e)));
+}
+
 module _ (m : Objects) (dataset : Name) (s : Scale) (view : ℕ) (v : Scale) (part : Box3) where
   abbrev stored_one : Cell → Bool
   stored_one cell = is_stored (chunk_in m dataset v cell)
@@ -92,42 +99,40 @@ module _ (m : Objects) (dataset : Name) (s : Scale) (view : ℕ) (v : Scale) (pa
   cell_stops done left rest cell report fault.StoreFault e is so_far h = tt
 
 -- what is asked for
-module _ (o : Option Objects) (dataset : Name) (s v : Scale) (part : Box3) where
-  abbrev one_cost : Objects → Cell → ℕ
-  one_cost m cell = pair_cost m dataset s v (common (cell_box v cell) part)
-
-  pub asked_none : (begin : ℕ) → IfSome o (λ m. begin ≤ begin + sum_by (one_cost m) [])
+module _ {X : Type 0} (o : Option Objects) (f : Objects → X → ℕ) where
+  pub asked_none : (begin : ℕ) → IfSome o (λ m. begin ≤ begin + sum_by (f m) [])
   asked_none begin = in_told o _ (λ m told. omega arith)
 
-  pub asked_more : (same : Option Objects) (cells : List Cell) (cell : Cell) (begin was now : ℕ) → same ≡ o → IfSome o (λ m. was ≤ begin + sum_by (one_cost m) cells)
-      → IfSome same (λ m. now ≤ was + one_cost m cell) → IfSome o (λ m. now ≤ begin + sum_by (one_cost m) (cells ++ cell ∷ []))
-  asked_more same cells cell begin was now e h one =
+  pub asked_more : (same : Option Objects) (done : List X) (x : X) (begin was now : ℕ) → same ≡ o → IfSome o (λ m. was ≤ begin + sum_by (f m) done)
+      → IfSome same (λ m. now ≤ was + f m x) → IfSome o (λ m. now ≤ begin + sum_by (f m) (done ++ x ∷ []))
+  asked_more same done x begin was now e h one =
       in_told o _ (λ m told.
       let so_far = from_told o _ m told h in
       let more = from_told same _ m (e ∙ told) one in
-      let sum = sum_by_push (one_cost m) cells cell in
+      let sum = sum_by_push (f m) done x in
       omega (arith, so_far, more, sum))
 
-  pub asked_all : (cells rest : List Cell) (begin now : ℕ) → cells ++ rest ≡ cells_in v part → IfSome o (λ m. now ≤ begin + sum_by (one_cost m) cells) → IfSome o (λ m. now ≤ begin + view_cost m dataset s part v)
-  asked_all cells rest begin now is h =
+  pub asked_all : (done rest all : List X) (begin now : ℕ) → done ++ rest ≡ all → IfSome o (λ m. now ≤ begin + sum_by (f m) done) → IfSome o (λ m. now ≤ begin + sum_by (f m) all)
+  asked_all done rest all begin now is h =
       in_told o _ (λ m told.
       let so_far = from_told o _ m told h in
-      let front = sum_front (one_cost m) cells rest (cells_in v part) is in
+      let front = sum_front (f m) done rest all is in
       omega (arith, so_far, front))
 
-  pub asked_next : (same : Option Objects) (cells left rest : List Cell) (cell : Cell) (begin was now : ℕ) → same ≡ o → left ≡ cell ∷ rest → cells ++ left ≡ cells_in v part
-      → IfSome o (λ m. was ≤ begin + sum_by (one_cost m) cells) → IfSome same (λ m. now ≤ was + one_cost m cell) → IfSome o (λ m. now ≤ begin + view_cost m dataset s part v)
-  asked_next same cells left rest cell begin was now e first is h one =
+  pub asked_next : (same : Option Objects) (done left rest all : List X) (x : X) (begin was now : ℕ) → same ≡ o → left ≡ x ∷ rest → done ++ left ≡ all
+      → IfSome o (λ m. was ≤ begin + sum_by (f m) done) → IfSome same (λ m. now ≤ was + f m x) → IfSome o (λ m. now ≤ begin + sum_by (f m) all)
+  asked_next same done left rest all x begin was now e first is h one =
       in_told o _ (λ m told.
       let so_far = from_told o _ m told h in
       let more = from_told same _ m (e ∙ told) one in
-      let next = sum_next (one_cost m) cells left rest (cells_in v part) cell first is in
+      let next = sum_next (f m) done left rest all x first is in
       omega (arith, so_far, more, next))
 
 -- what is said of what is as before
-pub moved : (P : Objects → Opened → Opened → Type 0) (o same : Option Objects) (first self was_first was_self : Opened) → same ≡ o → first ≡ was_first → self ≡ was_self → IfSome same (λ m. P m first self) → (m : Objects) → o ≡ Some m
-    → P m was_first was_self
+pub moved : (P : Objects → Opened → Opened → Type 0) (o same : Option Objects) (first : Opened) (self : Opened) (was_first : Opened) (was_self : Opened) → same ≡ o → first ≡ was_first → self ≡ was_self → IfSome same (λ m. P m first self)
+    → (m : Objects) → o ≡ Some m → P m was_first was_self
 moved P o same first self was_first was_self kept ef es h m told = subst (λ x. P m x was_self) ef (subst (λ y. P m first y) es (from_told same _ m (kept ∙ told) h))
 
-pub moved_told : (P : Objects → Opened → Opened → Type 0) (o same : Option Objects) (first self was_first was_self : Opened) → same ≡ o → first ≡ was_first → self ≡ was_self → IfSome same (λ m. P m first self) → IfSome o (λ m. P m was_first was_self)
+pub moved_told : (P : Objects → Opened → Opened → Type 0) (o same : Option Objects) (first : Opened) (self : Opened) (was_first : Opened) (was_self : Opened) → same ≡ o → first ≡ was_first → self ≡ was_self → IfSome same (λ m. P m first self)
+    → IfSome o (λ m. P m was_first was_self)
 moved_told P o same first self was_first was_self kept ef es h = in_told o _ (λ m told. moved P o same first self was_first was_self kept ef es h m told)

@@ -1,5 +1,5 @@
 -- The further views that are held to be judged (this project's).
-use Rattle.std.specs.Prelude.{◌≡◌, ◌≤◌, length, map, List, None}
+use Rattle.std.specs.Prelude.{◌≡◌, ℕ, ◌≤◌, length, map, All, List, None}
 use Rattle.chunk_pool.specs.Frames.{Filled}
 use Rattle.vol_spec.specs.Grid.{whole}
 use Rattle.vol_spec.specs.Limits.{first_bytes}
@@ -7,20 +7,19 @@ use Rattle.vol_spec.specs.Types.{Name}
 use Rattle.vol_spec.specs.declared.scale.Scale.{Scale}
 use Rattle.cutout.specs.Opened.{Opened}
 use Rattle.size_laws.specs.Further.{further}
-
--- a view that is opened, with room for the values of its longest chunk twice; it has no shards
-pub record IsHeld (dataset : Name) (view : Scale) (reader : Opened) (found wanted : Filled) : Type 0 where
-  pub short : length dataset ≤ 200
-  pub unsharded : view.sharding ≡ None
-  pub reads : reader ≡ record { dataset = dataset; scale = view }
-  pub room : length found.bytes ≡ first_bytes view.width view.channels view.size view.chunk
-  pub beside : length wanted.bytes ≡ first_bytes view.width view.channels view.size view.chunk
+use Rattle.view_judge.specs.Regions.{own_regions, regions}
 
 -- another scale of the same box, with values of the same widths and channels
 pub record IsBeside (s v : Scale) : Type 0 where
   pub boxes : whole v ≡ whole s
   pub widths : v.width ≡ s.width
   pub channel_counts : v.channels ≡ s.channels
+
+-- a view that is opened; it has no shards
+pub record IsHeld (dataset : Name) (view : Scale) (reader : Opened) : Type 0 where
+  pub short : length dataset ≤ 200
+  pub unsharded : view.sharding ≡ None
+  pub reads : reader ≡ record { dataset = dataset; scale = view }
 
 -- a view of a data set
 abbrev pub opened : Name → Scale → Opened
@@ -29,3 +28,20 @@ opened dataset view = record { dataset = dataset; scale = view }
 -- all further views of a scale
 abbrev pub all_opened : Name → Scale → List Opened
 all_opened dataset s = map (opened dataset) (further s)
+
+-- so many bytes are room for the values of the longest cell of a scale;
+abbrev pub HasRoom : Scale → ℕ → Type 0
+HasRoom v len = first_bytes v.width v.channels v.size v.chunk ≤ len
+
+-- and for those of the longest cell of each further view, and of the longest region
+pub record HasRooms (s : Scale) (len : ℕ) : Type 0 where
+  pub region : HasRoom (regions s) len
+  pub own : All (λ v. HasRoom (own_regions s v) len) (further s)
+  pub cells : All (λ v. HasRoom v len) (further s)
+
+-- a judge of the further views of a scale: all are opened, and there is room for the values of each box twice
+pub record IsJudge (first : Opened) (further : List Opened) (scale : Scale) (found wanted : Filled) : Type 0 where
+  pub views : further ≡ all_opened first.dataset first.scale
+  pub scale_is : scale ≡ first.scale
+  pub room : HasRooms first.scale (length found.bytes)
+  pub beside : HasRooms first.scale (length wanted.bytes)

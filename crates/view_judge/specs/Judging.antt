@@ -1,5 +1,5 @@
 -- What judging the further views of a scale says, and what it asks for (this project's profile).
-use Rattle.std.specs.Prelude.{◌≡◌, ℕ, ◌+◌, Bool, true, false, length, filter, List, Option, Some, None, Result, Ok, Err}
+use Rattle.std.specs.Prelude.{◌≡◌, ℕ, ◌+◌, Bool, true, false, length, filter, List, [], ◌∷◌, Option, Some, None, Result, Ok, Err, if◌then◌else◌}
 use Rattle.std.specs.List.{sum_by}
 use Rattle.vol_base.specs.Outside.{Objects}
 use Rattle.vol_base.specs.declared.boxes.Box3.{Box3}
@@ -7,10 +7,11 @@ use Rattle.vol_base.specs.declared.faults.Fault.{Fault}
 use Rattle.vol_spec.specs.Chunks.{chunk_in}
 use Rattle.vol_spec.specs.Costs.{cost}
 use Rattle.vol_spec.specs.Grid.{cell_box, cells_in}
-use Rattle.vol_spec.specs.Types.{Bytes, Name}
+use Rattle.vol_spec.specs.Types.{Bytes, Cell, Name}
 use Rattle.vol_spec.specs.declared.scale.Scale.{Scale}
 use Rattle.size_laws.specs.Findings.{Damaged as DamagedIn, Differs as DiffersIn, common, first_finding}
 use Rattle.size_laws.specs.Further.{further}
+use Rattle.view_judge.specs.Regions.{is_joint, own_regions, regions}
 use Rattle.view_judge.specs.declared.fault.ViewFault.{ViewFault}
 use Rattle.view_judge.specs.declared.fault.ViewFault.TheVariants.{StoreFault, First, Damaged, Differs}
 use Rattle.view_judge.specs.declared.report.ViewsReport.{ViewsReport}
@@ -43,16 +44,36 @@ stored_of m dataset views part = sum_by (λ v. stored_in m dataset v part) views
 abbrev pub absent_of : Objects → Name → List Scale → Box3 → ℕ
 absent_of m dataset views part = sum_by (λ v. absent_in m dataset v part) views
 
--- how many bytes are asked for at most: for each cell of each view, what reading the cell's positions in the part costs, by the view and by
--- the scale itself
+-- how many bytes are asked for at most: what reading a box costs, by a view and by the scale itself;
 abbrev pub pair_cost : Objects → Name → Scale → Scale → Box3 → ℕ
 pair_cost m dataset s v b = cost m dataset v b + cost m dataset s b
 
-abbrev pub view_cost : Objects → Name → Scale → Box3 → Scale → ℕ
-view_cost m dataset s part v = sum_by (λ cell. pair_cost m dataset s v (common (cell_box v cell) part)) (cells_in v part)
+-- what the positions of each cell of a view in a part cost so;
+abbrev pub cells_cost : Objects → Name → Scale → Box3 → Scale → ℕ
+cells_cost m dataset s part v = sum_by (λ cell. pair_cost m dataset s v (common (cell_box v cell) part)) (cells_in v part)
 
+-- what reading a box costs by each of some views, and once by the scale itself; nothing where there is no view;
+abbrev pub joint_cost : Objects → Name → Scale → List Scale → Box3 → ℕ
+joint_cost m dataset s [] b = 0
+joint_cost m dataset s (v ∷ others) b = cost m dataset s b + sum_by (λ w. cost m dataset w b) (v ∷ others)
+
+-- what the positions of each region in a part cost so, by all further views;
+abbrev pub region_cost : Objects → Name → Scale → Box3 → Cell → ℕ
+region_cost m dataset s part region = joint_cost m dataset s (further s) (common (cell_box (regions s) region) part)
+
+abbrev pub regions_cost : Objects → Name → Scale → Box3 → ℕ
+regions_cost m dataset s part = sum_by (region_cost m dataset s part) (cells_in (regions s) part)
+
+-- or where each view has its own regions, by that view;
+abbrev pub own_cost : Objects → Name → Scale → Box3 → Scale → ℕ
+own_cost m dataset s part v = sum_by (λ region. pair_cost m dataset s v (common (cell_box (own_regions s v) region) part)) (cells_in (own_regions s v) part)
+
+abbrev pub compare_cost : Objects → Name → Scale → Box3 → ℕ
+compare_cost m dataset s part = if is_joint s then regions_cost m dataset s part else sum_by (own_cost m dataset s part) (further s)
+
+-- what the regions cost, and where they don't all agree what the cells of each further view cost besides
 abbrev pub views_cost : Objects → Name → Scale → Box3 → ℕ
-views_cost m dataset s part = sum_by (view_cost m dataset s part) (further s)
+views_cost m dataset s part = compare_cost m dataset s part + sum_by (cells_cost m dataset s part) (further s)
 
 -- a report of views with which nothing is wrong
 pub record IsViewsReport (m : Objects) (dataset : Name) (s : Scale) (part : Box3) (report : ViewsReport) : Type 0 where

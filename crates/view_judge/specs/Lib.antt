@@ -1,3 +1,4 @@
 pub mod Answers
 pub mod Further
 pub mod Judging
+pub mod Regions

@@ -3,10 +3,11 @@ ghost use Rattle.std.specs.Prelude.{◌≡◌, ◌≢◌, ◌+◌, ◌≤◌, �
 ghost use Rattle.vol_base.specs.Boxes.{Covers};
 ghost use Rattle.vol_base.specs.Causes.{HasCauseOf};
 ghost use Rattle.vol_base.specs.Outside.{HaveBytes, OnlyReads};
+ghost use Rattle.vol_spec.specs.Costs.{cost};
 ghost use Rattle.vol_spec.specs.Grid.{Inside};
 ghost use Rattle.vol_spec.specs.Raw.{raw_len};
 ghost use Rattle.size_laws.specs.Findings.{common};
-ghost use Rattle.view_judge.specs.Answers.{JudgesBox, of_first as first_of, of_view as view_of};
+ghost use Rattle.view_judge.specs.Answers.{ComparesBox, JudgesBox, of_first as first_of, of_view as view_of};
 ghost use Rattle.view_judge.specs.Further.{IsBeside};
 ghost use Rattle.view_judge.specs.Judging.{pair_cost};
 
@@ -41,8 +42,8 @@ fn of_view(number: u32, fault: CutFault) -> ViewFault
     }
 }
 
-// Why a box of the first view wasn't read.
-fn of_first(fault: CutFault) -> ViewFault
+/// Why a box of the first view wasn't read.
+pub(crate) fn of_first(fault: CutFault) -> ViewFault
     requires { fault ≢ CutFault.OutsideScale }
     ensures { result ≡ first_of fault }
 {
@@ -94,4 +95,36 @@ pub(crate) fn judge_box<S: Source>(
         Err(fault) => return Err(of_first(fault)),
     }
     compare_box(number, view, part, found, wanted)
+}
+
+/// Compares a box of a view with values, with room for its own: they are read, and these beside them. A fault of the view
+/// is told before a value that differs.
+pub(crate) fn compare_view<S: Source>(
+    number: u32,
+    view: &Scale,
+    reader: &mut Reader,
+    store: &mut S,
+    part: &Box3,
+    found: &mut [u8],
+    wanted: &[u8],
+) -> Result<(), ViewFault>
+    requires reads { reader.old.scale ≡ view.now }
+    requires inside { Inside view.now part.now }
+    requires found { length found.old ≡ raw_len part.now view.now.channels view.now.width }
+    requires wanted { length wanted.now ≡ raw_len part.now view.now.channels view.now.width }
+    requires limit { raw_len part.now view.now.channels view.now.width ≤ 2 ^ 30 }
+    requires bytes { IfSome (S.objects store.old) HaveBytes }
+    ensures judged { IfSome (S.objects store.old) (λ m.
+        ComparesBox result m reader.old.dataset number view.now part.now wanted.now) }
+    ensures reader { reader.new ≡ reader.old }
+    ensures asked { IfSome (S.objects store.old) (λ m.
+        S.asked store.new ≤ S.asked store.old + cost m reader.old.dataset view.now part.now) }
+    ensures kept { OnlyReads (S.objects store.old) (S.objects store.new) (S.draft store.old)
+        (S.draft store.new) }
+    ensures cause { HasCauseOf ViewFault.StoreFault (S.faults store.old) (S.faults store.new) result }
+{
+    match reader.cutout(store, part, found) {
+        Ok(()) => compare_box(number, view, part, found, wanted),
+        Err(fault) => Err(of_view(number, fault)),
+    }
 }

@@ -5,11 +5,11 @@ mod boxes;
 mod counts;
 mod fault;
 mod further;
+mod joint;
 mod judge;
+mod regions;
 mod report;
 mod stored;
-#[cfg(test)]
-mod tests;
 mod values;
 
 pub use counts::count_view_cells;

@@ -1,15 +1,14 @@
-//! Whether the chunk of a cell is stored.
-ghost use Rattle.std.specs.Prelude.{◌≡◌, ◌≤◌, length, IfErr, IfOk, IfSome, None};
-ghost use Rattle.std.specs.FinMap as map;
-ghost use Rattle.std.specs.Option.{is_some};
+//! Whether the chunks of cells are stored.
+ghost use Rattle.std.specs.Prelude.{◌≡◌, ◌+◌, ◌≤◌, ◌^◌, length, IfErr, IfOk, IfSome};
 ghost use Rattle.vol_base.specs.Causes.{HasCauseOf};
 ghost use Rattle.vol_base.specs.Outside.{HaveBytes, OnlyReads};
-ghost use Rattle.vol_spec.specs.CellNames.{cell_name};
-ghost use Rattle.vol_spec.specs.Grid.{IsCell};
+ghost use Rattle.vol_spec.specs.Grid.{cells_in, Inside, IsCell};
+ghost use Rattle.view_judge.specs.Answers.{AreNamed, is_named};
 
-use crate::ViewFault;
-use chunk_grid::object_name;
-use vol_base::{Name, Source};
+use crate::report::{NONE, add, one_cell};
+use crate::{ViewFault, ViewsReport};
+use chunk_grid::{cells, object_name, tell_cells};
+use vol_base::{Box3, Name, Source};
 use vol_spec::Scale;
 
 /// Whether there is an object of a cell's own.
@@ -22,7 +21,7 @@ pub(crate) fn find_stored<S: Source>(
     requires dataset { length dataset.now ≤ 200 }
     requires cell { IsCell view.now cell }
     ensures found { IfOk result (λ stored. IfSome (S.objects store.old) (λ m.
-        stored ≡ is_some (map.get m (cell_name dataset.now view.now cell)))) }
+        stored ≡ is_named m dataset.now view.now cell)) }
     ensures failed { IfErr result (λ fault. fault ≡ ViewFault.StoreFault) }
     // What the objects hold is bytes.
     ensures bytes { IfSome (S.objects store.old) HaveBytes }
@@ -35,4 +34,37 @@ pub(crate) fn find_stored<S: Source>(
         Ok(len) => Ok(len.is_some()),
         Err(_) => Err(ViewFault::StoreFault),
     }
+}
+
+/// How many cells of a view meet a part, of how many there is an object of their own, and of how many there is none.
+pub(crate) fn count_stored<S: Source>(
+    store: &mut S,
+    dataset: &Name,
+    view: &Scale,
+    part: &Box3,
+) -> Result<ViewsReport, ViewFault>
+    requires dataset { length dataset.now ≤ 200 }
+    requires inside { Inside view.now part.now }
+    requires few { length (cells_in view.now part.now) ≤ 2 ^ 22 }
+    ensures named { IfOk result (λ report. IfSome (S.objects store.old) (λ m.
+        AreNamed m dataset.now view.now (cells_in view.now part.now) report)) }
+    ensures cells { IfOk result (λ report. report.cells ≡ length (cells_in view.now part.now)) }
+    ensures both { IfOk result (λ report. report.stored + report.absent ≡ report.cells) }
+    ensures failed { IfErr result (λ fault. fault ≡ ViewFault.StoreFault) }
+    // What the objects hold is bytes.
+    ensures bytes { IfOk result (λ report. IfSome (S.objects store.old) HaveBytes) }
+    ensures asked { S.asked store.new ≡ S.asked store.old }
+    ensures kept { OnlyReads (S.objects store.old) (S.objects store.new) (S.draft store.old)
+        (S.draft store.new) }
+    ensures cause { HasCauseOf ViewFault.StoreFault (S.faults store.old) (S.faults store.new) result }
+{
+    let mut report = NONE;
+    tell_cells(view, part);
+    for cell in cells(view, part) {
+        match find_stored(store, dataset, view, cell) {
+            Ok(is_stored) => report = add(report, one_cell(is_stored)),
+            Err(fault) => return Err(fault),
+        }
+    }
+    Ok(report)
 }

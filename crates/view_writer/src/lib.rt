@@ -4,8 +4,6 @@
 mod chunks;
 mod done;
 mod pairs;
-#[cfg(test)]
-mod tests;
 mod view;
 mod views;
 

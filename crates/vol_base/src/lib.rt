@@ -12,8 +12,6 @@ mod memory;
 mod name;
 mod outlet;
 mod outside;
-#[cfg(test)]
-mod tests;
 mod whole;
 
 pub use boxes::{Box3, BoxFault};

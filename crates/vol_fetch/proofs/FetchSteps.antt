@@ -1,16 +1,16 @@
 -- What a fetch answers, by what a cutout of the store answers.
-use Rattle.std.proofs.Common.{◌≡◌, ◌≢◌, ◌∙◌, ◌⊎◌, ℕ, Option, Some, None, IfSome, Result, Ok, Err, inl, inr, ap, sym, refl, subst}
+use Rattle.std.proofs.Common.{◌≡◌, ◌≢◌, ◌∙◌, ℕ, Option, Some, IfSome, Result, Ok, Err, inl, inr, sym, subst, arith}
 use Rattle.std.specs.Prelude.{⊤}
-use Rattle.vol_base.specs.Causes.{Rose}
+use Rattle.vol_base.specs.Causes.{Rose, counted}
 use Rattle.vol_base.specs.Outside.{Objects}
 use Rattle.vol_base.specs.declared.boxes.Box3.{Box3}
 use Rattle.vol_spec.specs.Types.{Name}
-use Rattle.command_base.specs.Ending.{EndsWell, IsCaused, Refuses}
+use Rattle.command_base.specs.Ending.{EndsWell, IsCaused}
 use Rattle.command_base.specs.Outlets.{Outlets}
 use Rattle.command_base.specs.declared.status.Status.{Status}
 use Rattle.command_base.specs.declared.status.Status.TheVariants as status
-use Rattle.cutout_cmd.specs.Cutouts.{CanCut, CutsOut, TellsCut}
-use Rattle.cutout_cmd.specs.Refusals.{cutout_line, cutout_status}
+use Rattle.cutout_cmd.specs.Cutouts.{AsksFor, CanCut, CutsOut, TellsCut}
+use Rattle.cutout_cmd.specs.Refusals.{cutout_status}
 use Rattle.cutout_cmd.specs.declared.refusal.CutoutRefusal.{CutoutRefusal}
 use Rattle.cutout_cmd.specs.declared.refusal.CutoutRefusal.TheVariants as refused
 use Rattle.remote_store.specs.Shown.{count_at}
@@ -53,3 +53,12 @@ caused asked r s shown told0 told1 d d0 d1 f0 f1 out0 out1 err0 err1 e is same n
     subst (λ a. IfSome a (λ r. IsCaused s (count_at (shown r) d0 0) (count_at (shown r) d1 f1) out0 out1 err0 err1)) (sym e)
     (subst (λ t. IsCaused s (count_at t d0 0) (count_at t d1 f1) out0 out1 err0 err1) is
     (subst (λ f. IsCaused s (count_at told0 d0 f) (count_at told0 d1 f1) out0 out1 err0 err1) none (subst (λ n. IsCaused s (count_at told0 n f0) (count_at told0 d1 f1) out0 out1 err0 err1) dial (subst (λ t. IsCaused s (count_at told0 d f0) (count_at t d1 f1) out0 out1 err0 err1) same x))))
+
+-- how much a store was asked for that had been asked for nothing
+pub asked_for : (asked : Option Request) (r : Request) (shown : Request → Option Objects) (told : Option Objects) (before now0 now1 : ℕ) → asked ≡ Some r → told ≡ shown r → before ≡ 0 → now0 ≡ now1
+    → IfSome told (λ m. AsksFor m r.dataset r.key r.part (counted before) (counted now0)) → IfSome asked (λ r. IfSome (shown r) (λ m. AsksFor m r.dataset r.key r.part 0 (counted now1)))
+asked_for asked r shown told before now0 now1 e is none same x =
+    let nothing : counted before ≡ 0 = omega (arith, none) in
+    subst (λ a. IfSome a (λ r. IfSome (shown r) (λ m. AsksFor m r.dataset r.key r.part 0 (counted now1)))) (sym e)
+    (subst (λ t. IfSome t (λ m. AsksFor m r.dataset r.key r.part 0 (counted now1))) is
+    (subst (λ n. IfSome told (λ m. AsksFor m r.dataset r.key r.part n (counted now1))) nothing (subst (λ n. IfSome told (λ m. AsksFor m r.dataset r.key r.part (counted before) (counted n))) same x)))

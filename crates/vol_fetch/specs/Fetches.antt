@@ -1,8 +1,8 @@
 -- What `vol_fetch` answers (this project's).
-use Rattle.std.specs.Prelude.{◌≡◌, ◌⊎◌, ℕ, Option, Some, None, IfSome, IsSomeAnd}
+use Rattle.std.specs.Prelude.{◌≡◌, ◌⊎◌, ℕ, Option, Some, IfSome, IsSomeAnd}
 use Rattle.vol_base.specs.Causes.{Rose}
 use Rattle.vol_base.specs.Outside.{Objects}
-use Rattle.command_base.specs.Ending.{EndsWell, IsCaused}
+use Rattle.command_base.specs.Ending.{EndsWell}
 use Rattle.command_base.specs.Outlets.{Outlets, Silent, Tells}
 use Rattle.command_base.specs.Statuses.{fixed_line}
 use Rattle.command_base.specs.declared.status.Status.{Status}

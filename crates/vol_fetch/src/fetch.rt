@@ -1,10 +1,13 @@
 //! A cutout over HTTP.
-ghost use Rattle.std.specs.Prelude.{◌≡◌, ◌≢◌, ◌≤◌, ◌↔◌, IfNone, IfOk, IfSome, IsTrue, None, Some, length, map, string_bytes};
+ghost use Rattle.std.specs.Prelude.{◌≡◌, ◌≢◌, ◌≤◌, ◌↔◌, ◌+◌, ◌^◌, IfNone, IfOk, IfSome, IsTrue, None, Some, length, map, string_bytes, true};
 ghost use Rattle.command_base.specs.Ending.{IsCaused};
 ghost use Rattle.command_base.specs.Outlets.{outlets_of};
+ghost use Rattle.command_base.specs.Statuses.{refuses};
+ghost use Rattle.cutout_cmd.specs.Cutouts.{AsksFor};
 ghost use Rattle.remote_store.specs.Dials.{DialsOnly};
 ghost use Rattle.remote_store.specs.Hosts.{is_host};
 ghost use Rattle.remote_store.specs.Shown.{count_at, shown};
+ghost use Rattle.vol_base.specs.Causes.{counted};
 ghost use Rattle.vol_fetch.specs.Fetches.{Completes, Fetches, Untried};
 ghost use Rattle.vol_fetch.specs.Words.{fetch_line, first_word};
 
@@ -31,6 +34,7 @@ fn open_store<N: Aim, D: Dial + Drop>(
     ensures dial { IfOk result (λ r. r.dial.dial ≡ dial) }
     ensures dataset { IfOk result (λ r. r.dataset ≡ dataset.now) }
     ensures faults { IfOk result (λ r. r.faults ≡ 0) }
+    ensures asked { IfOk result (λ r. r.asked ≡ 0) }
 {
     let Ok(aim) = String::from_str(alloc, host) else {
         return Err(OutOfMemory);
@@ -68,6 +72,10 @@ fn fetch_from<N: Aim, D: Dial + Drop, O: Outlet, E: Outlet>(
         (count_at (shown r.dataset (D.peer dial)) (D.faults dial) 0)
         (count_at (shown r.dataset (D.peer dial)) (D.faults remote.dial) remote.faults)
         (O.faults out.old) (O.faults out.new) (E.faults err.old) (E.faults err.new))) }
+    ensures asked { IfSome result.1 (λ remote. IfSome (Some request.now) (λ r. IfSome (shown r.dataset (D.peer dial))
+        (λ m. AsksFor m r.dataset r.key r.part 0 (counted remote.asked)))) }
+    ensures unread { IfSome result.1 (λ remote. refuses result.0 ≡ true → counted remote.asked ≤ 2 ^ 20 + 1) }
+    ensures unprinted { refuses result.0 ≡ true → out.new ≡ out.old }
     ensures dialled { IfSome result.1 (λ remote. DialsOnly (first_word (map string_bytes words.now), request.now.port)
         (D.dialled dial) (D.dialled remote.dial)) }
 {
@@ -118,6 +126,11 @@ pub fn fetch<D: Dial + Drop, O: Outlet, E: Outlet>(
         (count_at (shown r.dataset (D.peer dial)) (D.faults dial) 0)
         (count_at (shown r.dataset (D.peer dial)) (D.faults remote.dial) remote.faults)
         (O.faults out.old) (O.faults out.new) (E.faults err.old) (E.faults err.new))) }
+    ensures asked { IfSome result.1 (λ remote. IfSome (fetch_line (map string_bytes words.now)) (λ r.
+        IfSome (shown r.dataset (D.peer dial)) (λ m. AsksFor m r.dataset r.key r.part 0 (counted remote.asked)))) }
+    // A scale or a box that is refused asks for the document alone, and calls no output.
+    ensures unread { IfSome result.1 (λ remote. refuses result.0 ≡ true → counted remote.asked ≤ 2 ^ 20 + 1) }
+    ensures unprinted { refuses result.0 ≡ true → out.new ≡ out.old }
     ensures dialled { IfSome result.1 (λ remote. IfSome (fetch_line (map string_bytes words.now)) (λ r.
         DialsOnly (first_word (map string_bytes words.now), r.port) (D.dialled dial) (D.dialled remote.dial))) }
 {

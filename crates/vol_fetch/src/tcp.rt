@@ -95,8 +95,10 @@ fn read_some<S: Read>(stream: &mut S, out: &mut [u8]) -> Result<usize, Failed>
     Err(Failed)
 }
 
-// Writes some bytes of a piece, at least one. What a signal broke off is tried again.
+// Writes some bytes of a piece, at least one. What a signal broke off is tried again. Where the peer broke the connection off,
+// as a server may one that idles, the piece counts as written, and the next read finds the end.
 fn write_some<S: Write>(stream: &mut S, piece: &[u8]) -> Result<usize, Failed>
+    requires { 0 < length piece.now }
     ensures { IfOk result (λ n. (0 < n) × (n ≤ length piece.now)) }
 {
     for _ in 0..u64::MAX {
@@ -104,6 +106,8 @@ fn write_some<S: Write>(stream: &mut S, piece: &[u8]) -> Result<usize, Failed>
             Ok(0) => return Err(Failed),
             Ok(n) => return Ok(n),
             Err(error) if error.kind() == ErrorKind::Interrupted => {}
+            Err(error) if error.kind() == ErrorKind::ConnectionReset => return Ok(piece.len()),
+            Err(error) if error.kind() == ErrorKind::BrokenPipe => return Ok(piece.len()),
             Err(_) => return Err(Failed),
         }
     }
@@ -121,6 +125,7 @@ fn read_end<S: Read>(stream: &mut Option<S>, out: &mut [u8]) -> Result<usize, Fa
 }
 
 fn write_end<S: Write>(stream: &mut Option<S>, piece: &[u8]) -> Result<usize, Failed>
+    requires some { 0 < length piece.now }
     ensures held { is_some stream.new ≡ is_some stream.old }
     ensures some { IfOk result (λ n. (0 < n) × (n ≤ length piece.now)) }
 {

@@ -123,7 +123,7 @@ fn peer_of(
     ))
 }
 
-// Whether a fetch ends as it should, or, where it writes a front of that, with a store fault.
+// Whether a fetch ends as it should, or, where it writes a front of that, with a store fault. It dials once.
 fn ends_well(
     rt: &impl Abort,
     alloc: Global,
@@ -138,7 +138,10 @@ fn ends_well(
     let mut out = outlet_of(alloc, 100, &[])?;
     let mut err = outlet_of(alloc, 100, &[])?;
     let (status, store) = fetch(alloc, &words, dial, &mut out, &mut err);
-    assert!(rt; store.is_some());
+    let Some(store) = store else {
+        return Err("no memory".into());
+    };
+    assert!(rt; store.dial.dials() <= 1, "at {part}");
     if status == Status::StoreFault {
         assert!(rt; err.written() == b"store fault\n".as_slice());
         assert!(rt; values.starts_with(out.written()), "at {part}");

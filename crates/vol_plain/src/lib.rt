@@ -7,8 +7,6 @@ mod numbers;
 mod positions;
 mod raw;
 mod segments;
-#[cfg(test)]
-mod tests;
 mod values;
 
 pub use positions::covers;

@@ -47,7 +47,7 @@ memory_answers (Some (Downsample dataset key to_key method workers)) before err 
 memory_answers (Some (Serve dataset port connections)) before err count unbound said = (
   (subst (IsBoundTo port) (sym unbound) tt, inl refl, said),
   in_told before.door.served _ (λ list noted. ([], noted ∙ ap Some (sym (nothing_behind list)), omega arith)),
-  in_told before.objects _ (λ m told. in_told before.door.served _ (λ list noted. ([], noted ∙ ap Some (sym (nothing_behind list)), inl (omega arith)))),
+  in_told before.objects _ (λ m told. in_told before.door.served _ (λ list noted. ([], noted ∙ ap Some (sym (nothing_behind list)), inl (omega arith), inr tt))),
 )
 
 pub memory_succeeds : (command : Option Command) (before : Seen) (err : Option Bytes) (count : ℕ) → Succeeds command NoMemory before (said_only before err count)

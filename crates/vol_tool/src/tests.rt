@@ -1,8 +1,7 @@
 //! Calls of the tool over stand-ins in memory: what each command is handed, and what one command leaves for the next. What
 //! each answers was worked out by hand; what a command says of more than that is tried in its crate.
-ghost use Rattle.std.specs.Prelude.{◌≡◌, IfOk, None};
-ghost use Rattle.vol_base.specs.Peers.{IsFresh};
 
+mod peers;
 mod sizes;
 
 use crate::top::run;
@@ -14,7 +13,7 @@ use std::process::Abort;
 use std::sync::Wait;
 use std::test::Fail;
 use std::thread::Threads;
-use vol_base::{FreeGate, MemoryDoor, MemoryFeed, MemoryLink, MemoryOutlet, MemoryStore};
+use vol_base::{FreeGate, MemoryFeed, MemoryOutlet, MemoryStore};
 use vol_shell::NoDoor;
 
 // A square of four voxels in one chunk, and the next scale; the same square in two chunks; and a row of four.
@@ -167,53 +166,6 @@ fn keeps_the_status_without_its_line(rt: HostRuntime) -> Result<(), Fail> {
     let status = call(&rt, alloc, "cutout", STREAM, &mut store, &mut out, &mut err)?;
     assert_eq!(rt; status.number(), 1);
     assert!(rt; err.written().is_empty());
-    Ok(())
-}
-
-const PART: &[u8] = b"GET /s/x HTTP/1.1\r\nHost: a\r\nRange: bytes=2-4\r\n\r\n";
-
-const REPLY: &[u8] =
-    b"HTTP/1.1 206 Partial Content\r\nContent-Length: 3\r\nContent-Type: application/octet-stream\r\nAccept-Ranges: bytes\r\nAccess-Control-Allow-Origin: *\r\nContent-Range: bytes 2-4/10\r\n\r\n234";
-
-// A peer's end.
-fn link_of(alloc: Global) -> Result<MemoryLink, Fail>
-    ensures { IfOk result IsFresh }
-{
-    match MemoryLink::new(alloc, PART.to_vec(alloc)?, 1024, 7, Vec::new(alloc)) {
-        Ok(link) => Ok(link),
-        Err(_) => Err("memory".into()),
-    }
-}
-
-// A door where one peer waits.
-fn door_of(alloc: Global) -> Result<MemoryDoor, Fail>
-    ensures { IfOk result (λ door. door.bound ≡ None) }
-{
-    let ends = Vec::from_array(alloc, [link_of(alloc)?])?;
-    match MemoryDoor::new(alloc, ends, Vec::new(alloc)) {
-        Ok(door) => Ok(door),
-        Err(_) => Err("memory".into()),
-    }
-}
-
-#[test]
-fn serves_a_peer(rt: HostRuntime) -> Result<(), Fail> {
-    let alloc = rt.alloc();
-    let mut store = store_of(alloc, &[("d/s/x", b"0123456789")], &[])?;
-    let mut feed = no_feed(alloc);
-    let mut out = outlet_of(alloc, 7, &[])?;
-    let mut err = outlet_of(alloc, 7, &[])?;
-    let mut door = door_of(alloc)?;
-    let words = words_of(alloc, "serve d --port=80 --connections=1")?;
-    let status = run(
-        &rt, alloc, &words, &mut store, &mut feed, &mut out, &mut err, &mut door, &FreeGate,
-    );
-    assert_eq!(rt; status.number(), 0);
-    assert!(rt; out.written() == b"listening 80\n".as_slice());
-    for end in door.served() {
-        assert!(rt; end.sent() == REPLY);
-    }
-    assert_eq!(rt; door.served().len(), 1);
     Ok(())
 }
 

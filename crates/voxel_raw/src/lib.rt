@@ -6,8 +6,6 @@ mod boxes;
 mod common;
 mod length;
 mod source;
-#[cfg(test)]
-mod tests;
 
 pub use boxes::{copy_box, fill_box};
 pub use common::common_part;

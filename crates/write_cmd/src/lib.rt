@@ -4,8 +4,6 @@
 mod lines;
 mod refusal;
 mod report;
-#[cfg(test)]
-mod tests;
 mod write;
 
 pub use lines::write_stream_line;

@@ -9,8 +9,6 @@ mod jobs;
 mod pairs;
 mod plan;
 mod stream;
-#[cfg(test)]
-mod tests;
 mod writes;
 
 pub use chunks::{Chunks, PrepareFault};

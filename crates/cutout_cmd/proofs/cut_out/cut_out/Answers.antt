@@ -1,4 +1,4 @@
-use Rattle.std.proofs.Common.{◌≡◌, ◌≤◌, ◌+◌, ◌^◌, true, arith}
+use Rattle.std.proofs.Common.{◌≡◌, ◌≤◌, ◌+◌, ◌^◌, true, ap, arith}
 use Rattle.command_base.proofs.Choices.{if_err}
 use Rattle.command_base.specs.Statuses.{refuses}
 use Rattle.cutout_cmd.specs.Refusals.{cutout_status}
@@ -16,6 +16,6 @@ returns-clause-asked g c =
 
 pub returns-clause-unread : goal.returns-clause-unread
 returns-clause-unread g c =
-    if_err c.cut_scale.result (λ refusal. refuses (cutout_status refusal) ≡ true → g.S.Source.asked c.cut_scale.new.store ≡ g.S.Source.asked c.read_scale.new.store)
+    if_err c.cut_scale.result (λ refusal. refuses (cutout_status refusal) ≡ true → c.cut_scale.new.store ≡ c.read_scale.new.store)
     (λ refusal. refuses (cutout_status refusal) ≡ true → g.S.Source.asked c.cut_scale.new.store ≤ g.S.Source.asked c.args.store.now + (2 ^ 20 + 1))
-    (λ refusal same is. let alone = same is in omega (arith, alone, c.read_scale.ensures.asked)) c.cut_scale.ensures.unread
+    (λ refusal same is. let alone = ap g.S.Source.asked (same is) in omega (arith, alone, c.read_scale.ensures.asked)) c.cut_scale.ensures.unasked

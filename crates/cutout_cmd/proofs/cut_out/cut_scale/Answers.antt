@@ -15,8 +15,8 @@ returns-clause-asked g c =
     (subst (λ s. IfSome (g.S.Source.objects c.args.store.now) (λ m. g.S.Source.asked c.stream_part.new.store ≤ g.S.Source.asked c.args.store.now + parts_cost m c.in_ok-reader.reader.dataset s c.args.part.now)) c.in_ok-reader.ensures.scale
     c.stream_part.ensures.asked)
 
-pub returns-clause-unread : goal.returns-clause-unread
-returns-clause-unread g c = never_refused c.stream_part.result (g.S.Source.asked c.stream_part.new.store ≡ g.S.Source.asked c.args.store.now) c.stream_part.ensures.broken
+pub returns-clause-unasked : goal.returns-clause-unasked
+returns-clause-unasked g c = never_refused c.stream_part.result (c.stream_part.new.store ≡ c.args.store.now) c.stream_part.ensures.broken
 
 pub returns-clause-unprinted : goal.returns-clause-unprinted
 returns-clause-unprinted g c = never_refused c.stream_part.result (c.stream_part.new.out ≡ c.args.out.now) c.stream_part.ensures.broken

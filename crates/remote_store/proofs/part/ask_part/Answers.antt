@@ -1,5 +1,5 @@
 use Rattle.std.proofs.Common.{◌≡◌, ◌≤◌, ◌∙◌, ◌++◌, true, false, Ok, Some, None, take, length, length-take, ap, arith}
-use Rattle.remote_store.proofs.HeardParts.{begun_some}
+use Rattle.remote_store.proofs.HeardParts.{begun_some, heard_there, kept_behind}
 use Rattle.remote_store.proofs.ToldAsks.{has_some, part_quiet, part_told, part_untold, replied_begun, replied_cut, replied_err, replied_failed, replied_whole}
 use Rattle.remote_store.proofs.part.ask_part.Goals as goal
 
@@ -61,3 +61,21 @@ pub returns-in-Err-finish_part-clause-replied : goal.returns-in-Err-finish_part-
 returns-in-Err-finish_part-clause-replied g c =
     let fin = c.finish_part.ensures.finished in
     (take c.start.new.there c.start.new.received ++ fin.0, replied_err fin.1 _ _ _ c.start.ensures.received)
+
+pub returns-in-Ok-true-clause-goes_on : goal.returns-in-Ok-true-clause-goes_on
+returns-in-Ok-true-clause-goes_on g c = λ dataset key asks on quiet served.
+    c.finish_part.ensures.same.same_dialled ∙ c.in-Ok-Some.ensures.goes_on dataset key asks on quiet served
+
+pub returns-in-Ok-true-clause-kept_end : goal.returns-in-Ok-true-clause-kept_end
+returns-in-Ok-true-clause-kept_end g c =
+    let is : c.in-Ok-Some.field-0 ≡ Some c.in-Ok-Some.begun = cc in
+    kept_behind (begun_some c.in-Ok-Some.field-0 is c.in-Ok-Some.ensures.begun).heard
+
+pub returns-in-Ok-false-clause-again : goal.returns-in-Ok-false-clause-again
+returns-in-Ok-false-clause-again g c = λ none nothing.
+    let is : c.in-Ok-Some.field-0 ≡ Some c.in-Ok-Some.begun = cc in
+    absurd (heard_there c.start.new.received c.start.new.there (begun_some c.in-Ok-Some.field-0 is c.in-Ok-Some.ensures.begun).heard nothing)
+
+pub returns-in-Ok-false-clause-goes_on : goal.returns-in-Ok-false-clause-goes_on
+returns-in-Ok-false-clause-goes_on g c = λ dataset key asks on quiet served.
+    c.finish_part.ensures.same.same_dialled ∙ c.in-Ok-Some.ensures.goes_on dataset key asks on quiet served

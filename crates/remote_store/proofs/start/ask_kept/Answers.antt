@@ -1,4 +1,4 @@
-use Rattle.std.proofs.Common.{◌≡◌, None, IsTrue, rules}
+use Rattle.std.proofs.Common.{◌≡◌, None, IsTrue, refl, rules}
 use Rattle.remote_store.proofs.ToldAsks.{has_none}
 use Rattle.remote_store.proofs.start.ask_kept.Goals as goal
 
@@ -7,3 +7,9 @@ returns-else-there-eq0-clause-told g c = λ dataset host key port asks quiet.
     let is : c.in-Ok-None.field-0 ≡ None = cc in
     let on : IsTrue c.args.kept = search rules in
     has_none c.in-Ok-None.field-0 is (c.in-Ok-None.ensures.told dataset host key port asks (quiet on))
+
+pub returns-then-there-eq0-clause-goes_on : goal.returns-then-there-eq0-clause-goes_on
+returns-then-there-eq0-clause-goes_on g c = λ none dataset host key port asks on quiet served.
+    let is : c.in-Ok-None.field-0 ≡ None = cc in
+    let begun = has_none c.in-Ok-None.field-0 is (c.in-Ok-None.ensures.told dataset host key port asks quiet) in
+    (begun served.0 served.1 served.2).0 refl

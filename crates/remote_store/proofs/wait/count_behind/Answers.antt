@@ -1,4 +1,4 @@
-use Rattle.std.proofs.Common.{rules, refl, arith}
+use Rattle.std.proofs.Common.{arith}
 use Rattle.remote_store.proofs.HeardParts.{counted_head, counted_never, counted_partial}
 use Rattle.remote_store.proofs.wait.count_behind.Goals as goal
 

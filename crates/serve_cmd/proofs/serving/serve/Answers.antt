@@ -8,13 +8,13 @@ pub returns-in-Ok-clause-shows : goal.returns-in-Ok-clause-shows
 returns-in-Ok-clause-shows g c =
     all_shown (g.S.Source.objects c.args.store.now) c.args.dataset.now (doorway g.D.Door.bound g.D.Door.accepted g.D.Door.served c.args.door.now)
     (doorway g.D.Door.bound g.D.Door.accepted g.D.Door.served c.announce.new.door) (doorway g.D.Door.bound g.D.Door.accepted g.D.Door.served c.serve_ends.new.door)
-    (g.S.Source.faults c.args.store.now) (g.S.Source.faults c.serve_ends.new.store) c.announce.ensures.served c.announce.ensures.accepted c.from.result c.in-Ok.ensures.served
+    (g.S.Source.faults c.args.store.now) (g.S.Source.faults c.serve_ends.new.store) c.announce.ensures.served c.announce.ensures.accepted c.tell_replies.ensures.few c.from.result c.in-Ok.ensures.served
 
 pub returns-in-Err-DoorFault-clause-shows : goal.returns-in-Err-DoorFault-clause-shows
 returns-in-Err-DoorFault-clause-shows g c =
     some_shown (g.S.Source.objects c.args.store.now) c.args.dataset.now (doorway g.D.Door.bound g.D.Door.accepted g.D.Door.served c.args.door.now)
     (doorway g.D.Door.bound g.D.Door.accepted g.D.Door.served c.announce.new.door) (doorway g.D.Door.bound g.D.Door.accepted g.D.Door.served c.serve_ends.new.door)
-    (g.S.Source.faults c.args.store.now) (g.S.Source.faults c.serve_ends.new.store) c.announce.ensures.served c.announce.ensures.accepted c.in-Err-DoorFault.field-0 refusal.DoorFault c.from.result c.in-Err-DoorFault.field-0-is
+    (g.S.Source.faults c.args.store.now) (g.S.Source.faults c.serve_ends.new.store) c.announce.ensures.served c.announce.ensures.accepted c.tell_replies.ensures.few c.in-Err-DoorFault.field-0 refusal.DoorFault c.from.result c.in-Err-DoorFault.field-0-is
     c.in-Err-DoorFault.ensures.cut
 
 pub returns-in-Err-DoorFault-clause-given : goal.returns-in-Err-DoorFault-clause-given
@@ -29,7 +29,7 @@ pub returns-in-Err-OutOfMemory-clause-shows : goal.returns-in-Err-OutOfMemory-cl
 returns-in-Err-OutOfMemory-clause-shows g c =
     some_shown (g.S.Source.objects c.args.store.now) c.args.dataset.now (doorway g.D.Door.bound g.D.Door.accepted g.D.Door.served c.args.door.now)
     (doorway g.D.Door.bound g.D.Door.accepted g.D.Door.served c.announce.new.door) (doorway g.D.Door.bound g.D.Door.accepted g.D.Door.served c.serve_ends.new.door)
-    (g.S.Source.faults c.args.store.now) (g.S.Source.faults c.serve_ends.new.store) c.announce.ensures.served c.announce.ensures.accepted c.in-Err-OutOfMemory.field-0 refusal.OutOfMemory c.from.result c.in-Err-OutOfMemory.field-0-is
+    (g.S.Source.faults c.args.store.now) (g.S.Source.faults c.serve_ends.new.store) c.announce.ensures.served c.announce.ensures.accepted c.tell_replies.ensures.few c.in-Err-OutOfMemory.field-0 refusal.OutOfMemory c.from.result c.in-Err-OutOfMemory.field-0-is
     c.in-Err-OutOfMemory.ensures.cut
 
 pub returns-in-Err-OutOfMemory-clause-given : goal.returns-in-Err-OutOfMemory-clause-given

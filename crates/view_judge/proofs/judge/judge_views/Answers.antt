@@ -1,11 +1,11 @@
-use Rattle.std.proofs.Common.{set, ◌≤◌, ◌∙◌, ◌+◌, Err, Ok, arith, ap, refl}
+use Rattle.std.proofs.Common.{set, ◌≤◌, ◌∙◌, ◌+◌, Err, Ok, arith, ap, length, refl}
 use Rattle.std.proofs.lemmas.List.{set-get_or}
 use Rattle.vol_spec.proofs.Told.{in_told}
 use Rattle.vol_spec.specs.Grid.{cells_in}
 use Rattle.vol_spec.specs.Verdicts.{Sound}
 use Rattle.view_judge.specs.Answers.{JudgesView}
-use Rattle.view_judge.specs.Judging.{FindsViews, view_cost}
-use Rattle.view_judge.proofs.ViewSteps.{asked_all, asked_more, asked_next, cells_all, cells_more, cells_within, next_below, next_beside, next_cells, next_dataset, next_few, next_inside, next_is, opened_length, view_stops, views_all, views_few, views_more}
+use Rattle.view_judge.specs.Judging.{FindsViews, cells_cost}
+use Rattle.view_judge.proofs.ViewSteps.{asked_all, asked_more, asked_next, cells_all, cells_more, cells_within, next_below, next_beside, next_cells, next_dataset, next_few, next_inside, next_is, next_room, opened_length, view_stops, views_all, views_few, views_more}
 use Rattle.view_judge.proofs.WalkSteps.{IsSum, both_add, moved, moved_told}
 use Rattle.view_judge.proofs.judge.judge_views.Goals as goal
 
@@ -21,17 +21,29 @@ overflow_add-k g c =
     let few = views_few c.args.first.now.scale c.args.part.now c.requires.inside c.requires.few in
     omega (arith, below, few)
 
-pub judge-requires-clause-beside : goal.judge-requires-clause-beside
-judge-requires-clause-beside g c = next_beside c.args.first.now c.loop-k.first c.loop-k.further c.loop-k.k c.index-further-k.result c.args.part.now c.loop-k.invariant.first (c.loop-k.invariant.views ∙ c.requires.views) c.loop-k-test.true
+pub judge_cells-requires-clause-beside : goal.judge_cells-requires-clause-beside
+judge_cells-requires-clause-beside g c = next_beside c.args.first.now c.loop-k.first c.loop-k.further c.loop-k.k c.index-further-k.result c.args.part.now c.loop-k.invariant.first (c.loop-k.invariant.views ∙ c.requires.views) c.loop-k-test.true
 
-pub judge-requires-clause-dataset : goal.judge-requires-clause-dataset
-judge-requires-clause-dataset g c = next_dataset c.args.first.now c.loop-k.first c.loop-k.further c.loop-k.k c.index-further-k.result c.args.part.now c.loop-k.invariant.first (c.loop-k.invariant.views ∙ c.requires.views) c.loop-k-test.true
+pub judge_cells-requires-clause-dataset : goal.judge_cells-requires-clause-dataset
+judge_cells-requires-clause-dataset g c = next_dataset c.args.first.now c.loop-k.first c.loop-k.further c.loop-k.k c.index-further-k.result c.args.part.now c.loop-k.invariant.first (c.loop-k.invariant.views ∙ c.requires.views) c.loop-k-test.true
 
-pub judge-requires-clause-inside : goal.judge-requires-clause-inside
-judge-requires-clause-inside g c = next_inside c.args.first.now c.loop-k.first c.loop-k.further c.loop-k.k c.index-further-k.result c.args.part.now c.loop-k.invariant.first (c.loop-k.invariant.views ∙ c.requires.views) c.loop-k-test.true c.requires.inside
+pub judge_cells-requires-clause-inside : goal.judge_cells-requires-clause-inside
+judge_cells-requires-clause-inside g c = next_inside c.args.first.now c.loop-k.first c.loop-k.further c.loop-k.k c.index-further-k.result c.args.part.now c.loop-k.invariant.first (c.loop-k.invariant.views ∙ c.requires.views) c.loop-k-test.true c.requires.inside
 
-pub judge-requires-clause-few : goal.judge-requires-clause-few
-judge-requires-clause-few g c = next_few c.args.first.now c.loop-k.first c.loop-k.further c.loop-k.k c.index-further-k.result c.args.part.now c.loop-k.invariant.first (c.loop-k.invariant.views ∙ c.requires.views) c.loop-k-test.true c.requires.few
+pub judge_cells-requires-clause-few : goal.judge_cells-requires-clause-few
+judge_cells-requires-clause-few g c = next_few c.args.first.now c.loop-k.first c.loop-k.further c.loop-k.k c.index-further-k.result c.args.part.now c.loop-k.invariant.first (c.loop-k.invariant.views ∙ c.requires.views) c.loop-k-test.true c.requires.few
+
+pub judge_cells-requires-clause-found : goal.judge_cells-requires-clause-found
+judge_cells-requires-clause-found g c =
+    let room = next_room c.args.first.now c.loop-k.first c.loop-k.further c.loop-k.k c.index-further-k.result c.args.part.now c.loop-k.invariant.first (c.loop-k.invariant.views ∙ c.requires.views) c.loop-k-test.true (length c.args.found.now) c.requires.found in
+    let same = c.loop-k.auto.found in
+    omega (arith, room, same)
+
+pub judge_cells-requires-clause-wanted : goal.judge_cells-requires-clause-wanted
+judge_cells-requires-clause-wanted g c =
+    let room = next_room c.args.first.now c.loop-k.first c.loop-k.further c.loop-k.k c.index-further-k.result c.args.part.now c.loop-k.invariant.first (c.loop-k.invariant.views ∙ c.requires.views) c.loop-k-test.true (length c.args.wanted.now) c.requires.wanted in
+    let same = c.loop-k.auto.wanted in
+    omega (arith, room, same)
 
 pub add-report-requires-clause-cells : goal.add-report-requires-clause-cells
 add-report-requires-clause-cells g c =
@@ -72,14 +84,14 @@ loop-k-preserved g c =
       agree = λ m told. views_more m c.args.first.now.dataset c.args.first.now.scale c.args.part.now c.loop-k.k c.loop-k.report c.in-Ok.more c.add-report.result below sum (c.loop-k.invariant.agree m told)
           (moved (λ m f r. JudgesView (Ok c.in-Ok.more) m f.dataset f.scale (c.loop-k.k + 1) r.scale c.args.part.now (cells_in r.scale c.args.part.now)) (g.S.Source.objects c.args.store.now) (g.S.Source.objects c.loop-k.store) c.loop-k.first _ c.args.first.now _ c.loop-k.invariant.kept.same_objects c.loop-k.invariant.first (next_is c.args.first.now c.loop-k.first c.loop-k.further c.loop-k.k c.index-further-k.result c.args.part.now c.loop-k.invariant.first (c.loop-k.invariant.views ∙ c.requires.views) c.loop-k-test.true)
           c.in-Ok.ensures.judged m told);
-      views = ap (λ x. set c.loop-k.further c.loop-k.k x) c.judge.ensures.same ∙ set-get_or c.loop-k.further c.loop-k.k c.index-further-k.result ∙ c.loop-k.invariant.views;
-      first = c.judge.ensures.first ∙ c.loop-k.invariant.first;
-      asked = asked_more (g.S.Source.objects c.args.store.now) c.args.first.now.dataset c.args.first.now.scale c.args.part.now (g.S.Source.objects c.args.store.now) c.loop-k.k _ _ _ below refl c.loop-k.invariant.asked
-          (moved_told (λ m f r. g.S.Source.asked c.judge.new.store ≤ g.S.Source.asked c.loop-k.store + view_cost m f.dataset f.scale c.args.part.now r.scale) (g.S.Source.objects c.args.store.now) (g.S.Source.objects c.loop-k.store) c.loop-k.first _ c.args.first.now _ c.loop-k.invariant.kept.same_objects c.loop-k.invariant.first (next_is c.args.first.now c.loop-k.first c.loop-k.further c.loop-k.k c.index-further-k.result c.args.part.now c.loop-k.invariant.first (c.loop-k.invariant.views ∙ c.requires.views) c.loop-k-test.true)
-          c.judge.ensures.asked);
+      views = ap (λ x. set c.loop-k.further c.loop-k.k x) c.judge_cells.ensures.same ∙ set-get_or c.loop-k.further c.loop-k.k c.index-further-k.result ∙ c.loop-k.invariant.views;
+      first = c.judge_cells.ensures.first ∙ c.loop-k.invariant.first;
+      asked = asked_more (g.S.Source.objects c.args.store.now) c.args.first.now.scale (λ m. cells_cost m c.args.first.now.dataset c.args.first.now.scale c.args.part.now) (g.S.Source.objects c.args.store.now) c.loop-k.k _ _ _ below refl c.loop-k.invariant.asked
+          (moved_told (λ m f r. g.S.Source.asked c.judge_cells.new.store ≤ g.S.Source.asked c.loop-k.store + cells_cost m f.dataset f.scale c.args.part.now r.scale) (g.S.Source.objects c.args.store.now) (g.S.Source.objects c.loop-k.store) c.loop-k.first _ c.args.first.now _ c.loop-k.invariant.kept.same_objects c.loop-k.invariant.first (next_is c.args.first.now c.loop-k.first c.loop-k.further c.loop-k.k c.index-further-k.result c.args.part.now c.loop-k.invariant.first (c.loop-k.invariant.views ∙ c.requires.views) c.loop-k-test.true)
+          c.judge_cells.ensures.asked);
       kept = record {
-        same_objects = c.judge.ensures.kept.same_objects ∙ c.loop-k.invariant.kept.same_objects;
-        same_draft = c.judge.ensures.kept.same_draft ∙ c.loop-k.invariant.kept.same_draft;
+        same_objects = c.judge_cells.ensures.kept.same_objects ∙ c.loop-k.invariant.kept.same_objects;
+        same_draft = c.judge_cells.ensures.kept.same_draft ∙ c.loop-k.invariant.kept.same_draft;
       };
       later = c.in-Ok.ensures.cause.stands ∙ c.loop-k.invariant.later;
     }
@@ -92,9 +104,9 @@ returns-in-Err-clause-found g c =
 
 pub returns-in-Err-clause-asked : goal.returns-in-Err-clause-asked
 returns-in-Err-clause-asked g c =
-    asked_next (g.S.Source.objects c.args.store.now) c.args.first.now.dataset c.args.first.now.scale c.args.part.now (g.S.Source.objects c.args.store.now) c.loop-k.k _ _ _ (next_below c.args.first.now c.loop-k.first c.loop-k.further c.loop-k.k c.index-further-k.result c.args.part.now c.loop-k.invariant.first (c.loop-k.invariant.views ∙ c.requires.views) c.loop-k-test.true) refl c.loop-k.invariant.asked
-    (moved_told (λ m f r. g.S.Source.asked c.judge.new.store ≤ g.S.Source.asked c.loop-k.store + view_cost m f.dataset f.scale c.args.part.now r.scale) (g.S.Source.objects c.args.store.now) (g.S.Source.objects c.loop-k.store) c.loop-k.first _ c.args.first.now _ c.loop-k.invariant.kept.same_objects c.loop-k.invariant.first (next_is c.args.first.now c.loop-k.first c.loop-k.further c.loop-k.k c.index-further-k.result c.args.part.now c.loop-k.invariant.first (c.loop-k.invariant.views ∙ c.requires.views) c.loop-k-test.true)
-    c.judge.ensures.asked)
+    asked_next (g.S.Source.objects c.args.store.now) c.args.first.now.scale (λ m. cells_cost m c.args.first.now.dataset c.args.first.now.scale c.args.part.now) (g.S.Source.objects c.args.store.now) c.loop-k.k _ _ _ (next_below c.args.first.now c.loop-k.first c.loop-k.further c.loop-k.k c.index-further-k.result c.args.part.now c.loop-k.invariant.first (c.loop-k.invariant.views ∙ c.requires.views) c.loop-k-test.true) refl c.loop-k.invariant.asked
+    (moved_told (λ m f r. g.S.Source.asked c.judge_cells.new.store ≤ g.S.Source.asked c.loop-k.store + cells_cost m f.dataset f.scale c.args.part.now r.scale) (g.S.Source.objects c.args.store.now) (g.S.Source.objects c.loop-k.store) c.loop-k.first _ c.args.first.now _ c.loop-k.invariant.kept.same_objects c.loop-k.invariant.first (next_is c.args.first.now c.loop-k.first c.loop-k.further c.loop-k.k c.index-further-k.result c.args.part.now c.loop-k.invariant.first (c.loop-k.invariant.views ∙ c.requires.views) c.loop-k-test.true)
+    c.judge_cells.ensures.asked)
 
 pub returns-clause-found : goal.returns-clause-found
 returns-clause-found g c =
@@ -107,4 +119,4 @@ returns-clause-cells g c =
     (let n = opened_length c.args.first.now.dataset c.args.first.now.scale c.loop-k.further (c.loop-k.invariant.views ∙ c.requires.views) in let h = c.loop-k-test.false in omega (arith, n, h)) c.loop-k.invariant.cells
 
 pub returns-clause-asked : goal.returns-clause-asked
-returns-clause-asked g c = asked_all (g.S.Source.objects c.args.store.now) c.args.first.now.dataset c.args.first.now.scale c.args.part.now c.loop-k.k _ _ c.loop-k.invariant.asked
+returns-clause-asked g c = asked_all (g.S.Source.objects c.args.store.now) c.args.first.now.scale (λ m. cells_cost m c.args.first.now.dataset c.args.first.now.scale c.args.part.now) c.loop-k.k _ _ c.loop-k.invariant.asked

@@ -1,6 +1,7 @@
-use Rattle.std.proofs.Common.{◌≡◌, Some, ap, refl, sym}
+use Rattle.std.proofs.Common.{◌≡◌, ◌+◌, ◌≤◌, ◌^◌, Some, ap, arith, refl, sym}
 use Rattle.remote_store.specs.Shown.{shown}
-use Rattle.vol_fetch.proofs.FetchSteps.{caused, completed, fetched, not_usage}
+use Rattle.vol_base.specs.Causes.{counted}
+use Rattle.vol_fetch.proofs.FetchSteps.{asked_for, caused, completed, fetched, not_usage}
 use Rattle.vol_fetch.proofs.fetch.fetch_from.Goals as goal
 
 pub returns-clause-used : goal.returns-clause-used
@@ -36,3 +37,19 @@ returns-clause-causes g c =
     (g.D.Dial.faults s.dial.dial) (g.D.Dial.faults c.args.dial) (g.D.Dial.faults n.dial.dial) s.faults n.faults _ _ _ _ refl told c.run_cutout-status.ensures.kept.same_objects c.in-Ok.ensures.faults (ap g.D.Dial.faults c.in-Ok.ensures.dial)
     c.run_cutout-status.ensures.causes in
     rw (sym now) (rw (sym own) all)
+
+pub returns-clause-asked : goal.returns-clause-asked
+returns-clause-asked g c =
+    let r = c.args.request.now in
+    let s = c.in-Ok.store in
+    let n = c.run_cutout-status.new.store in
+    let told : shown s.dataset (g.D.Dial.peer s.dial.dial) ≡ shown r.dataset (g.D.Dial.peer c.args.dial) = λ i. shown (c.in-Ok.ensures.dataset i) (g.D.Dial.peer (c.in-Ok.ensures.dial i)) in
+    asked_for (Some r) r (λ r. shown r.dataset (g.D.Dial.peer c.args.dial)) (shown s.dataset (g.D.Dial.peer s.dial.dial)) s.asked n.asked c.release.result.asked refl told c.in-Ok.ensures.asked (sym c.release.ensures.asked) c.run_cutout-status.ensures.asked
+
+pub returns-clause-unread : goal.returns-clause-unread
+returns-clause-unread g c = λ refused.
+    let s = c.in-Ok.store in
+    let n = c.run_cutout-status.new.store in
+    let now : counted n.asked ≡ counted c.release.result.asked = ap counted (sym c.release.ensures.asked) in
+    let most : counted n.asked ≤ counted s.asked + (2 ^ 20 + 1) = c.run_cutout-status.ensures.unread refused in
+    omega (arith, c.in-Ok.ensures.asked, now, most)

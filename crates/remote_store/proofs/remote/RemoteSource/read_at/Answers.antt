@@ -2,6 +2,7 @@ use Rattle.std.proofs.Common.{◌≡◌, Some, None, length, subst, sym, arith, 
 use Rattle.std.specs.FinMap as map
 use Rattle.vol_base.specs.Outside.{Reads}
 use Rattle.remote_store.specs.Shown.{key_in, shown}
+use Rattle.remote_store.proofs.HeardParts.{kept_nowhere}
 use Rattle.remote_store.proofs.KeySteps.{key_parts}
 use Rattle.remote_store.proofs.Looked.{if_shown, no_bytes, shown_bytes}
 use Rattle.remote_store.specs.Remotes.{IsPlaced, IsRead, IsSame, wanted_of}
@@ -86,3 +87,6 @@ returns-in-Err-ask_part-clause-judged g c =
     if_any (key_in c.args.self.now.dataset c.args.name.now)
     (judged_failed _ _ _ _ _ _ _ _ (Part c.args.at (length c.args.out.now)) (wanted_of c.args.at (length c.args.out.now)) (IsPlaced c.args.at c.args.out.now c.ask_part.new.out) (IsRead c.args.at c.args.out.now c.ask_part.new.out) _
     (wanted_some [] 0 None None 0 0 0 0 c.args.at (length c.args.out.now) some) c.in-Err-ask_part.ensures.judged)
+
+pub returns-in-None-clause-kept_end : goal.returns-in-None-clause-kept_end
+returns-in-None-clause-kept_end g c = kept_nowhere c.args.self.now.kept

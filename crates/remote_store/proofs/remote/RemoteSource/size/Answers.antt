@@ -1,5 +1,6 @@
 use Rattle.std.proofs.Common.{◌≡◌, ◌∙◌, Some, None, refl}
 use Rattle.remote_store.specs.Shown.{key_in, shown}
+use Rattle.remote_store.proofs.HeardParts.{kept_nowhere}
 use Rattle.remote_store.proofs.KeySteps.{key_parts}
 use Rattle.remote_store.proofs.Looked.{if_shown, no_length, shown_bytes}
 use Rattle.remote_store.specs.Remotes.{IsSame, IsSize}
@@ -46,3 +47,6 @@ returns-in-Ok-clause-judged g c = if_any (key_in c.args.self.now.dataset c.args.
 
 pub returns-in-Err-clause-judged : goal.returns-in-Err-clause-judged
 returns-in-Err-clause-judged g c = if_any (key_in c.args.self.now.dataset c.args.name.now) (judged_failed _ _ _ _ _ _ _ _ Length Length IsSame IsSize _ refl c.in-Err.ensures.judged)
+
+pub returns-in-None-clause-kept_end : goal.returns-in-None-clause-kept_end
+returns-in-None-clause-kept_end g c = kept_nowhere c.args.self.now.kept

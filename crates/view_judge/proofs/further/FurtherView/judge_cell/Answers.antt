@@ -8,6 +8,7 @@ use Rattle.cutout.specs.Opened.{Opened}
 use Rattle.size_laws.specs.Findings.{common}
 use Rattle.vol_spec.specs.CellNames.{cell_name}
 use Rattle.view_judge.specs.Answers.{JudgesBox}
+use Rattle.view_judge.specs.Further.{HasRoom}
 use Rattle.view_judge.specs.Judging.{pair_cost}
 use Rattle.view_judge.proofs.CellSteps.{asked_cell, box_inside, cause_again, held_again, is_short, refused_told, sound_told, stood_again}
 use Rattle.view_judge.proofs.further.FurtherView.judge_cell.Goals as goal
@@ -33,9 +34,8 @@ judge_box-requires-clause-found g c =
     let meets : Meets c.self.inside.scale c.args.cell c.args.part.now = subst (λ (v : Scale). Meets v c.args.cell c.args.part.now) (sym same) c.requires.meets in
     let short = is_short c.self.inside.scale c.args.part.now c.args.cell c.shared_box-shared.result meets (c.shared_box-shared.ensures ∙ ap (λ b. common b c.args.part.now) c.cell_box.ensures.positions) in
     let room = short.room in
-    let all = ap length c.room-found.ensures.value in
-    let held = c.self.invariant.room in
-    omega (arith, room, all, held)
+    let held : HasRoom c.self.inside.scale (length c.args.found.now) = subst (λ (v : Scale). HasRoom v (length c.args.found.now)) (sym same) c.requires.found in
+    omega (arith, room, held)
 
 pub judge_box-requires-clause-wanted : goal.judge_box-requires-clause-wanted
 judge_box-requires-clause-wanted g c =
@@ -43,9 +43,8 @@ judge_box-requires-clause-wanted g c =
     let meets : Meets c.self.inside.scale c.args.cell c.args.part.now = subst (λ (v : Scale). Meets v c.args.cell c.args.part.now) (sym same) c.requires.meets in
     let short = is_short c.self.inside.scale c.args.part.now c.args.cell c.shared_box-shared.result meets (c.shared_box-shared.ensures ∙ ap (λ b. common b c.args.part.now) c.cell_box.ensures.positions) in
     let room = short.room in
-    let all = ap length c.room-wanted.ensures.value in
-    let held = c.self.invariant.beside in
-    omega (arith, room, all, held)
+    let held : HasRoom c.self.inside.scale (length c.args.wanted.now) = subst (λ (v : Scale). HasRoom v (length c.args.wanted.now)) (sym same) c.requires.wanted in
+    omega (arith, room, held)
 
 pub judge_box-requires-clause-limit : goal.judge_box-requires-clause-limit
 judge_box-requires-clause-limit g c =
@@ -106,11 +105,11 @@ returns-clause-asked g c =
 
 pub invariant_of-self : goal.invariant_of-self
 invariant_of-self g c =
-    held_again c.self.inside.dataset c.self.inside.scale c.self.inside.reader c.judge_box.new.reader c.self.inside.found c.self.inside.wanted c.judge_box.new.found c.judge_box.new.wanted c.self.invariant c.judge_box.ensures.reader
+    held_again c.self.inside.dataset c.self.inside.scale c.self.inside.reader c.judge_box.new.reader c.self.invariant c.judge_box.ensures.reader
 
 pub invariant_of-self-2 : goal.invariant_of-self-2
 invariant_of-self-2 g c =
-    held_again c.self.inside.dataset c.self.inside.scale c.self.inside.reader c.judge_box.new.reader c.self.inside.found c.self.inside.wanted c.judge_box.new.found c.judge_box.new.wanted c.self.invariant c.judge_box.ensures.reader
+    held_again c.self.inside.dataset c.self.inside.scale c.self.inside.reader c.judge_box.new.reader c.self.invariant c.judge_box.ensures.reader
 
 pub returns-in-Err-clause-cause : goal.returns-in-Err-clause-cause
 returns-in-Err-clause-cause g c = cause_again c.in-Err.fault _ _ _ c.in_ok-is_stored.ensures.cause.stands c.in-Err.ensures.cause

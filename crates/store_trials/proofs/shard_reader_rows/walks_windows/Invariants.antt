@@ -1,0 +1,6 @@
+use Rattle.std.proofs.Common.{Some}
+use Rattle.shard_reader.specs.Readers.{Keeps}
+use Rattle.store_trials.proofs.shard_reader_rows.walks_windows.Given as goal
+
+abbrev pub invariant-loop-id : goal.invariant-loop-id
+invariant-loop-id g l = Keeps (Some l.store.objects) l.dataset l.scale l.sharding l.reader

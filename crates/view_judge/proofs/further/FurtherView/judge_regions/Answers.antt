@@ -1,0 +1,107 @@
+use Rattle.std.proofs.Common.{◌≤◌, ◌∙◌, ◌+◌, IfSome, Err, Ok, ap, refl, subst, sym}
+use Rattle.std.proofs.lemmas.List.Elements.{All-contains, All-nil, All-push}
+use Rattle.vol_base.specs.Outside.{HaveBytes}
+use Rattle.vol_spec.proofs.Told.{in_told}
+use Rattle.vol_spec.specs.Grid.{cell_box, cells_in, Inside, IsCell, Meets}
+use Rattle.chunk_grid.proofs.Walked.{at_end, here, one_on}
+use Rattle.cutout.specs.Opened.{Opened}
+use Rattle.size_laws.specs.Findings.{common}
+use Rattle.view_judge.specs.Answers.{Agree, JudgesBox, JudgesOwn}
+use Rattle.view_judge.specs.Further.{IsBeside}
+use Rattle.view_judge.specs.Judging.{pair_cost}
+use Rattle.view_judge.proofs.CellSteps.{beside_inside_back}
+use Rattle.view_judge.proofs.SharedSteps.{common_right, common_some}
+use Rattle.view_judge.proofs.WalkSteps.{asked_all, asked_more, asked_next, asked_none, moved, moved_told}
+use Rattle.view_judge.proofs.further.FurtherView.judge_regions.Goals as goal
+
+pub loop-region-init : goal.loop-region-init
+loop-region-init g c = record {
+  left = c.into_iter-region-iterator.ensures.into_iter_gives ∙ c.cells-region-items.ensures;
+  agree = λ m told. All-nil (λ region. JudgesBox (Ok tt) m c.args.first.now.dataset c.args.first.now.scale c.args.number c.args.self.now.scale (common (cell_box c.args.regions.now region) c.args.part.now));
+  same = refl;
+  first = refl;
+  asked = asked_none (g.S.Source.objects c.args.store.now) (λ m region. pair_cost m c.args.first.now.dataset c.args.first.now.scale c.args.self.now.scale (common (cell_box c.args.regions.now region) c.args.part.now)) (g.S.Source.asked c.args.store.now);
+  kept = record { same_objects = refl; same_draft = refl };
+  later = refl;
+}
+
+pub judge_region-requires-clause-beside : goal.judge_region-requires-clause-beside
+judge_region-requires-clause-beside g c =
+    subst (λ (r : Opened). IsBeside r.scale c.loop-region.self.scale) (sym c.loop-region.invariant.first) (subst (λ (r : Opened). IsBeside c.args.first.now.scale r.scale) (sym c.loop-region.invariant.same) c.requires.beside)
+
+pub judge_region-requires-clause-dataset : goal.judge_region-requires-clause-dataset
+judge_region-requires-clause-dataset g c =
+    ap (λ (r : Opened). r.dataset) c.loop-region.invariant.same ∙ c.requires.dataset ∙ ap (λ (r : Opened). r.dataset) (sym c.loop-region.invariant.first)
+
+pub judge_region-requires-clause-inside : goal.judge_region-requires-clause-inside
+judge_region-requires-clause-inside g c = subst (λ (r : Opened). Inside r.scale c.args.part.now) (sym c.loop-region.invariant.same) c.requires.inside
+
+pub judge_region-requires-clause-region : goal.judge_region-requires-clause-region
+judge_region-requires-clause-region g c =
+    (All-contains (IsCell c.args.regions.now) (cells_in c.args.regions.now c.args.part.now) c.in-Some.region c.tell_cells.ensures.in_grid
+    (here c.loop-region.yielded c.loop-region.region-iterator c.next.new.self (cells_in c.args.regions.now c.args.part.now) c.in-Some.region c.in-Some.ensures.steps c.loop-region.invariant.left))
+
+pub judge_region-requires-clause-meets : goal.judge_region-requires-clause-meets
+judge_region-requires-clause-meets g c =
+    (All-contains (λ region. Meets c.args.regions.now region c.args.part.now) (cells_in c.args.regions.now c.args.part.now) c.in-Some.region c.tell_cells.ensures.meet
+    (here c.loop-region.yielded c.loop-region.region-iterator c.next.new.self (cells_in c.args.regions.now c.args.part.now) c.in-Some.region c.in-Some.ensures.steps c.loop-region.invariant.left))
+
+pub judge_region-requires-clause-bytes : goal.judge_region-requires-clause-bytes
+judge_region-requires-clause-bytes g c = subst (λ o. IfSome o HaveBytes) (sym c.loop-region.invariant.kept.same_objects) c.requires.bytes
+
+pub loop-region-preserved : goal.loop-region-preserved
+loop-region-preserved g c =
+    record {
+      left = one_on c.loop-region.yielded c.loop-region.region-iterator c.next.new.self (cells_in c.args.regions.now c.args.part.now) c.in-Some.region c.in-Some.ensures.steps c.loop-region.invariant.left;
+      agree = λ m told.
+          All-push (λ region. JudgesBox (Ok tt) m c.args.first.now.dataset c.args.first.now.scale c.args.number c.args.self.now.scale (common (cell_box c.args.regions.now region) c.args.part.now)) c.loop-region.yielded c.in-Some.region
+          (c.loop-region.invariant.agree m told)
+          (moved (λ m f r. JudgesBox (Ok tt) m f.dataset f.scale c.args.number r.scale (common (cell_box c.args.regions.now c.in-Some.region) c.args.part.now)) (g.S.Source.objects c.args.store.now) (g.S.Source.objects c.loop-region.store) c.loop-region.first c.loop-region.self c.args.first.now c.args.self.now
+          c.loop-region.invariant.kept.same_objects c.loop-region.invariant.first c.loop-region.invariant.same c.in-Ok.ensures.judged m told);
+      same = c.judge_region.ensures.same ∙ c.loop-region.invariant.same;
+      first = c.judge_region.ensures.first ∙ c.loop-region.invariant.first;
+      asked =
+          asked_more (g.S.Source.objects c.args.store.now) (λ m region. pair_cost m c.args.first.now.dataset c.args.first.now.scale c.args.self.now.scale (common (cell_box c.args.regions.now region) c.args.part.now)) (g.S.Source.objects c.args.store.now) c.loop-region.yielded c.in-Some.region _ _ _ refl c.loop-region.invariant.asked
+          (moved_told (λ m f r. g.S.Source.asked c.judge_region.new.store ≤ g.S.Source.asked c.loop-region.store + pair_cost m f.dataset f.scale r.scale (common (cell_box c.args.regions.now c.in-Some.region) c.args.part.now)) (g.S.Source.objects c.args.store.now) (g.S.Source.objects c.loop-region.store)
+          c.loop-region.first c.loop-region.self c.args.first.now c.args.self.now c.loop-region.invariant.kept.same_objects c.loop-region.invariant.first c.loop-region.invariant.same c.judge_region.ensures.asked);
+      kept = record {
+        same_objects = c.judge_region.ensures.kept.same_objects ∙ c.loop-region.invariant.kept.same_objects;
+        same_draft = c.judge_region.ensures.kept.same_draft ∙ c.loop-region.invariant.kept.same_draft;
+      };
+      later = c.in-Ok.ensures.cause.stands ∙ c.loop-region.invariant.later;
+    }
+
+pub returns-clause-judged : goal.returns-clause-judged
+returns-clause-judged g c =
+    in_told (g.S.Source.objects c.args.store.now) (λ m. Agree m c.args.first.now.dataset c.args.first.now.scale c.args.number c.args.self.now.scale c.args.regions.now c.args.part.now (cells_in c.args.regions.now c.args.part.now)) (λ m told.
+    subst (Agree m c.args.first.now.dataset c.args.first.now.scale c.args.number c.args.self.now.scale c.args.regions.now c.args.part.now)
+    (at_end c.loop-region.yielded c.loop-region.region-iterator (cells_in c.args.regions.now c.args.part.now) c.in-None.ensures.steps.0 c.loop-region.invariant.left) (c.loop-region.invariant.agree m told))
+
+pub returns-clause-asked : goal.returns-clause-asked
+returns-clause-asked g c =
+    asked_all (g.S.Source.objects c.args.store.now) (λ m region. pair_cost m c.args.first.now.dataset c.args.first.now.scale c.args.self.now.scale (common (cell_box c.args.regions.now region) c.args.part.now)) c.loop-region.yielded c.loop-region.region-iterator (cells_in c.args.regions.now c.args.part.now) _ _ c.loop-region.invariant.left c.loop-region.invariant.asked
+
+pub cells-region-items-requires : goal.cells-region-items-requires
+cells-region-items-requires g c = beside_inside_back c.args.self.now.scale c.args.regions.now c.args.part.now c.requires.grid c.requires.inside
+
+pub judge_region-requires-clause-grid : goal.judge_region-requires-clause-grid
+judge_region-requires-clause-grid g c = subst (λ (r : Opened). IsBeside r.scale c.args.regions.now) (sym c.loop-region.invariant.same) c.requires.grid
+
+pub returns-in-Err-clause-judged : goal.returns-in-Err-clause-judged
+returns-in-Err-clause-judged g c =
+    let meets : Meets c.args.regions.now c.in-Some.region c.args.part.now = All-contains (λ region. Meets c.args.regions.now region c.args.part.now) (cells_in c.args.regions.now c.args.part.now) c.in-Some.region c.tell_cells.ensures.meet
+    (here c.loop-region.yielded c.loop-region.region-iterator c.next.new.self (cells_in c.args.regions.now c.args.part.now) c.in-Some.region c.in-Some.ensures.steps c.loop-region.invariant.left) in
+    in_told (g.S.Source.objects c.args.store.now) (λ m. JudgesOwn (Err c.in-Err.wrong) m c.args.first.now.dataset c.args.first.now.scale c.args.number c.args.self.now.scale c.args.regions.now c.args.part.now) (λ m told. (
+      common (cell_box c.args.regions.now c.in-Some.region) c.args.part.now,
+      common_some (cell_box c.args.regions.now c.in-Some.region) c.args.part.now meets.0 meets.1 meets.2,
+      common_right (cell_box c.args.regions.now c.in-Some.region) c.args.part.now,
+      moved (λ m f r. JudgesBox (Err c.in-Err.wrong) m f.dataset f.scale c.args.number r.scale (common (cell_box c.args.regions.now c.in-Some.region) c.args.part.now)) (g.S.Source.objects c.args.store.now) (g.S.Source.objects c.loop-region.store) c.loop-region.first c.loop-region.self c.args.first.now c.args.self.now
+          c.loop-region.invariant.kept.same_objects c.loop-region.invariant.first c.loop-region.invariant.same c.in-Err.ensures.judged m told,
+    ))
+
+pub returns-in-Err-clause-asked : goal.returns-in-Err-clause-asked
+returns-in-Err-clause-asked g c =
+    asked_next (g.S.Source.objects c.args.store.now) (λ m region. pair_cost m c.args.first.now.dataset c.args.first.now.scale c.args.self.now.scale (common (cell_box c.args.regions.now region) c.args.part.now)) (g.S.Source.objects c.args.store.now) c.loop-region.yielded c.loop-region.region-iterator c.next.new.self (cells_in c.args.regions.now c.args.part.now) c.in-Some.region _ _ _ refl
+    c.in-Some.ensures.steps c.loop-region.invariant.left c.loop-region.invariant.asked
+    (moved_told (λ m f r. g.S.Source.asked c.judge_region.new.store ≤ g.S.Source.asked c.loop-region.store + pair_cost m f.dataset f.scale r.scale (common (cell_box c.args.regions.now c.in-Some.region) c.args.part.now)) (g.S.Source.objects c.args.store.now) (g.S.Source.objects c.loop-region.store)
+    c.loop-region.first c.loop-region.self c.args.first.now c.args.self.now c.loop-region.invariant.kept.same_objects c.loop-region.invariant.first c.loop-region.invariant.same c.judge_region.ensures.asked)

@@ -1,0 +1,19 @@
+use Rattle.std.proofs.Common.{◌≡◌, ◌≤◌, ◌+◌, ◌++◌, IfSome, Some}
+use Rattle.std.specs.List.{sum_by}
+use Rattle.vol_base.specs.Outside.{Objects, OnlyReads}
+use Rattle.vol_spec.specs.Grid.{cell_box, cells_in}
+use Rattle.size_laws.specs.Findings.{common}
+use Rattle.view_judge.specs.Answers.{Agree}
+use Rattle.view_judge.specs.Judging.{pair_cost}
+use Rattle.view_judge.proofs.further.FurtherView.judge_regions.Given as goal
+
+abbrev pub invariant-loop-region : goal.invariant-loop-region
+invariant-loop-region g l = record {
+  left : l.yielded ++ l.region-iterator ≡ cells_in l.regions l.part;
+  agree : (m : Objects) → g.S.Source.objects l.fn.store ≡ Some m → Agree m l.fn.first.dataset l.fn.first.scale l.number l.fn.self.scale l.regions l.part l.yielded;
+  same : l.self ≡ l.fn.self;
+  first : l.first ≡ l.fn.first;
+  asked : IfSome (g.S.Source.objects l.fn.store) (λ m. g.S.Source.asked l.store ≤ g.S.Source.asked l.fn.store + sum_by (λ cell. pair_cost m l.fn.first.dataset l.fn.first.scale l.fn.self.scale (common (cell_box l.regions cell) l.part)) l.yielded);
+  kept : OnlyReads (g.S.Source.objects l.fn.store) (g.S.Source.objects l.store) (g.S.Source.draft l.fn.store) (g.S.Source.draft l.store);
+  later : g.S.Source.faults l.store ≡ g.S.Source.faults l.fn.store;
+}

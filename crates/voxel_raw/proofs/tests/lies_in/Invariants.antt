@@ -1,6 +1,0 @@
-use Rattle.std.proofs.Common.{◌<◌, ℕ}
-use Rattle.voxel_raw.proofs.Parts.{OnAxis}
-use Rattle.voxel_raw.proofs.tests.lies_in.Given as goal
-
-abbrev pub invariant-loop-axis : goal.invariant-loop-axis
-invariant-loop-axis l = (a : ℕ) → a < l.axis → OnAxis l.part l.outer a

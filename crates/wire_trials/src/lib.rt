@@ -1,0 +1,16 @@
+//! Rows of servers, of what is read from them, and of the plain programs beside them. They stand here and not in their crates since
+//! `rt ci` proves a crate once more for its tests.
+#![tactic(auto)]
+
+#[cfg(test)]
+mod hall_rows;
+#[cfg(test)]
+mod peer_dial_rows;
+#[cfg(test)]
+mod plain_client_rows;
+#[cfg(test)]
+mod plain_server_rows;
+#[cfg(test)]
+mod range_server_rows;
+#[cfg(test)]
+mod remote_store_rows;

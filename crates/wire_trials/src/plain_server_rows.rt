@@ -1,0 +1,84 @@
+//! Connections over stand-ins in memory, served in pieces and compared with the plain replies.
+
+mod cuts;
+mod random;
+mod rows;
+
+use cuts::CutLink;
+use plain_server::plain_replies;
+use range_server::{ServeFault, serve_conn};
+use std::alloc::Global;
+use std::process::Abort;
+use std::test::Fail;
+use vol_base::{MemoryLink, MemoryStore, Name};
+
+fn name(text: &[u8]) -> Result<Name, Fail> {
+    Ok(Name::new(text).ok_or("a name")?)
+}
+
+// A store with an object of ten bytes, one of none, and one that is longer than what is sent at once. Some of its
+// calls fail.
+fn store_of(alloc: Global, failing: &[u64]) -> Result<MemoryStore, Fail> {
+    let mut store = MemoryStore::new(alloc, Vec::from_slice(alloc, failing)?);
+    store.put(
+        &name(b"d/s/x")?,
+        Vec::from_slice(alloc, b"0123456789".as_slice())?,
+    )?;
+    store.put(&name(b"d/s/empty")?, Vec::new(alloc))?;
+    store.put(&name(b"d/s/long")?, Vec::from_elem(alloc, b'l', 150_000)?)?;
+    Ok(store)
+}
+
+// A peer: its stream, how many bytes come at a time, by one number after the other, and how many are sent at a time
+// at most.
+#[derive(Clone, Copy)]
+struct Peer<'a> {
+    stream: &'a [u8],
+    sizes: &'a [usize],
+    piece: usize,
+}
+
+// The numbers of the calls that fail, of the link and of the store.
+#[derive(Clone, Copy)]
+struct Faults<'a> {
+    link: &'a [u64],
+    store: &'a [u64],
+}
+
+fn link_of(alloc: Global, peer: &Peer<'_>, failing: &[u64]) -> Result<CutLink, Fail> {
+    let stream = Vec::from_slice(alloc, peer.stream)?;
+    let failing = Vec::from_slice(alloc, failing)?;
+    let sizes = Vec::from_slice(alloc, peer.sizes)?;
+    let link = MemoryLink::new(alloc, stream, 1 << 20, peer.piece.max(1), failing)?;
+    Ok(CutLink::new(link, sizes))
+}
+
+// What is sent to a peer, and how serving ends.
+fn serve(
+    alloc: Global,
+    peer: &Peer<'_>,
+    faults: &Faults<'_>,
+) -> Result<(Vec<u8>, Result<(), ServeFault>), Fail> {
+    let mut link = link_of(alloc, peer, faults.link)?;
+    let mut store = store_of(alloc, faults.store)?;
+    let served = serve_conn(alloc, &mut link, &mut store, &name(b"d")?);
+    Ok((Vec::from_slice(alloc, link.sent())?, served))
+}
+
+// The replies to a stream, made the plain way.
+fn plain(alloc: Global, stream: &[u8]) -> Result<Vec<u8>, Fail> {
+    let mut store = store_of(alloc, &[])?;
+    Ok(plain_replies(alloc, stream, &mut store, &name(b"d")?)?)
+}
+
+// A peer whose calls don't fail is sent these.
+fn is_sent(rt: &impl Abort, alloc: Global, peer: &Peer<'_>, wanted: &[u8]) -> Result<(), Fail> {
+    let faults = Faults {
+        link: &[],
+        store: &[],
+    };
+    let (sent, served) = serve(alloc, peer, &faults)?;
+    assert_eq!(rt; served, Ok(()));
+    assert_eq!(rt; sent.as_slice(), wanted);
+    Ok(())
+}
