@@ -1,6 +1,6 @@
 //! The top call.
-ghost use Rattle.std.specs.Prelude.{◌≡◌, None, map, string_bytes};
-ghost use Rattle.command_line.specs.Words.{line};
+ghost use Rattle.std.specs.Prelude.{◌≡◌, None, Some, map, string_bytes};
+ghost use Rattle.command_line.specs.Words.{KeepsLimits, line};
 ghost use Rattle.vol_tool.specs.Runs.{Answers, Causes, Headline, Keeps, Succeeds};
 ghost use Rattle.vol_tool.specs.Seen.{Seen, view};
 
@@ -30,6 +30,104 @@ pub trait Viewed<S, F, O, E, D> {
 impl<S: Store, F: Feed, O: Outlet, E: Outlet, D: Door> Viewed<S, F, O, E, D> for Outside {
     ghost at = { view S.objects S.draft S.asked S.faults F.left F.faults O.written O.faults E.written E.faults
         D.bound D.accepted D.served D.faults };
+}
+
+// Runs a command.
+fn run_command<R, S: Store, F: Feed, O: Outlet, E: Outlet, D: Door, G: Gate + Sync>(
+    rt: &R,
+    alloc: Global,
+    command: Command,
+    store: &mut S,
+    feed: &mut F,
+    out: &mut O,
+    err: &mut E,
+    door: &mut D,
+    gate: &G,
+) -> Status
+where
+    R: Threads + Wait + Sync,
+    requires unbound { D.bound door.old ≡ None }
+    requires limits { KeepsLimits (Some command) }
+    ensures answers { let at = ⟦<Outside as Viewed<S, F, O, E, D>>⟧.at in
+        Answers (Some command) result
+        (at store.old feed.old out.old err.old door.old)
+        (at store.new feed.new out.new err.new door.new) }
+    ensures succeeds { let at = ⟦<Outside as Viewed<S, F, O, E, D>>⟧.at in
+        Succeeds (Some command) result
+        (at store.old feed.old out.old err.old door.old)
+        (at store.new feed.new out.new err.new door.new) }
+    ensures headline { let at = ⟦<Outside as Viewed<S, F, O, E, D>>⟧.at in
+        Headline (Some command) result
+        (at store.old feed.old out.old err.old door.old)
+        (at store.new feed.new out.new err.new door.new) }
+    ensures keeps { let at = ⟦<Outside as Viewed<S, F, O, E, D>>⟧.at in
+        Keeps (Some command) result (out.new ≡ out.old)
+        (at store.old feed.old out.old err.old door.old)
+        (at store.new feed.new out.new err.new door.new) }
+    ensures causes { let at = ⟦<Outside as Viewed<S, F, O, E, D>>⟧.at in
+        Causes (Some command) result
+        (at store.old feed.old out.old err.old door.old).faults
+        (at store.new feed.new out.new err.new door.new).faults }
+{
+    match command {
+        Command::Cutout { dataset, key, part } => {
+            run_cutout(alloc, store, out, err, &dataset, &key, &part)
+        }
+        Command::Write {
+            dataset,
+            key,
+            workers,
+        } => {
+            let crew = Crew::of(rt, alloc, workers, gate);
+            run_write(&crew, store, feed, out, err, &dataset, &key)
+        }
+        Command::Update {
+            dataset,
+            key,
+            workers,
+        } => {
+            let crew = Crew::of(rt, alloc, workers, gate);
+            run_update(&crew, store, feed, out, err, &dataset, &key)
+        }
+        Command::Generate {
+            dataset,
+            key,
+            number,
+            writes,
+            workers,
+        } => {
+            let crew = Crew::of(rt, alloc, workers, gate);
+            run_generate(&crew, store, out, err, &dataset, &key, number, writes)
+        }
+        Command::Reshard {
+            dataset,
+            key,
+            to_dataset,
+            to_key,
+            workers,
+        } => {
+            let crew = Crew::of(rt, alloc, workers, gate);
+            run_reshard(&crew, store, out, err, &dataset, &key, &to_dataset, &to_key)
+        }
+        Command::Downsample {
+            dataset,
+            key,
+            to_key,
+            method,
+            workers,
+        } => {
+            let crew = Crew::of(rt, alloc, workers, gate);
+            run_downsample(&crew, store, out, err, &dataset, &key, &to_key, method)
+        }
+        Command::Verify { dataset, key, part } => {
+            run_verify(alloc, store, out, err, &dataset, &key, &part)
+        }
+        Command::Serve {
+            dataset,
+            port,
+            connections,
+        } => run_serve(alloc, store, out, err, door, &dataset, port, connections),
+    }
 }
 
 /// Runs the command that the words spell (those after the program's name) over a store, a feed, an output, an
@@ -86,86 +184,6 @@ where
             tell(err, Status::Usage);
             Status::Usage
         }
-        Ok(Some(Command::Cutout { dataset, key, part })) => {
-            run_cutout(alloc, store, out, err, &dataset, &key, &part)
-        }
-        Ok(
-            Some(
-                Command::Write {
-                    dataset,
-                    key,
-                    workers,
-                },
-            ),
-        ) => {
-            let crew = Crew::of(rt, alloc, workers, gate);
-            run_write(&crew, store, feed, out, err, &dataset, &key)
-        }
-        Ok(
-            Some(
-                Command::Update {
-                    dataset,
-                    key,
-                    workers,
-                },
-            ),
-        ) => {
-            let crew = Crew::of(rt, alloc, workers, gate);
-            run_update(&crew, store, feed, out, err, &dataset, &key)
-        }
-        Ok(
-            Some(
-                Command::Generate {
-                    dataset,
-                    key,
-                    number,
-                    writes,
-                    workers,
-                },
-            ),
-        ) => {
-            let crew = Crew::of(rt, alloc, workers, gate);
-            run_generate(&crew, store, out, err, &dataset, &key, number, writes)
-        }
-        Ok(
-            Some(
-                Command::Reshard {
-                    dataset,
-                    key,
-                    to_dataset,
-                    to_key,
-                    workers,
-                },
-            ),
-        ) => {
-            let crew = Crew::of(rt, alloc, workers, gate);
-            run_reshard(&crew, store, out, err, &dataset, &key, &to_dataset, &to_key)
-        }
-        Ok(
-            Some(
-                Command::Downsample {
-                    dataset,
-                    key,
-                    to_key,
-                    method,
-                    workers,
-                },
-            ),
-        ) => {
-            let crew = Crew::of(rt, alloc, workers, gate);
-            run_downsample(&crew, store, out, err, &dataset, &key, &to_key, method)
-        }
-        Ok(Some(Command::Verify { dataset, key, part })) => {
-            run_verify(alloc, store, out, err, &dataset, &key, &part)
-        }
-        Ok(
-            Some(
-                Command::Serve {
-                    dataset,
-                    port,
-                    connections,
-                },
-            ),
-        ) => run_serve(alloc, store, out, err, door, &dataset, port, connections),
+        Ok(Some(command)) => run_command(rt, alloc, command, store, feed, out, err, door, gate),
     }
 }
