@@ -3,7 +3,6 @@ import base64
 import contextlib
 import fcntl
 import hashlib
-import http.server
 import itertools
 import json
 import os
@@ -11,10 +10,10 @@ import select
 import shutil
 import signal
 import tempfile
-import threading
 import time
 
 from harness import Wrong, want, want_true
+from servers import Handler, running
 
 NAMES = ("chromium", "chromium-browser", "google-chrome")
 OPTIONS = (
@@ -77,7 +76,6 @@ class Browser:
         self.profile.cleanup()
 
     def receive(self, until):
-        """The next message."""
         while b"\0" not in self.left:
             if not select.select([self.from_browser], [], [], max(0, until - time.monotonic()))[0]:
                 raise Wrong("the browser doesn't answer")
@@ -131,23 +129,18 @@ class Browser:
         self.call("Input.dispatchMouseEvent", type=kind, x=x, y=y, **more)
 
     def touch(self, kind, *points):
-        self.call("Input.dispatchTouchEvent", type=kind, touchPoints=[{"x": x, "y": y, "id": number} for number, (x, y) in enumerate(points)])
+        fingers = [{"x": x, "y": y, "id": number} for number, (x, y) in enumerate(points)]
+        self.call("Input.dispatchTouchEvent", type=kind, touchPoints=fingers)
 
     def take_picture(self, path):
-        """A picture of the page as a file of PNG."""
         path.write_bytes(base64.b64decode(self.call("Page.captureScreenshot", format="png")["data"]))
 
 
-class Page(http.server.BaseHTTPRequestHandler):
+class Page(Handler):
     """An empty page."""
 
     def do_GET(self):  # pylint: disable=invalid-name
-        self.send_response(200)
-        self.send_header("Content-Type", "text/html")
-        self.end_headers()
-
-    def log_message(self, *_):  # pylint: disable=arguments-differ
-        pass
+        self.reply(200, b"<!doctype html>", Content_Type="text/html")
 
 
 PIECE = 1 << 16
@@ -171,10 +164,8 @@ FETCH = """
 def fetch_parts(browser, port, content, most):
     """A page of another origin asks for all pieces of /s/large at once, and gets them within so many milliseconds."""
     pieces = [content[begin : begin + PIECE] for begin in range(0, len(content), PIECE)]
-    with http.server.ThreadingHTTPServer(("127.0.0.1", 0), Page) as other:
-        threading.Thread(target=other.serve_forever, daemon=True).start()
+    with running(Page) as other:
         browser.open(f"http://127.0.0.1:{other.server_port}/", "document.readyState === 'complete'")
         spent, found = browser.run(FETCH % (f"http://127.0.0.1:{port}/s/large", len(pieces)))
-        other.shutdown()
     want(found, [[206, PIECE, list(hashlib.sha256(piece).digest())] for piece in pieces], "the pieces")
     want_true(spent < most, f"{len(pieces)} pieces took {spent:.0f} ms")

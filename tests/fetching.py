@@ -99,7 +99,8 @@ def tells_what_is_wrong(trial, server):
 # Scales of several chunk sizes, the first of which is the one that is there, and what is said of those that aren't read.
 TWO, NINE = [[2, 2, 1], [4, 4, 1]], [[2, 2, 1]] * 9
 SHARDED = {"chunk_sizes": TWO, "sharding": {"@type": "neuroglancer_uint64_sharded_v1"}}
-SCALES = [{**SCALE, "key": "a"}, {**SCALE, "chunk_sizes": TWO}, {**SCALE, "key": "t", "chunk_sizes": NINE}, {**SCALE, "key": "u", **SHARDED}]
+SCALES = [{"key": "a"}, {"chunk_sizes": TWO}, {"key": "t", "chunk_sizes": NINE}, {"key": "u", **SHARDED}]
+SEVERAL = json.dumps({**INFO, "scales": [{**SCALE, **scale} for scale in SCALES]}).encode()
 
 
 def copies_first_size(trial, server):
@@ -110,11 +111,8 @@ def copies_first_size(trial, server):
 
 
 LINKS = {
-    "gs://b/v/": "https://storage.googleapis.com/b/v",
-    "precomputed://gs://b/v": "https://storage.googleapis.com/b/v",
-    "precomputed://https://a/v": "https://a/v",
-    "http://a/v/": "http://a/v",
-    "http://a/v/info": "http://a/v",
+    "gs://b/v/": "https://storage.googleapis.com/b/v", "precomputed://gs://b/v": "https://storage.googleapis.com/b/v",
+    "precomputed://https://a/v": "https://a/v", "http://a/v/": "http://a/v", "http://a/v/info": "http://a/v",
 }
 
 
@@ -140,7 +138,7 @@ CASES = {
     "a copy that broke off": (goes_on, {}),
     "another coding": (refuses, {"codings": dict.fromkeys(CHUNKS, "zstd")}),
     "a request that is refused": (refuses, {"at_first": dict.fromkeys(CHUNKS, (400, None))}),
-    "the first of several chunk sizes": (copies_first_size, {"files": {**FILES, "/v/info": json.dumps({**INFO, "scales": SCALES}).encode()}}),
+    "the first of several chunk sizes": (copies_first_size, {"files": {**FILES, "/v/info": SEVERAL}}),
     "links": (reads_links, {}),
     "mistakes, and what is said of them": (tells_what_is_wrong, {}),
 }

@@ -1,9 +1,7 @@
 """
 What the scripts share: rows that have names and are picked, run side by side and told; and runs of the built program, each row in
-a temporary folder of its own.
-
-A script gives `main` its rows: each a title, a function and what it is called with behind the row's `Trial`. The function raises
-`Wrong` where something is wrong; one that goes through several rows at once yields each one's title, and what is wrong or None.
+a temporary folder of its own. A script gives `main` its rows: each a title, a function and what it is called with behind the row's
+`Trial`. The function raises `Wrong`; one that goes through several rows yields each one's title, and what is wrong or None.
 """
 import argparse
 import contextlib
@@ -36,7 +34,6 @@ class Wrong(Exception):
 
 
 def shorten(value):
-    """A value as it is told, with its length where it is long."""
     text = repr(value)
     return text if len(text) <= 200 else f"{text[:200]}.. ({len(text)} characters)"
 
@@ -86,7 +83,6 @@ def within(least, most, what="it"):
 
 
 def want_files(found, wanted, what="file"):
-    """Files by their paths."""
     for path in sorted({*found, *wanted}):
         want(found.get(path), wanted.get(path), f"{what} {path}")
 
@@ -114,7 +110,6 @@ NONE, PIPE, FOLDER, LOOP, DEVICE = None, "pipe", "folder", "loop", "device"
 
 
 def lay_out(folder, files):
-    """Puts files, and the folders above them."""
     for name, content in files.items():
         path = folder / name
         if content is NONE:
@@ -137,7 +132,6 @@ def lay_out(folder, files):
 
 
 def files_in(folder):
-    """The bytes of each file below a folder, by its path."""
     return {str(path.relative_to(folder)): path.read_bytes() for path in sorted(folder.rglob("*")) if path.is_file()}
 
 
@@ -159,23 +153,7 @@ def contents(files):
     return {path: entry[2] for path, entry in files.items()}
 
 
-def want_replaced(before, after, update):
-    """
-    The model's files stand in the place of those before or beside them, or a front of them where the update broke off, and perhaps what
-    there is of the next one; all others are as they were.
-    """
-    found = contents(after)
-    put = dict(itertools.takewhile(lambda item: found.get(item[0]) == item[1], update.files.items()))
-    if update.answer[0] == OK:
-        want_files({path: found.get(path) for path in update.files}, update.files)
-    begun = [path for path in after if path not in before and path in {f"{path}.part" for path in update.paths}]
-    want_true(len(begun) <= (update.answer[0] != OK), f"not finished: {begun}")
-    want_files({path: entry for path, entry in after.items() if path not in (*put, *begun)},
-               {path: entry for path, entry in before.items() if path not in put})
-
-
 def open_full():
-    """A device that takes nothing."""
     return os.open("/dev/full", os.O_WRONLY)
 
 
@@ -187,7 +165,6 @@ def open_closed_pipe():
 
 
 def memory_limit(count):
-    """From now on a process takes no more than so many bytes of memory for its data."""
     return lambda: resource.setrlimit(resource.RLIMIT_DATA, (count, count))
 
 
@@ -271,7 +248,6 @@ class Trial:
         want_true(snapshot(self.folder) == before, "the folder isn't as before")
 
     def start(self, words, **streams):
-        """A run that goes on beside the row."""
         quiet = {name: subprocess.DEVNULL for name in ("stdin", "stdout", "stderr")}
         return subprocess.Popen([self.program, *words_in(words)], cwd=self.folder, **{**quiet, **streams})
 
@@ -306,12 +282,21 @@ class Trial:
         want_ending(found, copy.answer())
 
     def want_update(self, volume, writes, *options):
-        """An update ends as the model's, and leaves its files. Gives the model's."""
+        """
+        An update ends as the model's: its files stand in the place of those before or beside them, or a front of them where it broke off,
+        and perhaps what there is of the next one; all others are as they were. Gives the model's.
+        """
         before = standing(self.folder)
         update = update_of(volume, contents(before), writes)
-        found = self.run(volume.words("update", *options), stream_of(writes))
-        want_ending(found, update.answer)
-        want_replaced(before, standing(self.folder), update)
+        want_ending(self.run(volume.words("update", *options), stream_of(writes)), update.answer)
+        after, is_whole = standing(self.folder), update.answer[0] == OK
+        found = contents(after)
+        put = update.files if is_whole else dict(itertools.takewhile(lambda item: found.get(item[0]) == item[1], update.files.items()))
+        begun = [path for path in after if path not in before and path.removesuffix(".part") in update.paths and path.endswith(".part")]
+        want_files({path: found.get(path) for path in put}, put)
+        want_true(len(begun) <= (not is_whole), f"not finished: {begun}")
+        want_files({path: entry for path, entry in after.items() if path not in (*put, *begun)},
+                   {path: entry for path, entry in before.items() if path not in put})
         return update
 
     def store(self, volume, chunks):
@@ -326,7 +311,6 @@ class Trial:
             self.want(volume.words("cutout", spell(box)), cutout(volume, files, box))
 
     def want_values(self, volume, values, boxes):
-        """Cutouts of boxes have these values."""
         for box in boxes:
             self.want(volume.words("cutout", spell(box)), printed(values.of(box)))
 
@@ -341,12 +325,10 @@ def answers(trial, files, words, wanted, feed=b"", **how):
 
 
 def cells_of(line):
-    """The cells of a line of a table."""
     return [cell.strip() for cell in line.strip().strip("|").split(" | ")]
 
 
 def is_defined(name, text):
-    """Whether a module defines a name."""
     return re.search(rf"^\s*(?:\w+ )*{re.escape(name)}(?: |$)", text, re.M)
 
 

@@ -23,14 +23,13 @@ def connect(port, address="127.0.0.1"):
 
 def receive(peer, count=None):
     """So many bytes, or all that comes until the end."""
-    if count is not None:
-        return peer.recv(count, socket.MSG_WAITALL)
-    with peer.makefile("rb") as received:
-        return received.read()
+    found = bytearray()
+    while len(found) != count and (piece := peer.recv(1 << 16 if count is None else count - len(found))):
+        found += piece
+    return bytes(found)
 
 
 def reset(peer):
-    """Breaks a connection off."""
     peer.setsockopt(socket.SOL_SOCKET, socket.SO_LINGER, struct.pack("ii", 1, 0))
     peer.close()
 

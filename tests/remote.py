@@ -80,7 +80,6 @@ class Honest:
 
 
 def honest(request, content):
-    """The honest reply to a request for an object."""
     if content is None:
         return Honest("404 Not Found", [0], ["Server: a"])
     if request.method == "HEAD" or request.range is None:
@@ -141,41 +140,31 @@ def but(*fields, **members):
 
 # Replies that don't fit: which honest ones they are made of, and what is sent.
 UNFIT = {
-    "nothing": (is_any, lambda reply: b""),
-    "a reset": (is_any, lambda reply: b""),
+    "nothing": (is_any, lambda reply: b""), "a reset": (is_any, lambda reply: b""),
     "half a head": (is_any, lambda reply: reply.head()[: len(reply.head()) // 2]),
     "a head without its last byte": (is_any, lambda reply: reply.head()[:-1]),
-    "no body": (has_body, Honest.head),
-    "a short body": (has_body, lambda reply: reply.whole()[:-1]),
+    "no body": (has_body, Honest.head), "a short body": (has_body, lambda reply: reply.whole()[:-1]),
     "a long body": (is_small, lambda reply: reply.whole() + b"x"),
-    "no length": (is_any, but(lengths=[])),
+    "no length": (is_any, but(lengths=[])), "a length that is none": (is_any, but(lengths=["a"])),
     "two lengths": (is_any, lambda reply: reply.but(lengths=[*reply.lengths, reply.lengths[0] + 1])),
     "a length twice": (is_any, lambda reply: reply.but(lengths=2 * reply.lengths)),
     "a length with a sign": (is_any, lambda reply: reply.but(lengths=[f"+{reply.lengths[0]}"])),
-    "a length that is none": (is_any, but(lengths=["a"])),
     "a length of 64 bits and one": (is_any, but(lengths=[2**64])),
     "a part that is too long": (is_part, lambda reply: reply.but(lengths=[reply.lengths[0] + 1])),
-    "chunks": (is_any, but("Transfer-Encoding: chunked", lengths=[])),
-    "chunks and a length": (is_any, but("Transfer-Encoding: chunked")),
+    "chunks": (is_any, but("Transfer-Encoding: chunked", lengths=[])), "chunks and a length": (is_any, but("Transfer-Encoding: chunked")),
     "a long head": (is_any, lambda reply: pad_head(reply, MOST_HEAD + 1)),
     "a head without an end": (is_any, lambda reply: reply.head()[:-2] + b"X: " + b"a" * MOST_HEAD),
-    "a range that begins before": (is_part, shift_range(first=-1)),
-    "a range that begins behind": (is_part, shift_range(first=1)),
+    "a range that begins before": (is_part, shift_range(first=-1)), "a range that begins behind": (is_part, shift_range(first=1)),
     "a range that ends before": (is_part, shift_range(last=-1)),
     "a range of another place": (is_part, shift_range(first=1, last=1, total=1)),
-    "no range": (is_part, but(fields=[])),
-    "two ranges": (is_part, lambda reply: reply.but(*reply.fields)),
+    "no range": (is_part, but(fields=[])), "two ranges": (is_part, lambda reply: reply.but(*reply.fields)),
     "several parts": (is_part, but("Content-Type: multipart/byteranges", fields=[])),
-    "a part for a length": (is_length, as_part),
-    "no part for a length": (is_length, but(status="416 Range Not Satisfiable")),
+    "a part for a length": (is_length, as_part), "no part for a length": (is_length, but(status="416 Range Not Satisfiable")),
     "a redirect": (is_any, lambda reply: Honest("302 Found", [0], ["Location: /info"])),
-    "a coding": (is_any, but("Content-Encoding: gzip")),
-    "a fault": (is_any, but(status="500 Internal Server Error")),
-    "no change": (is_any, but(status="304 Not Modified")),
-    "no access": (is_any, but(status="403 Forbidden")),
+    "a coding": (is_any, but("Content-Encoding: gzip")), "a fault": (is_any, but(status="500 Internal Server Error")),
+    "no change": (is_any, but(status="304 Not Modified")), "no access": (is_any, but(status="403 Forbidden")),
     "a reply in front": (is_any, lambda reply: b"HTTP/1.1 100 Continue\r\n\r\n" + reply.whole()),
-    "another version": (is_any, but(version="HTTP/2.0")),
-    "no head": (is_any, lambda reply: b"220 ready\r\n"),
+    "another version": (is_any, but(version="HTTP/2.0")), "no head": (is_any, lambda reply: b"220 ready\r\n"),
     "a head in another coding": (is_any, lambda reply: b"\x16\x03\x01\x02\x00"),
 }
 
@@ -196,7 +185,6 @@ def odd_head(reply):
 
 
 def with_page(reply):
-    """A long page where there is no object."""
     return reply.but(lengths=[200_000], body=bytes(200_000)) if reply.status.startswith("404") else reply
 
 
@@ -210,24 +198,17 @@ CHANCE = random.Random(0)
 
 # Replies that fit, what is then, and whether each is on a connection of its own.
 FIT = {
-    "at once": (Honest.whole, KEEP, False),
-    "in pieces": (in_pieces, KEEP, False),
+    "at once": (Honest.whole, KEEP, False), "in pieces": (in_pieces, KEEP, False), "with odd heads": (odd_head, KEEP, False),
     "by an older version": (but(version="HTTP/1.0"), CLOSE, True),
     "with an end that is told": (but("Connection: keep-alive, CLOSE"), CLOSE, True),
-    "with an end that isn't told": (Honest.whole, CLOSE, True),
-    "with an end that is told, and doesn't come": (but("Connection: close"), HOLD, True),
-    "with a reset behind it": (Honest.whole, RESET, True),
-    "with odd heads": (odd_head, KEEP, False),
-    "with long pages": (with_page, KEEP, False),
+    "with an end that isn't told": (Honest.whole, CLOSE, True), "with a reset behind it": (Honest.whole, RESET, True),
+    "with an end that is told, and doesn't come": (but("Connection: close"), HOLD, True), "with long pages": (with_page, KEEP, False),
     "with the longest heads": (lambda reply: pad_head(reply, MOST_HEAD), KEEP, False),
 }
 
 
 class Fetching(Trial):
-    """A row with vol_fetch and servers of the data set d."""
-
     def fetcher(self):
-        """The same row with vol_fetch as its program."""
         return Trial(built("vol_fetch"), self.folder)
 
     def fetch(self, port, volume=ONE, box=None, **how):
@@ -258,7 +239,6 @@ class Fetching(Trial):
         return telling(answer)
 
     def servers(self):
-        """Each server of the row's data set d, by its title."""
         folder = self.folder / "d"
         yield "vol_tool", own(self)
         yield "vol_serve", own(dataclasses.replace(self, program=built("vol_serve")), "d --workers=2")
@@ -332,7 +312,6 @@ def refuses_infos(trial, seed):
 
 
 def heads_of(server):
-    """The requests of a server, without its port."""
     return [request.head.replace(f":{server.server_port}\r\n".encode(), b"\r\n") for request in server.requests]
 
 
@@ -362,7 +341,6 @@ def tells_faults(trial, title, most):
 
 
 def want_taken(row, volume, ending, kind):
-    """What fits is taken, and each request is sent once."""
     stream, then, closes = FIT[kind]
     with row.telling(stream, then) as server:
         row.want_fetched(ending, server.server_port, volume)
@@ -380,10 +358,8 @@ def takes_odd_replies(trial, title):
 
 # The scale, what the request asks that is replied to, and whether another one follows
 CASES = {
-    "info": (ONE, Asked(0, 2**16), True),
-    "chunk": (ONE, Asked(0, 12), False),
-    "length": (ONE_IN_SHARD, LENGTH, True),
-    "part": (ONE_IN_SHARD, Asked(16, 11), False),
+    "info": (ONE, Asked(0, 2**16), True), "chunk": (ONE, Asked(0, 12), False),
+    "length": (ONE_IN_SHARD, LENGTH, True), "part": (ONE_IN_SHARD, Asked(16, 11), False),
 }
 
 
@@ -409,7 +385,6 @@ def ending_of(case, says):
 
 
 def judges_reply(trial, case, chance):
-    """One reply at random."""
     volume, asked, goes_on = CASES[case]
     files = files_of(volume)
     path = "d/info" if case == "info" else next(path for path in files if path != "d/info")

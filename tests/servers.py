@@ -1,6 +1,6 @@
 """
-Servers that give the files of a folder by ranges: the proved ones; Python's, as it keeps connections, closes them, or knows no ranges; nginx,
-where it is there; and one of which a test says each reply.
+Servers that give the files of a folder by ranges: the proved ones; Python's, as it keeps connections, closes them, or knows no ranges;
+nginx, where it is there; and one of which a test says each reply.
 """
 import contextlib
 import dataclasses
@@ -28,7 +28,6 @@ def fetch_words(port, volume, box):
 
 
 def read_file(path):
-    """The bytes of a file, or None."""
     try:
         return path.read_bytes()
     except (OSError, ValueError):
@@ -133,7 +132,6 @@ def free_port():
 
 
 def wait_for(port, child):
-    """Waits until a server listens."""
     begin = time.monotonic()
     while child.poll() is None and time.monotonic() < begin + LIMIT:
         with contextlib.suppress(ConnectionRefusedError):
@@ -145,7 +143,6 @@ def wait_for(port, child):
 
 @contextlib.contextmanager
 def nginx(folder, own):
-    """nginx of a folder, by its port, with a folder of its own."""
     own.mkdir()
     port = free_port()
     (own / "conf").write_text(NGINX.format(own=own, port=port, folder=folder))
@@ -225,8 +222,6 @@ class Peer(socketserver.StreamRequestHandler):
 
 
 class Breaking(Peer):
-    """A connection that is broken off as it is taken."""
-
     def serve(self):
         self.break_off()
 

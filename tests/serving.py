@@ -7,6 +7,7 @@ These are Python's HTTP client, raw sockets, and curl where it is there. Each ro
 port.
 """
 import contextlib
+import functools
 import http.client
 import os
 import shutil
@@ -16,6 +17,7 @@ import struct
 import subprocess
 import threading
 import time
+from concurrent.futures import ThreadPoolExecutor
 
 from harness import LIMIT, Wrong, call, main, methods_of, open_full, want, within
 from model import along, info_of, refused, stored, stream_of
@@ -48,11 +50,7 @@ NO_RANGES = [
 
 # Streams that are cut short, hostile, or closed by their first request, and what is sent to each.
 HOSTILE = [
-    (b"", b""),
-    (b"GET /s/x HTTP/1.1\r\n", BAD),
-    (b"a" * MOST_HEAD + RANGED, BAD),
-    (b"\0" + RANGED, BAD),
-    (RANGED + b"\0", PART + BAD),
+    (b"", b""), (b"GET /s/x HTTP/1.1\r\n", BAD), (b"a" * MOST_HEAD + RANGED, BAD), (b"\0" + RANGED, BAD), (RANGED + b"\0", PART + BAD),
     (ask("GET /../x") + RANGED, ABSENT + PART),
     (ask("GET /s/x", ONCE, "Connection: Keep-Alive, CLOSE") + RANGED, closing(PART)),
     (ask("GET /s/x", f"Range: bytes={'9' * 400}-"), NO_PART),
@@ -60,7 +58,6 @@ HOSTILE = [
 
 
 def client_at(port):
-    """Python's client of a server."""
     return contextlib.closing(http.client.HTTPConnection("127.0.0.1", port, timeout=LIMIT))
 
 
@@ -140,21 +137,16 @@ class Cases(Doors):
     def serves_eight_that_keep_their_connections(self):
         """Eight clients at once, each of which keeps its connection until all are done."""
         done = threading.Barrier(8, timeout=LIMIT)
-        got = []
 
         def fetch_some(port):
             with client_at(port) as client:
                 found = [fetch(client, "/s/x", "bytes=2-4") for _ in range(10)]
-                got.append(found == 10 * [(206, b"234", "bytes 2-4/10")])
                 done.wait()
+                return found
 
-        with self.serving(8) as port, within(0, 8 * PAUSE + 1, "eight clients"):
-            threads = [threading.Thread(target=fetch_some, args=(port,)) for _ in range(8)]
-            for thread in threads:
-                thread.start()
-            for thread in threads:
-                thread.join()
-        want(got, 8 * [True], "the objects of eight clients")
+        with self.serving(8) as port, within(0, 8 * PAUSE + 1, "eight clients"), ThreadPoolExecutor(8) as clients:
+            found = list(clients.map(fetch_some, 8 * [port]))
+        want(found, 8 * [10 * [(206, b"234", "bytes 2-4/10")]], "the objects of eight clients")
 
     def closes_behind_the_last_request(self):
         """The last reply of a connection ends it, also where more requests came; and the next connection counts anew."""
@@ -249,35 +241,29 @@ class Cases(Doors):
             other.write_bytes(content)
             other.rename(path)
 
-        def replace_folder():
+        def replace_folder(content):
             path.parent.rename(self.folder / "d/t")
-            self.lay_out({"d/s/x": b"newer"})
+            self.lay_out({"d/s/x": content})
 
         def append(content):
             with path.open("ab") as file:
                 file.write(content)
 
+        # what is done, with what, and what the file has then
         changes = [
-            ("as it was laid out", lambda: None, OBJECT),
-            ("replaced", lambda: replace(b"abcdefghij"), b"abcdefghij"),
-            ("replaced by a longer one", lambda: replace(b"and so on, and on"), b"and so on, and on"),
-            ("replaced by a shorter one", lambda: replace(b"abc"), b"abc"),
-            ("made longer", lambda: append(b"def"), b"abcdef"),
-            ("made shorter", lambda: os.truncate(path, 2), b"ab"),
-            ("written over", lambda: path.write_bytes(b"cd"), b"cd"),
-            ("emptied", lambda: os.truncate(path, 0), b""),
-            ("removed", path.unlink, None),
-            ("put again", lambda: path.write_bytes(b"anew"), b"anew"),
-            ("below a folder that is replaced", replace_folder, b"newer"),
-            ("below a folder that is removed", lambda: shutil.rmtree(path.parent), None),
+            (replace, b"abcdefghij", b"abcdefghij"), (replace, b"and so on, and on", b"and so on, and on"), (replace, b"abc", b"abc"),
+            (append, b"def", b"abcdef"), (functools.partial(os.truncate, path), 2, b"ab"), (path.write_bytes, b"cd", b"cd"),
+            (functools.partial(os.truncate, path), 0, b""), (path.unlink, True, None), (path.write_bytes, b"anew", b"anew"),
+            (replace_folder, b"newer", b"newer"), (shutil.rmtree, path.parent, None),
         ]
         with self._client() as client:
-            for what, change, wanted in changes:
-                change()
+            want(fetch(client, "/s/x")[1], OBJECT, "as it was laid out")
+            for number, (change, given, wanted) in enumerate(changes):
+                change(given)
                 for method in ("GET", "HEAD", "GET"):
                     found = fetch(client, "/s/x", method=method, field="Content-Length")
                     body = wanted if wanted and method == "GET" else b""
-                    want(found, (404 if wanted is None else 200, body, str(len(wanted or b""))), f"{what}, {method}")
+                    want(found, (404 if wanted is None else 200, body, str(len(wanted or b""))), f"change {number}, {method}")
 
     def judges_ranges_by_the_file_that_stands(self):
         """A part of a file that got longer, or shorter, between two requests of one connection."""
@@ -405,13 +391,9 @@ REPLIES = {
     ],
     # a head counts from its first empty line to its last, each by itself
     "takes heads up to their limit": [
-        (padded(MOST_HEAD), REPLY),
-        (padded(MOST_HEAD + 1), BAD),
-        (ASK + padded(MOST_HEAD) + ASK, REPLY + REPLY + REPLY),
-        (ASK + padded(MOST_HEAD + 1) + ASK, REPLY + BAD),
-        (padded(MOST_HEAD, b"\r\n\n") + ASK, REPLY + REPLY),
-        (padded(MOST_HEAD + 1, b"\r\n\n") + ASK, BAD),
-        (MOST_FIELDS + ASK, REPLY + REPLY),
+        (padded(MOST_HEAD), REPLY), (padded(MOST_HEAD + 1), BAD), (ASK + padded(MOST_HEAD) + ASK, REPLY + REPLY + REPLY),
+        (ASK + padded(MOST_HEAD + 1) + ASK, REPLY + BAD), (padded(MOST_HEAD, b"\r\n\n") + ASK, REPLY + REPLY),
+        (padded(MOST_HEAD + 1, b"\r\n\n") + ASK, BAD), (MOST_FIELDS + ASK, REPLY + REPLY),
     ],
     "refuses bodies": [
         *((request + b"0\r\n\r\n" + ASK, BAD) for request in BODIES),

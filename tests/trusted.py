@@ -13,6 +13,8 @@ from harness import CRATES, ROOT, cells_of, is_defined, main_of_pages
 
 USE = re.compile(r"^\s*(?:ghost )?use Rattle\.(\w+)\.specs\.(declared\.)?(\w+)", re.M)
 
+CONTRACTS = ("vol_tool/src/top.rt", "vol_serve/src/top.rt", "vol_fetch/src/fetch.rt", "remote_store/src/dial.rt")
+
 # commands, the program's call, a port and a member of a field
 NOT_DEFINED = {"cutout", "write", "update", "generate", "serve", "verify", "vol_serve", "run", "serde_json", "close"}
 
@@ -24,7 +26,7 @@ def path_of(crate, module):
 def find_reached():
     """The modules of definitions and the files of types that are reached, each as whether it is of types, a crate and a name."""
     found = {(True, "vol_base", "outside"), (True, "remote_store", "dial")}
-    waiting = [CRATES / path for path in ("vol_tool/src/top.rt", "vol_serve/src/top.rt", "vol_fetch/src/fetch.rt", "remote_store/src/dial.rt")]
+    waiting = [CRATES / path for path in CONTRACTS]
     while waiting:
         for crate, declared, name in USE.findall(waiting.pop().read_text()):
             one = (bool(declared), crate, name)

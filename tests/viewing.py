@@ -67,18 +67,15 @@ class Scale(Volume):
         return self.values[self.spot(voxel, channel)]
 
     def raw(self, box):
-        """The bytes of the values of a box."""
         x, y, z = (range(begin - first, end - first) for (begin, end), first in zip(box, self.offset))
         values = [self.value((i, j, k), c) for c in range(self.channels) for k in z for j in y for i in x]
         return struct.pack(f"<{len(values)}{'f' if self.is_float else CODES[self.width]}", *values)
 
     def step(self, view, axis):
-        """The pixels of a voxel's side."""
         return view.zoom * self.resolution[axis] // min(self.resolution)
 
 
 def values_of(size, channels, value_of):
-    """The values of voxels in their order."""
     x, y, z = map(range, size)
     return [value_of(i, j, k, c) for c in range(channels) for k in z for j in y for i in x]
 
@@ -178,7 +175,6 @@ OUTSIDE = "14181c"
 
 
 def value_at(scale, view, axes, column, row):
-    """The value in a column and a row of a slice."""
     voxel = dict(zip(axes, (column, row, view.at[axes[2]])))
     return scale.value((voxel[0], voxel[1], voxel[2]), view.channel)
 
@@ -213,7 +209,6 @@ def processes():
 
 
 def servers_of(pid):
-    """The processes that a process has begun, and that haven't ended."""
     return [number for number, (_, parent) in processes().items() if parent == pid]
 
 
@@ -250,7 +245,6 @@ def ask(link, target, method="GET", **fields):
 
 
 def make_bytes(trial):
-    """A scale of bytes, and what its one chunk's object has."""
     store(trial, Scale((4, 3, 2), (8, 8, 8), values=range(24)))
     return "/s/0-4_0-3_0-2", bytes(range(24))
 
@@ -405,14 +399,6 @@ class Page(Browser):
         """The value of an expression about an `element` of the page."""
         return self.run(f"(element => {script})(document.getElementById('{name}'))")
 
-    def want_text(self, name, wanted):
-        """An element of the page has this in its text."""
-        found = self.on(name, "element.textContent")
-        want_true(wanted in found, f"{name}: {found!r} wanted {wanted!r}")
-
-    def click(self, name):
-        self.on(name, "element.click()")
-
     def settle(self):
         self.run("slices.settled()")
 
@@ -426,26 +412,42 @@ class Page(Browser):
         self.settle()
 
     @contextlib.contextmanager
-    def opened(self, source, scale, view, is_calm=True):
-        """The page that shows a scale out of a row's folder, or from an address; at the end it tells no fault, and raised no exception."""
+    def opened(self, trial, scale, view, source=None):
+        """The page shows a scale out of a row's folder, or a source's; at the end it tells no fault, and raised no exception."""
         self.scale, self.view = scale, view
-        with contextlib.nullcontext((PAGE.as_uri(), 0)) if isinstance(source, str) else viewing(source, scale.dataset) as (link, _):
-            self.open_view(link, f"source={source}&{view.query(scale)}" if isinstance(source, str) else view.query(scale))
+        with viewing(trial, scale.dataset) if source is None else contextlib.nullcontext((PAGE.as_uri(), None)) as (link, _):
+            self.open_view(link, view.query(scale) + (f"&source={source}" if source else ""))
             yield
-            want((self.on("faults", "element.hidden"), self.exceptions), (is_calm, []), "no fault, and no exceptions")
+            want((self.on("faults", "element.hidden"), self.exceptions), (True, []), "no fault, and no exceptions")
 
-    def change(self, **members):
-        """The view has other members."""
+    @contextlib.contextmanager
+    def shows(self, trial, scale, view, source=None):
+        """The same, and it has the pictures that are due."""
+        with self.opened(trial, scale, view, source):
+            self.want_pictures()
+            yield
+
+    def changes(self, **members):
+        """The view has these members now, and the page shows it."""
         self.view = dataclasses.replace(self.view, **members)
+        self.want_pictures()
 
-    def move(self, *steps):
-        """The cross of the view is moved on each axis, and nothing else."""
-        self.change(at=tuple(map(sum, zip(self.view.at, steps))), centre=self.view.middle)
+    def moves(self, *steps):
+        """The cross was moved on each axis, and nothing else."""
+        self.changes(at=tuple(map(sum, zip(self.view.at, steps))), centre=self.view.middle)
 
-    def pan(self, *pixels):
-        """What stands in the middle is moved across and down."""
+    def pans(self, *pixels):
+        """What stands in the middle was moved across and down."""
         moved = [place - by / self.scale.step(self.view, axis) for axis, (place, by) in enumerate(zip(self.view.middle, pixels))]
-        self.change(centre=(*moved, self.view.middle[2]))
+        self.changes(centre=(*moved, self.view.middle[2]))
+
+    def fits_window(self):
+        """The window is the range of what the three slices show."""
+        values = set()
+        for name, axes in PANES.items():
+            places = itertools.product(*(set(side) - {None} for side in self.sides(name)))
+            values |= {value_at(self.scale, self.view, axes, *place) for place in places}
+        self.changes(window=(min(values), max(values)))
 
     def sides(self, name):
         """The voxels in the columns and in the rows of a slice."""
@@ -466,8 +468,7 @@ class Page(Browser):
     def want_pictures(self):
         """The three pictures of the page are those that are due."""
         for name in PANES:
-            for column, row, is_, due in self.differences(name)[0][:1]:
-                raise Wrong(f"{name} pixel {column},{row} is {is_} wanted {due}")
+            want(self.differences(name)[0][:1], [], f"{name}: the first pixel that is another: column, row, colour, and the one that is due")
 
     def want_cross(self):
         """In each slice one line of pixels across and one down differ, which meet in the voxel at the cross."""
@@ -488,16 +489,7 @@ class Page(Browser):
         reds = {pixel for *_, pixel, _ in other}
         want_true(len(reds) > 1 and all(int(pixel[:2], 16) > int(pixel[2:4], 16) for pixel in reds), f"lines of red {reds}")
 
-    def fit_window(self):
-        """The view's window is the range of what the three slices show."""
-        values = set()
-        for name, axes in PANES.items():
-            places = itertools.product(*(set(side) - {None} for side in self.sides(name)))
-            values |= {value_at(self.scale, self.view, axes, *place) for place in places}
-        self.change(window=(min(values), max(values)))
-
     def middle_of(self, name):
-        """The middle of a slice on the page."""
         return self.on(name, "(box => [box.x + box.width / 2, box.y + box.height / 2])(element.getBoundingClientRect())")
 
     def press(self, x, y, *path):
@@ -507,18 +499,12 @@ class Page(Browser):
             self.mouse("mouseMoved", *place, button="left", buttons=1)
         self.mouse("mouseReleased", *[(x, y), *path][-1], button="left", clickCount=1)
 
-    def wheel(self, x, y, turns, **more):
-        self.mouse("mouseWheel", x, y, deltaX=0, deltaY=turns, **more)
-
     def drag(self, *steps):
-        """Fingers, at points each."""
-        self.touch("touchStart", *steps[0])
-        for step in steps[1:]:
-            self.touch("touchMove", *step)
-        self.touch("touchEnd")
+        """Fingers are put down, moved and lifted, at some points each time."""
+        for kind, points in zip(["touchStart", *["touchMove"] * (len(steps) - 1), "touchEnd"], [*steps, []]):
+            self.touch(kind, *points)
 
     def keep(self, title):
-        """A picture of the page, where they are wanted."""
         if folder := os.environ.get("PICTURES"):
             pathlib.Path(folder).mkdir(parents=True, exist_ok=True)
             self.take_picture(pathlib.Path(folder) / f"{title.replace(' ', '_').replace(',', '')}.png")
@@ -526,15 +512,9 @@ class Page(Browser):
     def want_told(self, link, query, told):
         """The page tells a fault, and no other goes uncaught."""
         self.open_view(link, query)
-        self.want_text("faults", told)
+        faults = self.on("faults", "element.textContent")
+        want_true(told in faults, f"it tells {faults!r} wanted {told!r}")
         want(self.exceptions, [], "exceptions")
-
-
-def shows(trial, page, title, scale, view):
-    store(trial, scale)
-    with page.opened(trial, scale, view):
-        page.want_pictures()
-        page.keep(title)
 
 
 FLOAT_SIZE = (40, 30, 20)
@@ -594,8 +574,8 @@ class OnPage(Trial):
         for number, sharding in enumerate(SHARDINGS):
             scale = image(8, (23, 19, 14), (4, 3, 4), sharding=Sharding(*sharding), dataset=f"d{number}")
             store(self, scale)
-            with page.opened(self, scale, View((4, 5, 6), 5, 0, (0, 300))):
-                page.want_pictures()
+            with page.shows(self, scale, View((4, 5, 6), 5, 0, (0, 300))):
+                pass
 
     def chunk_ids_of_more_than_32_bits(self, page):
         """Of a grid with one layer: a corner is stored of a scale that is otherwise absent."""
@@ -605,16 +585,15 @@ class OnPage(Trial):
         for number, voxel in enumerate(itertools.product(*(range(*ends) for ends in part))):
             scale.values[scale.spot(voxel, 0)] = number * 40 + 1
         store(self, scale, part=part)
-        with page.opened(self, scale, View((length - 12, length - 10, 1), 6, 0, (0, 60000))):
-            page.want_pictures()
+        with page.shows(self, scale, View((length - 12, length - 10, 1), 6, 0, (0, 60000))):
+            pass
 
     def values_under_the_pointer(self, page):
         """With their position; chunks that aren't stored."""
         scale = labels(64, (40, 44, 30), (16, 16, 8), (8, 8, 8), offset=(-5, 100, 0))
         store(self, scale, part=[(-5, 27), *scale.whole[1:]])
         scale = dataclasses.replace(scale, values=[0 if spot % 40 >= 32 else value for spot, value in enumerate(scale.values)])
-        with page.opened(self, scale, View((20, 22, 14), 4)):
-            page.want_pictures()
+        with page.shows(self, scale, View((20, 22, 14), 4)):
             x, y = page.middle_of("xy")
             for column, row, name, wanted in [
                 (3, -2, "where", "x 18  y 120  z 14"), (3, -2, "value", str(scale.value((23, 20, 14), 0))),
@@ -622,35 +601,30 @@ class OnPage(Trial):
             ]:
                 page.mouse("mouseMoved", x + 4 * column, y + 4 * row)
                 want(page.on(name, "element.textContent"), wanted, f"{name} at {column},{row}")
-            page.want_text("busy", "not stored")
+            want_true("not stored" in page.on("busy", "element.textContent"), "it doesn't tell that chunks are absent")
             page.keep("chunks that are absent")
 
     def wheel_keys_click_and_drag(self, page):
         """Each is told by the pictures."""
         scale = image(8, (70, 45, 33), (32, 16, 16), 2)
         store(self, scale)
-        with page.opened(self, scale, View((30, 20, 10), 4, 0, (0, 255))):
+        with page.shows(self, scale, View((30, 20, 10), 4, 0, (0, 255))):
             x, y = page.middle_of("xy")
             for turns in (1, 1, 1, -1):
-                page.wheel(x, y, 120 * turns)
-            page.move(0, 0, 2)
-            page.want_pictures()
+                page.mouse("mouseWheel", x, y, deltaX=0, deltaY=120 * turns)
+            page.moves(0, 0, 2)
             page.press(x, y, *((x + aside, y - 16) for aside in (10, 24, 40)))
-            page.pan(40, -16)
-            page.want_pictures()
+            page.pans(40, -16)
             page.press(x + 8, y + 12)
-            page.move(2 - 10, 3 + 4, 0)
-            page.want_pictures()
+            page.moves(2 - 10, 3 + 4, 0)
             for key, kind in itertools.product(("ArrowLeft", "ArrowDown", "."), ("keyDown", "keyUp")):
                 page.call("Input.dispatchKeyEvent", type=kind, key=key)
-            page.move(-1, 1, 1)
-            page.want_pictures()
-            page.wheel(x, y, 8, modifiers=8)
-            page.pan(0, -8)
-            page.want_pictures()
+            page.moves(-1, 1, 1)
+            page.mouse("mouseWheel", x, y, deltaX=0, deltaY=8, modifiers=8)
+            page.pans(0, -8)
             page.mouse("mouseMoved", x, y)
             before = page.on("where", "element.textContent")
-            page.wheel(x, y, -90, modifiers=2)
+            page.mouse("mouseWheel", x, y, deltaX=0, deltaY=-90, modifiers=2)
             page.settle()
             page.mouse("mouseMoved", x, y)
             want(page.on("where", "element.textContent"), before, "under the pointer after zooming")
@@ -659,14 +633,12 @@ class OnPage(Trial):
         scale = image(8, (70, 45, 33), (32, 16, 16))
         store(self, scale)
         page.resize(*WINDOW, is_mobile=True)
-        with page.opened(self, scale, View((30, 20, 10), 4, 0, (0, 255))):
+        with page.shows(self, scale, View((30, 20, 10), 4, 0, (0, 255))):
             x, y = page.middle_of("xy")
             page.drag([(x, y)], [(x + 20, y + 8)], [(x + 48, y + 16)])
-            page.pan(48, 16)
-            page.want_pictures()
+            page.pans(48, 16)
             page.drag([(x - 40, y), (x + 40, y)], [(x - 80, y), (x + 80, y)])
-            page.change(zoom=8)
-            page.want_pictures()
+            page.changes(zoom=8)
             page.drag([(x + 17, y + 17)])
             page.settle()
             want(page.on("position", "element.value"), "20, 18, 10", "the cross after a tap")
@@ -680,22 +652,18 @@ class OnPage(Trial):
         scale = image(16, (90, 80, 70), (32, 32, 32), 2)
         store(self, scale)
         with page.opened(self, scale, View((45, 40, 35), 12, 1)):
-            page.fit_window()
-            page.want_pictures()
+            page.fits_window()
             for name, value in ("low", 1000), ("high", 2000), ("channel", 0):
                 page.set_field(name, value)
-            page.change(window=(1000, 2000), channel=0)
-            page.want_pictures()
-            page.click("range")
-            page.fit_window()
-            page.want_pictures()
+            page.changes(window=(1000, 2000), channel=0)
+            page.on("range", "element.click()")
+            page.fits_window()
             page.set_field("position", "50, 41,36")
-            page.move(5, 1, 1)
-            page.want_pictures()
-            page.click("cross")
+            page.moves(5, 1, 1)
+            page.on("cross", "element.click()")
             page.want_cross()
-            page.click("cross")
-            page.click("labels")
+            for name in ("cross", "labels"):
+                page.on(name, "element.click()")
             page.scale = dataclasses.replace(scale, block=(8, 8, 8))
             page.want_pictures()
 
@@ -707,12 +675,11 @@ class OnPage(Trial):
         info = json.loads((self.folder / "d/info").read_text())
         info["scales"].insert(0, {**info["scales"][0], "key": "u", "encoding": "jpeg"})
         self.lay_out({"d/info": json.dumps(info).encode()})
-        with page.opened(self, fine, View((21, 20, 10), 4, 0, (0, 255))):
-            page.want_pictures()
+        with page.shows(self, fine, View((21, 20, 10), 4, 0, (0, 255))):
             want(page.on("scale", "element.options[0].disabled"), True, "a scale of jpeg")
             page.set_field("scale", "s")
-            page.scale, page.view = coarse, View((10, 10, 5), 8, 0, (0, 255), (10.75, 10.25, 5.25))
-            page.want_pictures()
+            page.scale = coarse
+            page.changes(at=(10, 10, 5), zoom=8, centre=(10.75, 10.25, 5.25))
 
     def a_damaged_chunk(self, page):
         """It is hatched and told, and the others are shown; once it is mended it is shown too."""
@@ -747,18 +714,17 @@ class OnPage(Trial):
         """Requests that fail, of a page that is a file; a server that sends no ranges; and none at all."""
         scale = labels(32, (48, 40, 36), (32, 32, 16), (8, 8, 8), sharding=Sharding(0, True, 1, 1))
         plain, view = image(8, (70, 45, 33), (32, 16, 16), dataset="plain"), View((30, 20, 10), 4, 0, (0, 255))
-        store(self, scale)
-        store(self, plain)
+        for one in scale, plain:
+            store(self, one)
         with running(Failing, folder=self.folder / "d", failing=None, broken=None) as server:
             source = f"http://127.0.0.1:{server.server_port}"
-            with page.opened(source, scale, view):
-                page.want_pictures()
-            server.folder = self.folder / "plain"
+            with page.shows(self, scale, view, source):
+                pass
+            server.folder, page.scale = self.folder / "plain", plain
             for member, told in ("failing", "the server answers 500"), ("broken", "the server's answer breaks off"):
-                server.failing, server.broken = None, None
-                setattr(server, member, plain.name((1, 1, 0)))
-                with page.opened(source, plain, view, is_calm=False):
-                    page.want_hatched(f"chunk 1,1,0 can't be shown: {told}", range(32, 64), range(16, 32))
+                vars(server).update({"failing": None, "broken": None, member: plain.name((1, 1, 0))})
+                page.open_view(PAGE.as_uri(), f"source={source}&{view.query(plain)}")
+                page.want_hatched(f"chunk 1,1,0 can't be shown: {told}", range(32, 64), range(16, 32))
         for address, told in (source, "the server can't be reached"), ("", "name the volume"):
             page.want_told(PAGE.as_uri(), f"source={address}", told)
 
@@ -766,8 +732,8 @@ class OnPage(Trial):
         """A page that is a file shows it, over one connection at a time."""
         scale = image(16, (61, 50, 40), (16, 16, 16), sharding=Sharding(2, False, 2, 3))
         store(self, scale)
-        with own(self) as port, page.opened(f"http://localhost:{port}", scale, View((30, 25, 20), 5, 0, (1000, 50000))):
-            page.want_pictures()
+        with own(self) as port, page.shows(self, scale, View((30, 25, 20), 5, 0, (1000, 50000)), f"http://localhost:{port}"):
+            pass
 
     def pieces_of_vol_tool_serve_at_once(self, page):
         """A page of another origin asks for 40, over as many connections as the browser likes."""
@@ -775,6 +741,12 @@ class OnPage(Trial):
         self.lay_out({"d/s/large": content})
         with own(self) as port:
             fetch_parts(page, port, content, 8000)
+
+
+def shows_form(trial, page, title, scale, view):
+    store(trial, scale)
+    with page.shows(trial, scale, view):
+        page.keep(title)
 
 
 def on_page(trial, judge, *arguments):
@@ -795,7 +767,7 @@ def rows():
         print("no Chromium is installed: the page isn't tried")
         return
     for title, *form in FORMS:
-        yield f"the page: {title}", on_page, shows, title, *form
+        yield f"the page: {title}", on_page, shows_form, title, *form
     for title, _, _, judge in methods_of(OnPage, Trial):
         yield f"the page: {title}", on_page, judge
 

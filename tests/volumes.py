@@ -123,7 +123,6 @@ class Folder(Trial):
         return content
 
     def put_cube(self, side=12, options="--chunk 4,4,4"):
-        """Puts one into a scale."""
         content = self.cube(side=side)
         self.does(f"put in.npy d s {options}")
         return content
@@ -514,7 +513,7 @@ def goes_on(trial, number):
     """A put that is broken off at one of its slabs goes on, and nothing else does there meanwhile."""
     folder, put = Folder.of(trial), "put in.npy d s --chunk 4,4,4"
     folder.cube(side=12)
-    folder.cube("other.npy", 12, seed=2)
+    folder.cube("other.npy", 12, width=2)
     folder.does("put in.npy d at_once --chunk 4,4,4")
     want(folder.breaks_off(number, 5, put, most=900).count("\n"), number, "slabs of a put that is broken off")
     folder.refuses("--resume", put, most=900)

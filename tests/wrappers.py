@@ -75,12 +75,12 @@ HELP = {
 TOLD = {
     "vol_fetch": ["vol_fetch HOST PORT DATASET KEY BOX"],
     "vol_serve": ["vol_serve DATASET --port=P --connections=N --workers=W"],
-    "vol_tool": [f"vol_tool {command} " for command in ("write", "update", "cutout", "verify", "reshard", "downsample", "generate", "serve")],
+    "vol_tool": [f"vol_tool {command} " for command in "write update cutout verify reshard downsample generate serve".split()],
 }
 
 
 class Tree:
-    """A checkout, with a stand-in for `rt`, the program that stands there at first, and the one that was put aside, as old as it is said."""
+    """A checkout, with a stand-in for `rt`, the program that stands there at first, which may be old, and one that was put aside."""
 
     def __init__(self, folder, name="vol_tool", builder=FAILS, program=None, aside=None, is_old=False):
         self.folder, self.name = folder, name
