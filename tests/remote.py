@@ -10,6 +10,7 @@ it tells a store fault behind a front of the cutout.
 """
 import contextlib
 import dataclasses
+import functools
 import itertools
 import math
 import random
@@ -90,28 +91,6 @@ def honest(request, content):
     return Honest("206 Partial Content" if part else "416 Range Not Satisfiable", [len(part)], [f"Content-Range: {told}"], part)
 
 
-def is_any(_reply):
-    return True
-
-
-def has_body(reply):
-    return len(reply.body) > 0
-
-
-def is_small(reply):
-    """It comes at once: of a longer one no byte behind its end is received."""
-    return len(reply.whole()) < MOST_HEAD
-
-
-def is_part(reply):
-    return reply.status.startswith("206")
-
-
-def is_length(reply):
-    """To a HEAD, of an object that has bytes."""
-    return reply.status.startswith("200") and not reply.body and reply.lengths[0] > 0
-
-
 def shift_range(**by):
     """A part that says it is another one."""
 
@@ -138,43 +117,45 @@ def but(*fields, **members):
     return lambda reply: reply.but(*fields, **members)
 
 
-# Replies that don't fit: which honest ones they are made of, and what is sent.
+# Replies that don't fit: what is sent in place of an honest one, of a part that is asked for, and of the length of an object.
+PARTS = {
+    "a part that is too long": lambda reply: reply.but(lengths=[reply.lengths[0] + 1]),
+    "a range that begins before": shift_range(first=-1), "a range that begins behind": shift_range(first=1),
+    "a range that ends before": shift_range(last=-1), "a range of another place": shift_range(first=1, last=1, total=1),
+    "no range": but(fields=[]), "two ranges": lambda reply: reply.but(*reply.fields),
+    "several parts": but("Content-Type: multipart/byteranges", fields=[]),
+}
+LENGTHS = {"a part for a length": as_part, "no part for a length": but(status="416 Range Not Satisfiable")}
 UNFIT = {
-    "nothing": (is_any, lambda reply: b""), "a reset": (is_any, lambda reply: b""),
-    "half a head": (is_any, lambda reply: reply.head()[: len(reply.head()) // 2]),
-    "a head without its last byte": (is_any, lambda reply: reply.head()[:-1]),
-    "no body": (has_body, Honest.head), "a short body": (has_body, lambda reply: reply.whole()[:-1]),
-    "a long body": (is_small, lambda reply: reply.whole() + b"x"),
-    "no length": (is_any, but(lengths=[])), "a length that is none": (is_any, but(lengths=["a"])),
-    "two lengths": (is_any, lambda reply: reply.but(lengths=[*reply.lengths, reply.lengths[0] + 1])),
-    "a length twice": (is_any, lambda reply: reply.but(lengths=2 * reply.lengths)),
-    "a length with a sign": (is_any, lambda reply: reply.but(lengths=[f"+{reply.lengths[0]}"])),
-    "a length of 64 bits and one": (is_any, but(lengths=[2**64])),
-    "a part that is too long": (is_part, lambda reply: reply.but(lengths=[reply.lengths[0] + 1])),
-    "chunks": (is_any, but("Transfer-Encoding: chunked", lengths=[])), "chunks and a length": (is_any, but("Transfer-Encoding: chunked")),
-    "a long head": (is_any, lambda reply: pad_head(reply, MOST_HEAD + 1)),
-    "a head without an end": (is_any, lambda reply: reply.head()[:-2] + b"X: " + b"a" * MOST_HEAD),
-    "a range that begins before": (is_part, shift_range(first=-1)), "a range that begins behind": (is_part, shift_range(first=1)),
-    "a range that ends before": (is_part, shift_range(last=-1)),
-    "a range of another place": (is_part, shift_range(first=1, last=1, total=1)),
-    "no range": (is_part, but(fields=[])), "two ranges": (is_part, lambda reply: reply.but(*reply.fields)),
-    "several parts": (is_part, but("Content-Type: multipart/byteranges", fields=[])),
-    "a part for a length": (is_length, as_part), "no part for a length": (is_length, but(status="416 Range Not Satisfiable")),
-    "a redirect": (is_any, lambda reply: Honest("302 Found", [0], ["Location: /info"])),
-    "a coding": (is_any, but("Content-Encoding: gzip")), "a fault": (is_any, but(status="500 Internal Server Error")),
-    "no change": (is_any, but(status="304 Not Modified")), "no access": (is_any, but(status="403 Forbidden")),
-    "a reply in front": (is_any, lambda reply: b"HTTP/1.1 100 Continue\r\n\r\n" + reply.whole()),
-    "another version": (is_any, but(version="HTTP/2.0")), "no head": (is_any, lambda reply: b"220 ready\r\n"),
-    "a head in another coding": (is_any, lambda reply: b"\x16\x03\x01\x02\x00"),
+    "nothing": lambda reply: b"", "a reset": lambda reply: b"", "half a head": lambda reply: reply.head()[: len(reply.head()) // 2],
+    "a head without its last byte": lambda reply: reply.head()[:-1], "no body": Honest.head,
+    "a short body": lambda reply: reply.whole()[:-1], "a long body": lambda reply: reply.whole() + b"x",
+    "no length": but(lengths=[]), "a length that is none": but(lengths=["a"]), "a length of 64 bits and one": but(lengths=[2**64]),
+    "two lengths": lambda reply: reply.but(lengths=[*reply.lengths, reply.lengths[0] + 1]),
+    "a length twice": lambda reply: reply.but(lengths=2 * reply.lengths),
+    "a length with a sign": lambda reply: reply.but(lengths=[f"+{reply.lengths[0]}"]),
+    "chunks": but("Transfer-Encoding: chunked", lengths=[]), "chunks and a length": but("Transfer-Encoding: chunked"),
+    "a long head": lambda reply: pad_head(reply, MOST_HEAD + 1),
+    "a head without an end": lambda reply: reply.head()[:-2] + b"X: " + b"a" * MOST_HEAD,
+    "a redirect": lambda reply: Honest("302 Found", [0], ["Location: /info"]), "a coding": but("Content-Encoding: gzip"),
+    "a fault": but(status="500 Internal Server Error"), "no change": but(status="304 Not Modified"),
+    "no access": but(status="403 Forbidden"),
+    "a reply in front": lambda reply: b"HTTP/1.1 100 Continue\r\n\r\n" + reply.whole(), "another version": but(version="HTTP/2.0"),
+    "no head": lambda reply: b"220 ready\r\n", "a head in another coding": lambda reply: b"\x16\x03\x01\x02\x00", **PARTS, **LENGTHS,
 }
 
 # Those that are broken off; behind the others it would go on for ever.
-BROKEN = {"nothing", "half a head", "a head without its last byte", "no body", "a short body"}
+BROKEN = {"a reset": RESET, **dict.fromkeys(["nothing", "half a head", "a head without its last byte", "no body", "a short body"], CLOSE)}
 
 
-def unfit(kind):
-    """What is sent of a kind that doesn't fit, and what is then."""
-    return UNFIT[kind][1], RESET if kind == "a reset" else CLOSE if kind in BROKEN else HOLD
+def is_made_of(kind, reply):
+    """Whether a kind that doesn't fit can be made of an honest reply."""
+    if kind in PARTS:
+        return reply.status.startswith("206")
+    if kind in LENGTHS:
+        return reply.status.startswith("200") and not reply.body and reply.lengths[0] > 0
+    # of a longer one, which doesn't come at once, no byte behind its end is received
+    return len(reply.whole()) < MOST_HEAD if kind == "a long body" else reply.body or kind not in ("no body", "a short body")
 
 
 def odd_head(reply):
@@ -225,7 +206,7 @@ class Fetching(Trial):
     def honest(self, request):
         return honest(request, read_file(self.folder / "d" / request.target[1:]))
 
-    def telling(self, stream=Honest.whole, then=KEEP, at=0, suits=is_any):
+    def telling(self, stream=Honest.whole, then=KEEP, at=0, suits=lambda reply: True):
         """A server whose replies `stream` makes of honest ones that suit, from the request of a number on; the others are honest."""
 
         def answer(request):
@@ -268,14 +249,13 @@ def want_front(found, ending, what):
 def want_fault_or_cut(row, volume, box, chance):
     """A server replies in a way that doesn't fit from some request on: a store fault, or where it comes to no such request the cutout."""
     kind, at, given = chance.choice(list(UNFIT)), chance.randrange(12), []
-    stream, then = unfit(kind)
 
     def note(reply):
         given.append(reply)
-        return stream(reply)
+        return UNFIT[kind](reply)
 
     ending = row.run(volume.words("cutout", spell(box)))
-    with row.telling(note, then, at, UNFIT[kind][0]) as server:
+    with row.telling(note, BROKEN.get(kind, HOLD), at, functools.partial(is_made_of, kind)) as server:
         found = row.fetch(server.server_port, volume, box)
     (want_front if given else want_ending)(found, ending, f"{kind} from request {at} on, {spell(box)}")
 
@@ -318,7 +298,7 @@ def heads_of(server):
 def want_fault(row, volume, ending, heads, kind, at):
     """Where the reply to a request doesn't fit a store fault is told at once, behind a front of the cutout, and nothing more is asked."""
     what = f"to request {at}"
-    with row.telling(*unfit(kind), at) as server:
+    with row.telling(UNFIT[kind], BROKEN.get(kind, HOLD), at) as server:
         with within(0, SILENCE - 2, what):
             want_front(row.fetch(server.server_port, volume), ending, what)
         # a kept end that ended or was reset before a byte of the reply is dialled anew once
@@ -334,8 +314,8 @@ def tells_faults(trial, title, most):
         row.want_fetched(ending, server.server_port, volume, what="an honest server")
         want(server.connections, 1, "its connections")
         heads, replies = heads_of(server), list(map(row.honest, server.requests))
-    for kind, (suits, _) in UNFIT.items():
-        suited = [at for at, reply in enumerate(replies) if suits(reply)]
+    for kind in UNFIT:
+        suited = [at for at, reply in enumerate(replies) if is_made_of(kind, reply)]
         for at in random.Random(f"{kind} {title}").sample(suited, min(most, len(suited))):
             yield f"{kind}, {title}", wrong_with(want_fault, row, volume, ending, heads, kind, at)
 

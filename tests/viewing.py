@@ -468,7 +468,7 @@ class Page(Browser):
     def want_pictures(self):
         """The three pictures of the page are those that are due."""
         for name in PANES:
-            want(self.differences(name)[0][:1], [], f"{name}: the first pixel that is another: column, row, colour, and the one that is due")
+            want(self.differences(name)[0][:1], [], f"{name}: the first pixel that is another: column, row, what it is and should be")
 
     def want_cross(self):
         """In each slice one line of pixels across and one down differ, which meet in the voxel at the cross."""
@@ -529,7 +529,10 @@ FORMS = [
         View((20, 15, 7), 3, 0, (-1.5, 2.25)),
     ),
     ("labels of 32 bits", labels(32, (48, 40, 36), (32, 32, 16), (8, 8, 8)), View((24, 20, 18), 3)),
-    ("labels of 64 bits in shards", labels(64, (40, 44, 30), (16, 16, 8), (5, 4, 3), sharding=Sharding(1, True, 3, 4)), View((17, 3, 29), 6)),
+    (
+        "labels of 64 bits in shards", labels(64, (40, 44, 30), (16, 16, 8), (5, 4, 3), sharding=Sharding(1, True, 3, 4)),
+        View((17, 3, 29), 6),
+    ),
     ("the first of two chunk sizes", image(8, (40, 30, 20), (16, 16, 16), more=([9, 30, 4],)), View((20, 15, 10), 4, 0, (10, 200))),
     ("an offset below 0, clipped chunks", image(32, (37, 29, 23), (10, 9, 8), offset=(-17, 5, -40)), View((36, 28, 22), 7, 0, (0, 2**32))),
     ("64 bits in shards", image(64, (33, 20, 50), (7, 8, 9), 2, sharding=Sharding(0, True, 0, 11)), View((1, 2, 3), 2, 1, (0, 2**64))),
