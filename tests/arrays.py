@@ -1,9 +1,19 @@
-"""Arrays as numpy.save writes them, without numpy."""
+"""Arrays as numpy.save writes them, without numpy; and examples/volume.py, which is tried with them."""
 import ast
 import itertools
+import os
 import struct
 
+from harness import ROOT
+
+SCRIPT = ROOT / "examples" / "volume.py"
 MAGIC = b"\x93NUMPY\x01\x00"
+
+
+def variables(program):
+    """What the environment has for the script, or for one that imports it."""
+    path = os.pathsep.join(filter(None, [str(SCRIPT.parent), os.environ.get("PYTHONPATH")]))
+    return {"VOL_TOOL": str(program), "PYTHONPATH": path, "PYTHONDONTWRITEBYTECODE": "1"}
 
 
 def save(path, descr, shape, values, by_columns=False):

@@ -2,6 +2,7 @@
 import base64
 import contextlib
 import fcntl
+import hashlib
 import itertools
 import json
 import os
@@ -11,7 +12,8 @@ import signal
 import tempfile
 import time
 
-from harness import Wrong
+from harness import Wrong, want, want_true
+from servers import Handler, running
 
 NAMES = ("chromium", "chromium-browser", "google-chrome")
 OPTIONS = (
@@ -43,7 +45,7 @@ def begin(words):
 
 def find_browser():
     """The browser's command, or None where there is none."""
-    return next((found for found in map(shutil.which, NAMES) if found), None)
+    return next(filter(None, map(shutil.which, NAMES)), None)
 
 
 class Browser:
@@ -51,14 +53,14 @@ class Browser:
 
     def __init__(self, command, size):
         self.numbers = itertools.count(1)
-        self.session = None
+        self.session = {}
         self.exceptions = []
         self.left = b""
         self.profile = tempfile.TemporaryDirectory(ignore_cleanup_errors=True)  # pylint: disable=consider-using-with
         words = [command, *OPTIONS, f"--user-data-dir={self.profile.name}", f"--window-size={size[0]},{size[1]}", "about:blank"]
         self.process, self.to_browser, self.from_browser = begin(words)
         target = self.call("Target.createTarget", url="about:blank")["targetId"]
-        self.session = self.call("Target.attachToTarget", targetId=target, flatten=True)["sessionId"]
+        self.session = {"sessionId": self.call("Target.attachToTarget", targetId=target, flatten=True)["sessionId"]}
         self.call("Runtime.enable")
         self.call("Page.enable")
         self.resize(*size)
@@ -73,19 +75,12 @@ class Browser:
         os.close(self.from_browser)
         self.profile.cleanup()
 
-    def send(self, message):
-        data = json.dumps(message).encode() + b"\0"
-        while data:
-            data = data[os.write(self.to_browser, data) :]
-
     def receive(self, until):
-        """The next message."""
         while b"\0" not in self.left:
             if not select.select([self.from_browser], [], [], max(0, until - time.monotonic()))[0]:
                 raise Wrong("the browser doesn't answer")
             piece = os.read(self.from_browser, 1 << 20)
-            if not piece:
-                raise Wrong("the browser has ended")
+            want_true(piece, "the browser has ended")
             self.left += piece
         message, _, self.left = self.left.partition(b"\0")
         return json.loads(message)
@@ -93,15 +88,15 @@ class Browser:
     def call(self, method, **parameters):
         """What a call of the protocol answers."""
         number, until = next(self.numbers), time.monotonic() + PATIENCE
-        own = {"sessionId": self.session} if self.session else {}
-        self.send({"id": number, "method": method, "params": parameters, **own})
+        data = json.dumps({"id": number, "method": method, "params": parameters, **self.session}).encode() + b"\0"
+        while data:
+            data = data[os.write(self.to_browser, data) :]
         while True:
             message = self.receive(until)
             if message.get("method") == "Runtime.exceptionThrown":
                 self.exceptions.append(message["params"]["exceptionDetails"].get("exception", {}).get("description", "?"))
             if message.get("id") == number:
-                if "error" in message:
-                    raise Wrong(f"{method}: {message['error']}")
+                want_true("error" not in message, f"{method}: {message.get('error')}")
                 return message["result"]
 
     def resize(self, width, height, scale=1, is_mobile=False):
@@ -119,17 +114,13 @@ class Browser:
         """Opens a page, and waits until an expression in it is true."""
         self.run("window.isLeft = true")
         self.exceptions.clear()
-        found = self.call("Page.navigate", url=address)
-        if found.get("errorText"):
-            raise Wrong(f"{address}: {found['errorText']}")
-        self.wait(f"!window.isLeft && ({is_ready})")
-
-    def wait(self, condition):
-        """Waits until an expression is true, of a page that may not be there yet."""
-        until = time.monotonic() + PATIENCE
+        failed = self.call("Page.navigate", url=address).get("errorText")
+        want_true(not failed, f"{address}: {failed}")
+        condition, until = f"Boolean(!window.isLeft && ({is_ready}))", time.monotonic() + PATIENCE
         while time.monotonic() < until:
+            # the page may not be there yet
             with contextlib.suppress(Wrong):
-                if self.run(f"Boolean({condition})"):
+                if self.run(condition):
                     return
             time.sleep(0.02)
         raise Wrong(f"it never comes that {condition}")
@@ -138,8 +129,43 @@ class Browser:
         self.call("Input.dispatchMouseEvent", type=kind, x=x, y=y, **more)
 
     def touch(self, kind, *points):
-        self.call("Input.dispatchTouchEvent", type=kind, touchPoints=[{"x": x, "y": y, "id": number} for number, (x, y) in enumerate(points)])
+        fingers = [{"x": x, "y": y, "id": number} for number, (x, y) in enumerate(points)]
+        self.call("Input.dispatchTouchEvent", type=kind, touchPoints=fingers)
 
     def take_picture(self, path):
-        """A picture of the page as a file of PNG."""
         path.write_bytes(base64.b64decode(self.call("Page.captureScreenshot", format="png")["data"]))
+
+
+class Page(Handler):
+    """An empty page."""
+
+    def do_GET(self):  # pylint: disable=invalid-name
+        self.reply(200, b"<!doctype html>", Content_Type="text/html")
+
+
+PIECE = 1 << 16
+
+# Asks for pieces at once, and gives the milliseconds that they take, and of each its status, its length and its SHA-256.
+FETCH = """
+(async (address, pieces) => {
+    const begin = performance.now();
+    const found = await Promise.all([...Array(pieces).keys()].map(async (piece) => {
+        const range = `bytes=${65536 * piece}-${65536 * piece + 65535}`;
+        const reply = await fetch(address, {headers: {Range: range}, cache: "no-store"});
+        return [reply.status, await reply.arrayBuffer()];
+    }));
+    const spent = performance.now() - begin;
+    const digest = async (bytes) => [...new Uint8Array(await crypto.subtle.digest("SHA-256", bytes))];
+    return [spent, await Promise.all(found.map(async ([status, bytes]) => [status, bytes.byteLength, await digest(bytes)]))];
+})("%s", %d)
+"""
+
+
+def fetch_parts(browser, port, content, most):
+    """A page of another origin asks for all pieces of /s/large at once, and gets them within so many milliseconds."""
+    pieces = [content[begin : begin + PIECE] for begin in range(0, len(content), PIECE)]
+    with running(Page) as other:
+        browser.open(f"http://127.0.0.1:{other.server_port}/", "document.readyState === 'complete'")
+        spent, found = browser.run(FETCH % (f"http://127.0.0.1:{port}/s/large", len(pieces)))
+    want(found, [[206, PIECE, list(hashlib.sha256(piece).digest())] for piece in pieces], "the pieces")
+    want_true(spent < most, f"{len(pieces)} pieces took {spent:.0f} ms")

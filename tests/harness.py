@@ -1,9 +1,7 @@
 """
 What the scripts share: rows that have names and are picked, run side by side and told; and runs of the built program, each row in
-a temporary folder of its own.
-
-A script gives `main` its rows: each a title, a function and what it is called with behind the row's `Trial`. The function raises
-`Wrong` where something is wrong; one that goes through several rows at once yields each one's title, and what is wrong or None.
+a temporary folder of its own. A script gives `main` its rows: each a title, a function and what it is called with behind the row's
+`Trial`. The function raises `Wrong`; one that goes through several rows yields each one's title, and what is wrong or None.
 """
 import argparse
 import contextlib
@@ -12,24 +10,23 @@ import itertools
 import multiprocessing
 import os
 import pathlib
+import re
 import resource
 import signal
 import subprocess
 import sys
 import tempfile
+import time
 import traceback
 
 from model import OK, cutout, infos_of, printed, spell, stored, stream_of, update_of
 
 ROOT = pathlib.Path(__file__).resolve().parent.parent
-PROGRAM = ROOT / "crates" / "vol_tool" / "out" / "vol_tool"
-HALL_PROGRAM = ROOT / "crates" / "vol_serve" / "out" / "vol_serve"
+CRATES = ROOT / "crates"
+PROGRAM, HALL_PROGRAM = (CRATES / name / "out" / name for name in ("vol_tool", "vol_serve"))
 
 # How long a run may take, in seconds.
 LIMIT = 60
-
-
-# What is wrong
 
 
 class Wrong(Exception):
@@ -37,7 +34,6 @@ class Wrong(Exception):
 
 
 def shorten(value):
-    """A value as it is told, with its length where it is long."""
     text = repr(value)
     return text if len(text) <= 200 else f"{text[:200]}.. ({len(text)} characters)"
 
@@ -69,8 +65,24 @@ def want_ending(found, wanted, what="it"):
         want(one, other, f"{what}: {part}" + (f" (it tells {found[2]!r:.200})" if part == "status" else ""))
 
 
+def wrong_with(judge, *arguments):
+    """What is wrong with what is judged, or None."""
+    try:
+        judge(*arguments)
+    except Wrong as wrong:
+        return str(wrong)
+
+
+@contextlib.contextmanager
+def within(least, most, what="it"):
+    """What is done here takes so many seconds."""
+    begin = time.monotonic()
+    yield
+    spent = time.monotonic() - begin
+    want_true(least <= spent <= most, f"{what} took {spent:.1f} s")
+
+
 def want_files(found, wanted, what="file"):
-    """Files by their paths."""
     for path in sorted({*found, *wanted}):
         want(found.get(path), wanted.get(path), f"{what} {path}")
 
@@ -86,22 +98,18 @@ def want_front(files, before, due, parts_allowed=0):
     Files are those before, with a front of those that are put in their place or beside them, in their order, and at most so many whose
     names end in .part. Gives how long that front is.
     """
-    count = sum(1 for _ in itertools.takewhile(lambda path: files.get(path) == due[path], due))
-    wanted = {**before, **dict(list(due.items())[:count])}
-    parts = [path for path in files if path not in wanted and path.endswith(".part")]
-    want_files({path: content for path, content in files.items() if path not in parts}, wanted)
+    front = dict(itertools.takewhile(lambda item: files.get(item[0]) == item[1], due.items()))
+    parts = [path for path in files if path not in {**before, **front} and path.endswith(".part")]
+    want_files({path: content for path, content in files.items() if path not in parts}, {**before, **front})
     want_true(len(parts) <= parts_allowed, f"not finished: {parts}")
-    return count
+    return len(front)
 
-
-# Folders
 
 # What a file may be instead of its bytes: nothing, another kind of file, or bytes by their places, with holes between.
 NONE, PIPE, FOLDER, LOOP, DEVICE = None, "pipe", "folder", "loop", "device"
 
 
 def lay_out(folder, files):
-    """Puts files, and the folders above them."""
     for name, content in files.items():
         path = folder / name
         if content is NONE:
@@ -115,18 +123,15 @@ def lay_out(folder, files):
             path.mkdir(parents=True)
         elif content in (LOOP, DEVICE):
             path.symlink_to(path.name if content == LOOP else "/dev/zero")
-        elif isinstance(content, dict):
+        else:
             with path.open("wb") as file:
-                for place, piece in content.items():
+                for place, piece in content.items() if isinstance(content, dict) else [(0, content)]:
                     file.seek(place)
                     file.write(piece)
                 file.truncate()
-        else:
-            path.write_bytes(content)
 
 
 def files_in(folder):
-    """The bytes of each file below a folder, by its path."""
     return {str(path.relative_to(folder)): path.read_bytes() for path in sorted(folder.rglob("*")) if path.is_file()}
 
 
@@ -148,23 +153,7 @@ def contents(files):
     return {path: entry[2] for path, entry in files.items()}
 
 
-def want_replaced(before, after, update):
-    """
-    The model's files stand in the place of those before or beside them, or a front of them where the update broke off, and perhaps what
-    there is of the next one; all others are as they were.
-    """
-    found = contents(after)
-    put = dict(itertools.takewhile(lambda item: found.get(item[0]) == item[1], update.files.items()))
-    if update.answer[0] == OK:
-        want_files({path: found.get(path) for path in update.files}, update.files)
-    begun = [path for path in after if path not in before and path in {f"{path}.part" for path in update.paths}]
-    want_true(len(begun) <= (update.answer[0] != OK), f"not finished: {begun}")
-    want_files({path: entry for path, entry in after.items() if path not in (*put, *begun)},
-               {path: entry for path, entry in before.items() if path not in put})
-
-
 def open_full():
-    """A device that takes nothing."""
     return os.open("/dev/full", os.O_WRONLY)
 
 
@@ -176,7 +165,6 @@ def open_closed_pipe():
 
 
 def memory_limit(count):
-    """From now on a process takes no more than so many bytes of memory for its data."""
     return lambda: resource.setrlimit(resource.RLIMIT_DATA, (count, count))
 
 
@@ -190,14 +178,23 @@ def file_limit(count):
     return prepare
 
 
-# Runs
-
-
-def call(command, folder, **environment):
+def call(command, folder, errors=subprocess.PIPE, **environment):
     """What a command ends with that reads nothing: its status, its output and its standard error, as texts."""
-    variables = {**os.environ, **environment}
-    done = subprocess.run(command, cwd=folder, capture_output=True, timeout=LIMIT, stdin=subprocess.DEVNULL, env=variables)
-    return done.returncode, done.stdout.decode(), done.stderr.decode()
+    done = subprocess.run(command, cwd=folder, stdin=subprocess.DEVNULL, stdout=subprocess.PIPE, stderr=errors, timeout=LIMIT,
+                          env={**os.environ, **environment})
+    return done.returncode, done.stdout.decode(), (done.stderr or b"").decode()
+
+
+def call_on_terminal(command, folder, **environment):
+    """The same of a command whose standard error is a terminal."""
+    ours, theirs = os.openpty()
+    with open(ours, "rb", buffering=0) as terminal:
+        status, output, _ = call(command, folder, errors=theirs, **environment)
+        os.close(theirs)
+        # where nothing was written there is nothing to read
+        with contextlib.suppress(OSError):
+            return status, output, terminal.read(4096).decode()
+    return status, output, ""
 
 
 def words_in(text):
@@ -206,7 +203,7 @@ def words_in(text):
 
 def built(name):
     """A program beside vol_tool, or the one that the environment names, as VOL_FETCH names vol_fetch."""
-    return pathlib.Path(os.environ.get(name.upper(), ROOT / "crates" / name / "out" / name)).resolve()
+    return pathlib.Path(os.environ.get(name.upper(), CRATES / name / "out" / name)).resolve()
 
 
 @dataclasses.dataclass(frozen=True)
@@ -215,6 +212,11 @@ class Trial:
 
     program: pathlib.Path
     folder: pathlib.Path
+
+    @classmethod
+    def of(cls, trial):
+        """The same row with the methods of a class of its own."""
+        return cls(trial.program, trial.folder)
 
     def run(self, words, feed=b"", output=subprocess.PIPE, prepare=None, **environment):
         """
@@ -246,7 +248,6 @@ class Trial:
         want_true(snapshot(self.folder) == before, "the folder isn't as before")
 
     def start(self, words, **streams):
-        """A run that goes on beside the row."""
         quiet = {name: subprocess.DEVNULL for name in ("stdin", "stdout", "stderr")}
         return subprocess.Popen([self.program, *words_in(words)], cwd=self.folder, **{**quiet, **streams})
 
@@ -272,23 +273,30 @@ class Trial:
         """
         before = standing(self.folder)
         found = self.run(words)
-        after = standing(self.folder)
-        if copy.fault is None:
-            want_added(before, after, copy.files)
-        else:
+        after, due, begun = standing(self.folder), copy.files, []
+        if copy.fault is not None:
             new = [path for path in after if path not in before and not path.endswith(".part")]
-            begun = {f"{path}.part" for path in copy.paths[len(new) : len(new) + 1]}
-            whole = {path: entry for path, entry in after.items() if path in before or path not in begun}
-            want_added(before, whole, dict(list(copy.files.items())[: len(new)]))
+            due = dict(list(due.items())[: len(new)])
+            begun = [f"{path}.part" for path in copy.paths[len(new) : len(new) + 1] if f"{path}.part" not in before]
+        want_added(before, {path: entry for path, entry in after.items() if path not in begun}, due)
         want_ending(found, copy.answer())
 
     def want_update(self, volume, writes, *options):
-        """An update ends as the model's, and leaves its files. Gives the model's."""
+        """
+        An update ends as the model's: its files stand in the place of those before or beside them, or a front of them where it broke off,
+        and perhaps what there is of the next one; all others are as they were. Gives the model's.
+        """
         before = standing(self.folder)
         update = update_of(volume, contents(before), writes)
-        found = self.run(volume.words("update", *options), stream_of(writes))
-        want_ending(found, update.answer)
-        want_replaced(before, standing(self.folder), update)
+        want_ending(self.run(volume.words("update", *options), stream_of(writes)), update.answer)
+        after, is_whole = standing(self.folder), update.answer[0] == OK
+        found = contents(after)
+        put = update.files if is_whole else dict(itertools.takewhile(lambda item: found.get(item[0]) == item[1], update.files.items()))
+        begun = [path for path in after if path not in before and path.removesuffix(".part") in update.paths and path.endswith(".part")]
+        want_files({path: found.get(path) for path in put}, put)
+        want_true(len(begun) <= (not is_whole), f"not finished: {begun}")
+        want_files({path: entry for path, entry in after.items() if path not in (*put, *begun)},
+                   {path: entry for path, entry in before.items() if path not in put})
         return update
 
     def store(self, volume, chunks):
@@ -303,7 +311,6 @@ class Trial:
             self.want(volume.words("cutout", spell(box)), cutout(volume, files, box))
 
     def want_values(self, volume, values, boxes):
-        """Cutouts of boxes have these values."""
         for box in boxes:
             self.want(volume.words("cutout", spell(box)), printed(values.of(box)))
 
@@ -312,6 +319,26 @@ def answers(trial, files, words, wanted, feed=b"", **how):
     """A run over files ends so, and changes nothing."""
     trial.lay_out(files)
     trial.want_unchanged(words, wanted, feed, **how)
+
+
+# Pages
+
+
+def cells_of(line):
+    return [cell.strip() for cell in line.strip().strip("|").split(" | ")]
+
+
+def is_defined(name, text):
+    return re.search(rf"^\s*(?:\w+ )*{re.escape(name)}(?: |$)", text, re.M)
+
+
+def main_of_pages(judge_all):
+    """`main` for rows that are judged already, each with all that is wrong with it."""
+    main(lambda: ((title, tell, wrong) for title, wrong in judge_all()), jobs=1, program=None)
+
+
+def tell(_trial, wrong):
+    want_true(not wrong, "; ".join(wrong))
 
 
 # Rows
@@ -323,9 +350,7 @@ def judge(program, title, judge_row, *arguments):
     with tempfile.TemporaryDirectory(ignore_cleanup_errors=True) as name:
         try:
             found = judge_row(Trial(program, pathlib.Path(name).resolve()), *arguments)
-            if found is None:
-                return [(title, None)]
-            for row in found:
+            for row in [(title, None)] if found is None else found:
                 told.append(row)
         except Wrong as wrong:
             told.append((title, str(wrong)))
@@ -337,24 +362,24 @@ def judge(program, title, judge_row, *arguments):
     return told
 
 
-class Rows:
-    """The rows that are judged, for the processes that judge them."""
+def methods_of(cases, base):
+    """A row for each method, by its name, that a class of trials has beside those of another."""
+    for part in cases.__mro__:
+        for name, method in vars(part).items() if not issubclass(base, part) else ():
+            if callable(method) and not name.startswith("_"):
+                yield name.replace("_", " "), call_method, cases, method
 
-    program = None
-    picked = []
+
+def call_method(trial, cases, method):
+    return method(cases.of(trial))
+
+
+# The program and the rows that are judged, for the processes that judge them.
+PICKED = []
 
 
 def judge_number(number):
-    return judge(Rows.program, *Rows.picked[number])
-
-
-def judge_all(jobs):
-    """What is told of all rows, in their order."""
-    if jobs == 1 or len(Rows.picked) < 2:
-        yield from map(judge_number, range(len(Rows.picked)))
-        return
-    with multiprocessing.get_context("fork").Pool(jobs) as pool:
-        yield from pool.imap(judge_number, range(len(Rows.picked)))
+    return judge(*PICKED[number])
 
 
 def read_options(count, jobs, program):
@@ -377,16 +402,16 @@ def main(rows_of, count=None, jobs=None, program=PROGRAM):
     """
     processors = len(os.sched_getaffinity(0))
     options = read_options(count, min(jobs or processors, processors), program)
-    passed = failed = 0
     if program is not None:
-        Rows.program = options.program.resolve()
-        if not os.access(Rows.program, os.X_OK):
-            print(f"there is no program {Rows.program}\n0 passed, 1 failed")
+        program = options.program.resolve()
+        if not os.access(program, os.X_OK):
+            print(f"there is no program {program}\n0 passed, 1 failed")
             sys.exit(1)
     rows = rows_of() if count is None else rows_of(options.count)
-    Rows.picked = [row for row in rows if options.k in row[0]]
-    for told in judge_all(options.jobs):
-        for title, wrong in told:
+    PICKED.extend((program, *row) for row in rows if options.k in row[0])
+    passed = failed = 0
+    with multiprocessing.get_context("fork").Pool(options.jobs) as pool:
+        for title, wrong in itertools.chain.from_iterable(pool.imap(judge_number, range(len(PICKED)))):
             passed += wrong is None
             failed += wrong is not None
             if wrong is not None:

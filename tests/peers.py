@@ -1,18 +1,37 @@
 """What the scripts share that serve a data set: a server, its peers, and what these get where the run is disturbed."""
+import concurrent.futures
 import contextlib
 import os
 import signal
 import socket
+import struct
 import subprocess
 import time
 
-from harness import LIMIT, Wrong, want_ending
-from model import printed
-from model.replies import ABSENT, FAILED, ask, closing, part_of, whole_of
+from harness import LIMIT, PIPE, Trial, Wrong, want, want_ending, want_true
+from model import printed, refused
+from model.replies import ABSENT, FAILED, ask, closing, head_of, part_of, whole_of
+
+OBJECT = b"0123456789"
+ASK = ask("GET /s/x")
+REPLY = whole_of(OBJECT)
 
 
 def connect(port, address="127.0.0.1"):
     return socket.create_connection((address, port), LIMIT)
+
+
+def receive(peer, count=None):
+    """So many bytes, or all that comes until the end."""
+    found = bytearray()
+    while len(found) != count and (piece := peer.recv(1 << 16 if count is None else count - len(found))):
+        found += piece
+    return bytes(found)
+
+
+def reset(peer):
+    peer.setsockopt(socket.SOL_SOCKET, socket.SO_LINGER, struct.pack("ii", 1, 0))
+    peer.close()
 
 
 def talk(port, request, pieces=(), half_close=True, address="127.0.0.1", pause=0.01):
@@ -24,16 +43,23 @@ def talk(port, request, pieces=(), half_close=True, address="127.0.0.1", pause=0
                 time.sleep(pause)
         if half_close:
             peer.shutdown(socket.SHUT_WR)
-        with peer.makefile("rb") as received:
-            return received.read()
+        return receive(peer)
+
+
+def in_halves(stream):
+    return [piece for piece in (stream[: len(stream) // 2], stream[len(stream) // 2 :]) if piece]
+
+
+def words_of(connections, workers, port=0):
+    """The words of vol_tool that serve the data set d, or of vol_serve with so many workers."""
+    words = f"d --port={port} --connections={connections}"
+    return f"serve {words}" if workers is None else f"{words} --workers={workers}"
 
 
 @contextlib.contextmanager
 def serving(trial, connections, workers=None, **environment):
     """A server of the data set d, or one of several workers, by its port; it has to end with status 0 and say nothing else."""
-    words = f"d --port=0 --connections={connections}"
-    words = f"serve {words}" if workers is None else f"{words} --workers={workers}"
-    child = trial.start(words, stdout=subprocess.PIPE, stderr=subprocess.PIPE, env={**os.environ, **environment})
+    child = trial.start(words_of(connections, workers), stdout=subprocess.PIPE, stderr=subprocess.PIPE, env={**os.environ, **environment})
     try:
         line = child.stdout.readline()
         if not line.startswith(b"listening "):
@@ -44,6 +70,71 @@ def serving(trial, connections, workers=None, **environment):
     finally:
         child.kill()
         child.communicate()
+
+
+class Served(Trial):
+    """A row with servers of the data set d, which has the object s/x: vol_tool's, or those of so many workers."""
+
+    WORKERS = None
+
+    @classmethod
+    def of(cls, trial):
+        trial.lay_out({"d/s/x": OBJECT})
+        return super().of(trial)
+
+    def serving(self, connections, workers=None, **environment):
+        return serving(self, connections, workers or self.WORKERS, **environment)
+
+    def want_replies(self, rows):
+        """Each stream of requests is answered so, at once and in halves; to several peers at once where there are several workers."""
+        talks = [(stream, pieces, wanted) for stream, wanted in rows for pieces in ((), in_halves(stream))]
+        with self.serving(len(talks)) as port, concurrent.futures.ThreadPoolExecutor(self.WORKERS or 1) as peers:
+            for got, (stream, _, wanted) in zip(peers.map(lambda row: talk(port, *row[:2]), talks), talks):
+                want(got, wanted, f"to {stream[:120]!r}")
+
+
+class Doors(Served):
+    """The rows that each of the servers has."""
+
+    def says_that_the_store_failed(self):
+        """What is neither a file nor a folder is a fault, which ends the connection alone."""
+        self.lay_out({"d/s/pipe": PIPE})
+        pipe = ask("GET /s/pipe")
+        rows = [(pipe + ASK, FAILED), (ASK + pipe + ASK, REPLY + FAILED), (ask("HEAD /s/pipe"), FAILED), (ASK + ASK, REPLY + REPLY)]
+        self.want_replies(2 * rows)
+
+    def breaks_off_where_a_file_gets_shorter(self):
+        """Amid a reply: its whole head was sent, and not all of its body; and the other peers are served."""
+        length = 1 << 26
+        self.lay_out({"d/s/large": {length: b""}})
+        head = head_of("200 OK", length)
+        with self.serving(3) as port, connect(port) as peer, connect(port) as other:
+            other.sendall(ASK[:9])
+            peer.sendall(ask("GET /s/large") + ASK)
+            want(receive(peer, len(head)), head, "the head")
+            os.truncate(self.folder / "d/s/large", 1)
+            body = receive(peer)
+            want_true(body == bytes(len(body)) and len(body) < length, f"no front of the body: {len(body)} bytes")
+            other.sendall(ASK[9:])
+            other.shutdown(socket.SHUT_WR)
+            want(receive(other), REPLY, "the other peer's reply")
+            want(talk(port, ASK), REPLY, "the next peer's reply")
+
+    def refuses_taken_ports(self):
+        with socket.create_server(("127.0.0.1", 0)) as taken:
+            self.want_unchanged(words_of(1, self.WORKERS, taken.getsockname()[1]), refused("door fault"))
+
+    def binds_the_address_that_is_named(self):
+        with self.serving(1, VOL_TOOL_ADDRESS="127.0.0.2") as port:
+            want(talk(port, ASK, address="127.0.0.2"), REPLY, "the reply")
+        self.want(words_of(1, self.WORKERS), refused("door fault"), VOL_TOOL_ADDRESS="localhost.")
+
+    def is_loopback_alone(self):
+        """Another address of this machine's loopback isn't served where none is named."""
+        with self.serving(1) as port:
+            with contextlib.suppress(ConnectionRefusedError), connect(port, "127.0.0.2"):
+                raise Wrong("another address is served")
+            want(talk(port, ASK), REPLY, "the reply")
 
 
 # A row of three objects is served to two peers by a run that is disturbed: what each asks over its connection, and the replies.

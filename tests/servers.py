@@ -1,6 +1,6 @@
 """
-Servers that give the files of a folder by ranges: the proved ones; Python's, as it keeps connections, closes them, or knows no ranges; nginx,
-where it is there; and one of which a test says each reply.
+Servers that give the files of a folder by ranges: the proved ones; Python's, as it keeps connections, closes them, or knows no ranges;
+nginx, where it is there; and one of which a test says each reply.
 """
 import contextlib
 import dataclasses
@@ -10,18 +10,15 @@ import re
 import shutil
 import socket
 import socketserver
-import struct
 import subprocess
 import threading
 import time
 
 from harness import LIMIT, Wrong
 from model import spell
-from peers import connect
+from peers import connect, reset
 
 RANGE = re.compile(r"bytes=([0-9]+)-([0-9]+)")
-
-
 HOST = "127.0.0.1"
 
 
@@ -30,19 +27,7 @@ def fetch_words(port, volume, box):
     return [HOST, str(port), volume.dataset, volume.key, spell(box)]
 
 
-@contextlib.contextmanager
-def running(server):
-    """A server that runs beside a row, by its port."""
-    threading.Thread(target=server.serve_forever, kwargs={"poll_interval": 0.01}, daemon=True).start()
-    try:
-        yield server.server_address[1]
-    finally:
-        server.shutdown()
-        server.server_close()
-
-
 def read_file(path):
-    """The bytes of a file, or None."""
     try:
         return path.read_bytes()
     except (OSError, ValueError):
@@ -59,11 +44,23 @@ def own(trial, words="serve d"):
             child.kill()
 
 
+@contextlib.contextmanager
+def running(handler, host=HOST, port=0, **members):
+    """A server of Python's that runs beside a row, with members for its handlers."""
+    with http.server.ThreadingHTTPServer((host, port), handler) as server:
+        vars(server).update(members)
+        threading.Thread(target=server.serve_forever, kwargs={"poll_interval": 0.01}, daemon=True).start()
+        try:
+            yield server
+        finally:
+            server.shutdown()
+
+
 # Python's
 
 
-class Plain(http.server.BaseHTTPRequestHandler):
-    """A peer of `server`, which has a folder, and knows ranges or doesn't."""
+class Handler(http.server.BaseHTTPRequestHandler):
+    """A peer of a server that says nothing of itself."""
 
     protocol_version = "HTTP/1.1"
     disable_nagle_algorithm = True
@@ -71,13 +68,17 @@ class Plain(http.server.BaseHTTPRequestHandler):
     def log_message(self, *_):
         pass
 
-    def reply(self, status, body, *fields):
+    def reply(self, status, body, length=None, **fields):
         self.send_response(status)
-        for name, value in [("Content-Length", str(len(body))), *fields]:
-            self.send_header(name, value)
+        for name, value in {"Content-Length": len(body) if length is None else length, **fields}.items():
+            self.send_header(name.replace("_", "-"), str(value))
         self.end_headers()
         if self.command == "GET":
             self.wfile.write(body)
+
+
+class Plain(Handler):
+    """One of a server that has a folder, and knows ranges or doesn't."""
 
     def do_GET(self):  # pylint: disable=invalid-name
         content = read_file(self.server.folder / self.path[1:])
@@ -89,23 +90,22 @@ class Plain(http.server.BaseHTTPRequestHandler):
         else:
             first, last = int(found[1]), min(int(found[2]), len(content) - 1)
             if first >= len(content):
-                self.reply(416, b"", ("Content-Range", f"bytes */{len(content)}"))
+                self.reply(416, b"", Content_Range=f"bytes */{len(content)}")
             else:
-                self.reply(206, content[first : last + 1], ("Content-Range", f"bytes {first}-{last}/{len(content)}"))
+                self.reply(206, content[first : last + 1], Content_Range=f"bytes {first}-{last}/{len(content)}")
 
-    def do_HEAD(self):  # pylint: disable=invalid-name
-        self.do_GET()
+    do_HEAD = do_GET
 
 
 class Closing(Plain):
     protocol_version = "HTTP/1.0"
 
 
-def python(folder, handler=Plain, knows_ranges=True, host=HOST, port=0):
-    """Python's server of a folder."""
-    server = http.server.ThreadingHTTPServer((host, port), handler)
-    server.folder, server.knows_ranges = folder, knows_ranges
-    return running(server)
+@contextlib.contextmanager
+def python(folder, handler=Plain, knows_ranges=True, **where):
+    """Python's server of a folder, by its port."""
+    with running(handler, folder=folder, knows_ranges=knows_ranges, **where) as server:
+        yield server.server_port
 
 
 # nginx
@@ -132,7 +132,6 @@ def free_port():
 
 
 def wait_for(port, child):
-    """Waits until a server listens."""
     begin = time.monotonic()
     while child.poll() is None and time.monotonic() < begin + LIMIT:
         with contextlib.suppress(ConnectionRefusedError):
@@ -144,7 +143,6 @@ def wait_for(port, child):
 
 @contextlib.contextmanager
 def nginx(folder, own):
-    """nginx of a folder, by its port, with a folder of its own."""
     own.mkdir()
     port = free_port()
     (own / "conf").write_text(NGINX.format(own=own, port=port, folder=folder))
@@ -165,47 +163,13 @@ KEEP, CLOSE, RESET, HOLD = "keep", "close", "reset", "hold"
 
 @dataclasses.dataclass(frozen=True)
 class Request:
-    """A request: which connection it came over, its number among all, its bytes, its method and target, and its range."""
+    """A request: its number among all, its bytes, its method and target, and the first and the last byte that it asks for, or None."""
 
-    connection: int
     number: int
     head: bytes
-
-    @property
-    def method(self):
-        return self.head.split(b" ")[0].decode()
-
-    @property
-    def target(self):
-        return self.head.split(b" ")[1].decode()
-
-    @property
-    def range(self):
-        """The first byte that is asked for, and the last, or None."""
-        found = RANGE.search(self.head.decode())
-        return found and (int(found[1]), int(found[2]))
-
-
-class Told(socketserver.ThreadingTCPServer):
-    """
-    `answer` says of each request in which pieces the reply comes, and what then is: KEEP waits for the next one, CLOSE ends what is
-    sent, RESET breaks the connection off, and HOLD says nothing more. All requests are noted.
-    """
-
-    daemon_threads = True
-    allow_reuse_address = True
-    request_queue_size = 64
-
-    def __init__(self, answer, peer):
-        super().__init__((HOST, 0), peer)
-        self.answer = answer
-        self.lock = threading.Lock()
-        self.connections = 0
-        self.requests = []
-
-    @property
-    def port(self):
-        return self.server_address[1]
+    method: str
+    target: str
+    range: tuple | None
 
 
 class Peer(socketserver.StreamRequestHandler):
@@ -214,7 +178,7 @@ class Peer(socketserver.StreamRequestHandler):
     disable_nagle_algorithm = True
     timeout = LIMIT
 
-    def read_request(self, connection):
+    def read_request(self):
         """The next request, or None."""
         head = b""
         while not head.endswith(b"\r\n\r\n"):
@@ -222,53 +186,49 @@ class Peer(socketserver.StreamRequestHandler):
             if not line:
                 return None
             head += line
+        method, target, rest = head.decode().split(" ", 2)
+        found = RANGE.search(rest)
         with self.server.lock:
-            request = Request(connection, len(self.server.requests), head)
+            request = Request(len(self.server.requests), head, method, target, found and (int(found[1]), int(found[2])))
             self.server.requests.append(request)
         return request
 
     def break_off(self):
-        self.request.setsockopt(socket.SOL_SOCKET, socket.SO_LINGER, struct.pack("ii", 1, 0))
         self.rfile.close()
-        self.request.close()
+        reset(self.request)
 
-    def serve(self, connection):
-        while (request := self.read_request(connection)) is not None:
+    def serve(self):
+        while (request := self.read_request()) is not None:
             pieces, then = self.server.answer(request)
             for number, piece in enumerate(pieces):
-                if number > 0:
-                    time.sleep(0.001)
+                time.sleep(0.001 if number > 0 else 0)
                 self.request.sendall(piece)
             if then == CLOSE:
                 self.request.shutdown(socket.SHUT_WR)
             if then == RESET:
                 self.break_off()
-                return
+            # a peer that is kept says more, and another one until it lets go
+            while then in (CLOSE, HOLD) and self.request.recv(65536):
+                pass
             if then != KEEP:
-                # until the peer lets it go
-                while self.request.recv(65536):
-                    pass
                 return
 
     def handle(self):
         with self.server.lock:
             self.server.connections += 1
-            connection = self.server.connections
         # a peer that goes takes no more
         with contextlib.suppress(OSError):
-            self.serve(connection)
+            self.serve()
 
 
 class Breaking(Peer):
-    """A connection that is broken off as it is taken."""
-
-    def serve(self, connection):
+    def serve(self):
         self.break_off()
 
 
-@contextlib.contextmanager
 def telling(answer, peer=Peer):
-    """A server that is told what to say."""
-    server = Told(answer, peer)
-    with running(server):
-        yield server
+    """
+    A server that is told what to say: `answer` says of each request in which pieces the reply comes, and what then is: KEEP waits for the
+    next one, CLOSE ends what is sent, RESET breaks the connection off, and HOLD says nothing more. All requests are noted.
+    """
+    return running(peer, answer=answer, lock=threading.Lock(), connections=0, requests=[])

@@ -9,10 +9,14 @@ a `use` line. The last line is 'N passed, N failed', and the status is 1 where a
 """
 import re
 
-from harness import ROOT, main, want_true
+from harness import CRATES, ROOT, cells_of, is_defined, main_of_pages
 
-CRATES = ROOT / "crates"
 USE = re.compile(r"^\s*(?:ghost )?use Rattle\.(\w+)\.specs\.(declared\.)?(\w+)", re.M)
+
+CONTRACTS = ("vol_tool/src/top.rt", "vol_serve/src/top.rt", "vol_fetch/src/fetch.rt", "remote_store/src/dial.rt")
+
+# commands, the program's call, a port and a member of a field
+NOT_DEFINED = {"cutout", "write", "update", "generate", "serve", "verify", "vol_serve", "run", "serde_json", "close"}
 
 
 def path_of(crate, module):
@@ -20,74 +24,37 @@ def path_of(crate, module):
 
 
 def find_reached():
-    """The modules of definitions and the files of types that are reached, each as a crate and a name."""
-    modules, files = set(), {("vol_base", "outside"), ("remote_store", "dial")}
-    contracts = ["vol_tool/src/top.rt", "vol_serve/src/top.rt", "vol_fetch/src/fetch.rt", "remote_store/src/dial.rt"]
-    waiting = [CRATES / path for path in contracts]
+    """The modules of definitions and the files of types that are reached, each as whether it is of types, a crate and a name."""
+    found = {(True, "vol_base", "outside"), (True, "remote_store", "dial")}
+    waiting = [CRATES / path for path in CONTRACTS]
     while waiting:
-        for crate, is_type, name in USE.findall(waiting.pop().read_text()):
-            if not (CRATES / crate).is_dir():
-                continue
-            if is_type:
-                files.add((crate, name))
-            elif (crate, name) not in modules:
-                modules.add((crate, name))
-                waiting.append(path_of(crate, name))
-    return modules, files
-
-
-def read_page():
-    """The modules that the page's tables list, and the files of types in its list of these: whether it is of types, the crate, the
-    names and, of modules, the sentence."""
-    text = (ROOT / "docs/trusted.md").read_text()
-    for line in text.splitlines():
-        if line.startswith("| ") and line.count(" | ") == 2 and not line.startswith("| Crate"):
-            crate, names, says = (cell.strip() for cell in line.strip().strip("|").split(" | "))
-            yield False, crate, names.split(", "), says
-    types = " ".join(text.split("## Types of the code")[1].split("\n## ")[0].split())
-    for crate, names in re.findall(r"\*\*(\w+)\*\* (\w+(?:, \w+)*)", types):
-        yield True, crate, names.split(", "), ""
-
-
-def undefined(crate, names, says):
-    """The words of a sentence that the modules don't define. What is cited of the code or of a port is no word of theirs."""
-    paths = [path_of(crate, name) for name in names]
-    text = "\n".join(path.read_text() for path in paths if path.exists())
-    for word in re.findall(r"`(\w+)`", says):
-        if not re.search(rf"^\s*(?:\w+ )*{word}(?: |$)", text, re.M) and word not in NOT_DEFINED:
-            yield word
-
-
-# commands, the program's call, a port and a member of a field
-NOT_DEFINED = {"cutout", "write", "update", "generate", "serve", "verify", "vol_serve", "run", "serde_json", "close"}
+        for crate, declared, name in USE.findall(waiting.pop().read_text()):
+            one = (bool(declared), crate, name)
+            if (CRATES / crate).is_dir() and one not in found:
+                found.add(one)
+                waiting += [] if declared else [path_of(crate, name)]
+    return found
 
 
 def judge_all():
-    modules, files = find_reached()
-    listed = {False: set(), True: set()}
-    for is_type, crate, names, says in read_page():
-        for name in names:
-            wrong = []
-            if (crate, name) not in (files if is_type else modules):
-                wrong.append("it isn't reached")
-            if (crate, name) in listed[is_type]:
-                wrong.append("it is listed twice")
-            listed[is_type].add((crate, name))
-            yield f"{crate} {name}", wrong
+    reached, listed = find_reached(), set()
+    text = (ROOT / "docs/trusted.md").read_text()
+    lines = [line for line in text.splitlines() if line.startswith("| ") and line.count(" | ") == 2 and not line.startswith("| Crate")]
+    types = " ".join(text.split("## Types of the code")[1].split("\n## ")[0].split())
+    tables = [(False, *cells_of(line)) for line in lines]
+    for is_type, crate, names, says in tables + [(True, *found, "") for found in re.findall(r"\*\*(\w+)\*\* (\w+(?:, \w+)*)", types)]:
+        names = names.split(", ")
+        for one in ((is_type, crate, name) for name in names):
+            wrong = {"it isn't reached": one not in reached, "it is listed twice": one in listed}
+            listed.add(one)
+            yield f"{crate} {one[2]}", [why for why, is_wrong in wrong.items() if is_wrong]
         if not is_type:
-            yield f"{crate} {', '.join(names)}: words", [f"{word} isn't defined there" for word in undefined(crate, names, says)]
-    for crate, name in sorted(modules - listed[False]) + sorted(files - listed[True]):
+            modules = "\n".join(path.read_text() for path in (path_of(crate, name) for name in names) if path.exists())
+            words = [word for word in re.findall(r"`(\w+)`", says) if not is_defined(word, modules) and word not in NOT_DEFINED]
+            yield f"{crate} {', '.join(names)}: words", [f"{word} isn't defined there" for word in words]
+    for _, crate, name in sorted(reached - listed):
         yield f"{crate} {name}", ["it isn't listed"]
 
 
-def tells(_trial, wrong):
-    want_true(not wrong, "; ".join(wrong))
-
-
-def rows():
-    for title, wrong in judge_all():
-        yield title, tells, wrong
-
-
 if __name__ == "__main__":
-    main(rows, jobs=1, program=None)
+    main_of_pages(judge_all)

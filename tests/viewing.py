@@ -10,9 +10,7 @@ Chromium is installed the page isn't tried, and without numpy no arrays of numpy
 import collections
 import contextlib
 import dataclasses
-import functools
 import http.client
-import http.server
 import importlib.util
 import itertools
 import json
@@ -25,21 +23,19 @@ import socket
 import struct
 import subprocess
 import sys
-import threading
 import time
 import urllib.parse
 
-from arrays import load, save
-from browser import Browser, find_browser
-from harness import LIMIT, ROOT, Wrong, call, main, want, want_true
+from arrays import SCRIPT, load, save, variables
+from browser import Browser, fetch_parts, find_browser
+from harness import LIMIT, Trial, Wrong, call, main, methods_of, want, want_true
 from model import Sharding, Volume, infos_of, stored, stream_of
 from model.chance import with_numbers
 from model.murmur import finish
 from model.segments import bytes_of
+from servers import Handler, own, read_file, running
 
-EXAMPLES = ROOT / "examples"
-SCRIPT = EXAMPLES / "volume.py"
-PAGE = EXAMPLES / "slices.html"
+PAGE = SCRIPT.parent / "slices.html"
 WINDOW = (1000, 720)
 CODES = {1: "B", 2: "H", 4: "I", 8: "Q"}
 
@@ -58,10 +54,8 @@ class Scale(Volume):
     def info(self):
         info = json.loads(super().info())
         info["scales"][0]["resolution"] = self.resolution
-        if self.block:
-            info["type"] = "segmentation"
-        if self.is_float:
-            info["data_type"] = "float32"
+        info |= {"type": "segmentation"} if self.block else {}
+        info |= {"data_type": "float32"} if self.is_float else {}
         return json.dumps(info).encode()
 
     def spot(self, voxel, channel):
@@ -73,46 +67,47 @@ class Scale(Volume):
         return self.values[self.spot(voxel, channel)]
 
     def raw(self, box):
-        """The bytes of the values of a box."""
         x, y, z = (range(begin - first, end - first) for (begin, end), first in zip(box, self.offset))
         values = [self.value((i, j, k), c) for c in range(self.channels) for k in z for j in y for i in x]
         return struct.pack(f"<{len(values)}{'f' if self.is_float else CODES[self.width]}", *values)
 
+    def step(self, view, axis):
+        return view.zoom * self.resolution[axis] // min(self.resolution)
+
 
 def values_of(size, channels, value_of):
-    """The values of voxels in their order."""
     x, y, z = map(range, size)
     return [value_of(i, j, k, c) for c in range(channels) for k in z for j in y for i in x]
 
 
-def noise(greatest):
+def image(bits, size, chunk, channels=1, **more):
     """Values up to a greatest one: slopes, so that a wrong axis is seen, and some noise."""
+    greatest = 2**bits - 1
     chance = random.Random(greatest)
 
     def value(i, j, k, c):
         slope = (i * 5 + j * 11 + k * 3 + c * 70) * greatest // 1500 % greatest
         return min(greatest, slope + chance.randrange(greatest // 16 + 1))
 
-    return value
-
-
-def boxes(greatest):
-    """Labels up to a greatest one in boxes, some of them 0."""
-
-    def label(i, j, k, _):
-        number = i // 7 + 31 * (j // 6) + 1009 * (k // 5)
-        return 0 if number % 4 == 0 else number * 0x9E3779B97F4A7C15 % greatest
-
-    return label
+    return Scale(size, chunk, channels=channels, width=bits // 8, values=values_of(size, channels, value), **more)
 
 
 def labels(bits, size, chunk, block, **more):
-    return Scale(size, chunk, width=bits // 8, block=block, values=values_of(size, 1, boxes(2**bits)), **more)
+    """Labels in boxes, some of them 0."""
+
+    def label(i, j, k, _):
+        number = i // 7 + 31 * (j // 6) + 1009 * (k // 5)
+        return 0 if number % 4 == 0 else number * 0x9E3779B97F4A7C15 % 2**bits
+
+    return Scale(size, chunk, width=bits // 8, block=block, values=values_of(size, 1, label), **more)
 
 
-def image(bits, size, chunk, channels=1, **more):
-    values = values_of(size, channels, noise(2**bits - 1))
-    return Scale(size, chunk, channels=channels, width=bits // 8, values=values, **more)
+FLOATS = [math.nan, math.inf, -math.inf, -0.75, 0.0, 1.5, 3.25]
+
+
+def floats(i, j, k, _):
+    number = i + 3 * j + 7 * k
+    return FLOATS[number // 5 % len(FLOATS)] if number % 5 == 0 else (number % 97 - 30) / 16
 
 
 def store(trial, *scales, part=None):
@@ -157,6 +152,10 @@ class View:
     window: tuple | None = None
     centre: tuple | None = None
 
+    @property
+    def middle(self):
+        return self.centre or tuple(place + 0.5 for place in self.at)
+
     def query(self, scale):
         at = ",".join(str(place + first) for place, first in zip(self.at, scale.offset))
         window = f"&low={self.window[0]!r}&high={self.window[1]!r}" if self.window else ""
@@ -164,9 +163,8 @@ class View:
 
     def side(self, scale, axis, length):
         """The voxel under each pixel of a side of a slice; those outside of the scale are None."""
-        step = self.zoom * scale.resolution[axis] // min(scale.resolution)
-        centre = self.centre[axis] if self.centre else self.at[axis] + 0.5
-        first = math.floor(length / 2 - centre * step + 0.5)
+        step = scale.step(self, axis)
+        first = math.floor(length / 2 - self.middle[axis] * step + 0.5)
         found = [(pixel - first) // step for pixel in range(length)]
         return [voxel if 0 <= voxel < scale.size[axis] else None for voxel in found]
 
@@ -176,18 +174,19 @@ PANES = {"xy": (0, 1, 2), "zy": (2, 1, 0), "xz": (0, 2, 1)}
 OUTSIDE = "14181c"
 
 
-def picture_of(scale, view, name, width, height):
-    """The picture of a slice, as the page gives it."""
-    across, down, through = PANES[name]
-    columns, rows = view.side(scale, across, width), view.side(scale, down, height)
+def value_at(scale, view, axes, column, row):
+    voxel = dict(zip(axes, (column, row, view.at[axes[2]])))
+    return scale.value((voxel[0], voxel[1], voxel[2]), view.channel)
+
+
+def picture_of(scale, view, name, columns, rows):
+    """The picture of a slice, as the page gives it, with these voxels in its columns and rows: six digits for each pixel."""
     colours = {}
 
     def colour_at(column, row):
         if column is None or row is None:
             return OUTSIDE
-        voxel = [0, 0, 0]
-        voxel[across], voxel[down], voxel[through] = column, row, view.at[through]
-        value = scale.value(voxel, view.channel)
+        value = value_at(scale, view, PANES[name], column, row)
         if value not in colours:
             colours[value] = label_colour(value) if scale.block else grey(value, *view.window)
         return colours[value]
@@ -196,44 +195,28 @@ def picture_of(scale, view, name, width, height):
     return "".join(lines[row] for row in rows)
 
 
-def shown(browser, name):
-    """The picture that the page shows: its width, its height, and six digits for each pixel."""
-    width, height, pixels = browser.run(f"slices.pictureOf('{name}')").split()
-    return int(width), int(height), pixels
-
-
-def want_pictures(browser, scale, view):
-    """The three pictures of the page are those that are due."""
-    browser.run("slices.settled()")
-    for name in PANES:
-        width, height, found = shown(browser, name)
-        want_true(min(width, height) >= 100, f"the slice {name} has {width} x {height} pixels")
-        wanted = picture_of(scale, view, name, width, height)
-        if found != wanted:
-            column, row, is_, due = next(differences(width, found, wanted))
-            raise Wrong(f"{name} pixel {column},{row} is {is_} wanted {due}")
-
-
-def differences(width, found, wanted):
-    """The pixels in which two pictures differ: where they are, and what either has."""
-    for at in range(0, len(wanted), 6):
-        if found[at : at + 6] != wanted[at : at + 6]:
-            yield at // 6 % width, at // 6 // width, found[at : at + 6], wanted[at : at + 6]
-
-
 # The server of a view
 
 
-def variables(trial):
-    path = os.pathsep.join(filter(None, [str(EXAMPLES), os.environ.get("PYTHONPATH")]))
-    return {"VOL_TOOL": str(trial.program), "PYTHONPATH": path, "PYTHONDONTWRITEBYTECODE": "1"}
+def processes():
+    """The state of each process, and which one has begun it."""
+    found = {}
+    for path in pathlib.Path("/proc").glob("[0-9]*/stat"):
+        with contextlib.suppress(OSError):
+            state, parent = path.read_text().rsplit(")", 1)[1].split()[:2]
+            found[int(path.parent.name)] = state, int(parent)
+    return found
+
+
+def servers_of(pid):
+    return [number for number, (_, parent) in processes().items() if parent == pid]
 
 
 @contextlib.contextmanager
 def viewing(trial, *words, by=signal.SIGINT):
     """A run of `view`, by its address and its process. It ends with status 0 by a signal, and its server with it."""
     child = subprocess.Popen(
-        [sys.executable, SCRIPT, "view", *words], cwd=trial.folder, env={**os.environ, **variables(trial)},
+        [sys.executable, SCRIPT, "view", *words], cwd=trial.folder, env={**os.environ, **variables(trial.program)},
         stdin=subprocess.DEVNULL, stdout=subprocess.PIPE, stderr=subprocess.PIPE, text=True,
     )
     try:
@@ -245,7 +228,7 @@ def viewing(trial, *words, by=signal.SIGINT):
         child.send_signal(by)
         out, errors = child.communicate(timeout=LIMIT)
         want((child.returncode, out, errors), (0, "", ""), "at its end")
-        want([server for server in servers if state_of(server)[0] not in (None, "Z")], [], "servers that are left")
+        want([server for server in servers if processes().get(server, "Z")[0] != "Z"], [], "servers that are left")
     finally:
         if child.poll() is None:
             for number in [child.pid, *servers_of(child.pid)]:
@@ -253,33 +236,15 @@ def viewing(trial, *words, by=signal.SIGINT):
             child.communicate()
 
 
-def servers_of(pid):
-    """The processes that a process has begun, and that haven't ended."""
-    numbers = [int(folder.name) for folder in pathlib.Path("/proc").glob("[0-9]*")]
-    return [number for number in numbers if state_of(number)[1] == pid]
-
-
-def state_of(pid):
-    """The state of a process, and which one has begun it."""
-    try:
-        state, parent = pathlib.Path(f"/proc/{pid}/stat").read_text().rsplit(")", 1)[1].split()[:2]
-    except OSError:
-        return None, None
-    return state, int(parent)
-
-
 def ask(link, target, method="GET", **fields):
-    """The status, some fields and the body of a reply."""
-    client = http.client.HTTPConnection(urllib.parse.urlsplit(link).netloc, timeout=LIMIT)
-    client.request(method, target, headers={name.replace("_", "-"): value for name, value in fields.items()})
-    reply = client.getresponse()
-    body = reply.read()
-    client.close()
-    return reply.status, reply.getheader("Content-Range"), body
+    """The status, a field and the body of a reply."""
+    with contextlib.closing(http.client.HTTPConnection(urllib.parse.urlsplit(link).netloc, timeout=LIMIT)) as client:
+        client.request(method, target, headers=fields)
+        reply = client.getresponse()
+        return reply.status, reply.getheader("Content-Range"), reply.read()
 
 
 def make_bytes(trial):
-    """A scale of bytes, and what its one chunk's object has."""
     store(trial, Scale((4, 3, 2), (8, 8, 8), values=range(24)))
     return "/s/0-4_0-3_0-2", bytes(range(24))
 
@@ -287,25 +252,26 @@ def make_bytes(trial):
 def replies(trial):
     """The page and the objects come from one address, to which six peers that say nothing are no hindrance."""
     target, chunk = make_bytes(trial)
+    page, info = PAGE.read_bytes(), (trial.folder / "d/info").read_bytes()
     with viewing(trial, "d") as (link, _), contextlib.ExitStack() as silent:
         where = urllib.parse.urlsplit(link)
         for _ in range(6):
             silent.enter_context(socket.create_connection((where.hostname, where.port)))
-        want(ask(link, "/"), (200, None, PAGE.read_bytes()), "the page")
-        want(ask(link, "/?scale=s&at=1,2,3"), (200, None, PAGE.read_bytes()), "the page with a query")
-        want(ask(link, "/info"), (200, None, (trial.folder / "d/info").read_bytes()), "the info")
-        for fields, wanted in [
-            ({}, (200, None, chunk)),
-            ({"Range": "bytes=3-5"}, (206, "bytes 3-5/24", chunk[3:6])),
-            ({"Range": "bytes=24-25"}, (416, "bytes */24", b"")),
+        for what, how, status, told, body in [
+            ("/", {}, 200, None, page),
+            ("/?scale=s&at=1,2,3", {}, 200, None, page),
+            ("/info", {}, 200, None, info),
+            (target, {}, 200, None, chunk),
+            (target, {"Range": "bytes=3-5"}, 206, "bytes 3-5/24", chunk[3:6]),
+            (target, {"Range": "bytes=24-25"}, 416, "bytes */24", b""),
+            (target, {"method": "HEAD"}, 200, None, b""),
+            ("/s/none", {}, 404, None, b""),
+            (target, {"Host": "localhost:1"}, 200, None, chunk),
         ]:
-            want(ask(link, target, **fields), wanted, f"{fields}")
-        want(ask(link, target, method="HEAD"), (200, None, b""), "a head")
-        want(ask(link, "/s/none"), (404, None, b""), "no object")
+            want(ask(link, what, **how), (status, told, body), f"{what} {how}")
         for other in ("/../d/info", "/%69nfo", "/s/"):
             want(ask(link, other)[0], 404, other)
         want(ask(link, target, Host="volumes.example:80")[0], 403, "another name of this machine")
-        want(ask(link, target, Host="localhost:1")[:1], (200,), "this machine by its name")
 
 
 def serves_on(trial):
@@ -325,7 +291,7 @@ def refuses(trial):
     make_bytes(trial)
     with socket.create_server(("127.0.0.1", 0)) as taken:
         for words in (["e"], ["d", "t"], ["./d"], ["d", "s", "--port", str(taken.getsockname()[1])], ["d", "--port", "65536"]):
-            status, out, errors = call([sys.executable, SCRIPT, "view", *words], trial.folder, **variables(trial))
+            status, out, errors = call([sys.executable, SCRIPT, "view", *words], trial.folder, **variables(trial.program))
             is_told = status in (1, 2) and not out and "volume.py" in errors and "Traceback" not in errors
             want_true(is_told, f"{words}: {status} {out!r} {errors!r}")
 
@@ -341,21 +307,22 @@ volume.write("d", "s", "in.npy", resolution=(8, 8, 40.5), chunk=(2, 2, 2), offse
 assert volume.read("d", "s", out="all.npy") is None
 volume.read("d", "s", "[0:2,0:1,5:6]", out="text.npy")
 volume.read("d", "s", [(0, 2), (0, 1), (5, 6)], "pairs.npy")
-for call, kind, text in [
-    (lambda: volume.read("d", "s"), volume.Refused, "numpy"),
-    (lambda: volume.write("d", "t", [[[1]]]), volume.Refused, "numpy"),
-    (lambda: volume.write("d", "s", "in.npy"), volume.Ended, "folder not empty"),
-    (lambda: volume.read("d", "s", "[0:9,0:1,0:1]", out="no.npy"), volume.Ended, "outside"),
-    (lambda: volume.read("d", "none", out="no.npy"), volume.Refused, "none"),
-    (lambda: volume.write("d", "t", "in.npy"), volume.Refused, "--resolution"),
-    (lambda: volume.write("d", "t", "in.npy", resolution=(1, 1)), ValueError, "three"),
-    (lambda: volume.write("d", "t", "in.npy", resolution=(1, 1, 1), chunk=(1, 0, 1)), ValueError, "three"),
-    (lambda: volume.write("d", "t", "in.npy", resolution=(1, 1, 1), encoding="jpeg"), ValueError, "jpeg"),
-    (lambda: volume.write("d", "t", "in.npy", resolution=(1, 1, 1), sharding="0,crc,1,1"), ValueError, "crc"),
-    (lambda: volume.read("d", "s", axes="zyxcx"), ValueError, "zyxcx"),
+one = {"resolution": (1, 1, 1)}
+for call, words, more, kind, text in [
+    (volume.read, ("d", "s"), {}, volume.Refused, "numpy"),
+    (volume.write, ("d", "t", [[[1]]]), {}, volume.Refused, "numpy"),
+    (volume.write, ("d", "s", "in.npy"), {}, volume.Ended, "folder not empty"),
+    (volume.read, ("d", "s", "[0:9,0:1,0:1]", "no.npy"), {}, volume.Ended, "outside"),
+    (volume.read, ("d", "none"), {"out": "no.npy"}, volume.Refused, "none"),
+    (volume.write, ("d", "t", "in.npy"), {}, volume.Refused, "--resolution"),
+    (volume.write, ("d", "t", "in.npy"), {"resolution": (1, 1)}, ValueError, "three"),
+    (volume.write, ("d", "t", "in.npy"), {**one, "chunk": (1, 0, 1)}, ValueError, "three"),
+    (volume.write, ("d", "t", "in.npy"), {**one, "encoding": "jpeg"}, ValueError, "jpeg"),
+    (volume.write, ("d", "t", "in.npy"), {**one, "sharding": "0,crc,1,1"}, ValueError, "crc"),
+    (volume.read, ("d", "s"), {"axes": "zyxcx"}, ValueError, "zyxcx"),
 ]:
     try:
-        call()
+        call(*words, **more)
     except Exception as found:
         assert type(found) is kind and text in str(found), (type(found), found)
         assert kind is not volume.Ended or found.status == 3, found.status
@@ -374,10 +341,7 @@ for number, (channels, descr, axes, order) in enumerate(forms):
     plain = chance.integers(0, numpy.iinfo(descr[-2:]).max, (channels, 5, 6, 7), "u8", endpoint=True).astype(descr)
     array = {"czyx": plain, "xyzc": plain.T, "zyxc": plain.transpose(1, 2, 3, 0)}[axes]
     array = array[0] if channels == 1 and axes == "czyx" else array[..., 0] if channels == 1 else array
-    if order == "steps":
-        array = numpy.repeat(array, 2, axis=0)[::2]
-    else:
-        array = array.copy(order)
+    array = numpy.repeat(array, 2, axis=0)[::2] if order == "steps" else array.copy(order)
     before = array.copy()
     volume.write(f"d{number}", "s", array, axes=axes, resolution=(1, 1, 1), chunk=(4, 4, 4), offset=(-3, 0, 2))
     assert (array == before).all()
@@ -407,7 +371,7 @@ for values, text in [
 
 
 def run_script(trial, script):
-    want(call([sys.executable, "-c", script], trial.folder, **variables(trial)), (0, "", ""), "the script")
+    want(call([sys.executable, "-c", script], trial.folder, **variables(trial.program)), (0, "", ""), "the script")
 
 
 def moves_files(trial):
@@ -420,18 +384,137 @@ def moves_files(trial):
     want([path.name for path in trial.folder.glob("no.npy*")], [], "what is left")
 
 
-def moves_arrays(trial):
-    run_script(trial, WITH_NUMPY)
-
-
 # The page
 
-FLOATS = [math.nan, math.inf, -math.inf, -0.75, 0.0, 1.5, 3.25]
 
+class Page(Browser):
+    """A browser with the page, which shows a view of a scale."""
 
-def floats(i, j, k, _):
-    number = i + 3 * j + 7 * k
-    return FLOATS[number // 5 % len(FLOATS)] if number % 5 == 0 else (number % 97 - 30) / 16
+    scale = view = None
+
+    def __init__(self):
+        super().__init__(find_browser(), WINDOW)
+
+    def on(self, name, script):
+        """The value of an expression about an `element` of the page."""
+        return self.run(f"(element => {script})(document.getElementById('{name}'))")
+
+    def settle(self):
+        self.run("slices.settled()")
+
+    def set_field(self, name, value):
+        self.on(name, f"{{ element.value = {json.dumps(value)}; element.dispatchEvent(new Event('change')) }}")
+        self.settle()
+
+    def open_view(self, link, query):
+        """Opens a view's page with a query, and waits until the slices stand there."""
+        self.open(f"{link.partition('?')[0]}?{query}", "window.slices")
+        self.settle()
+
+    @contextlib.contextmanager
+    def opened(self, trial, scale, view, source=None):
+        """The page shows a scale out of a row's folder, or a source's; at the end it tells no fault, and raised no exception."""
+        self.scale, self.view = scale, view
+        with viewing(trial, scale.dataset) if source is None else contextlib.nullcontext((PAGE.as_uri(), None)) as (link, _):
+            self.open_view(link, view.query(scale) + (f"&source={source}" if source else ""))
+            yield
+            want((self.on("faults", "element.hidden"), self.exceptions), (True, []), "no fault, and no exceptions")
+
+    @contextlib.contextmanager
+    def shows(self, trial, scale, view, source=None):
+        """The same, and it has the pictures that are due."""
+        with self.opened(trial, scale, view, source):
+            self.want_pictures()
+            yield
+
+    def changes(self, **members):
+        """The view has these members now, and the page shows it."""
+        self.view = dataclasses.replace(self.view, **members)
+        self.want_pictures()
+
+    def moves(self, *steps):
+        """The cross was moved on each axis, and nothing else."""
+        self.changes(at=tuple(map(sum, zip(self.view.at, steps))), centre=self.view.middle)
+
+    def pans(self, *pixels):
+        """What stands in the middle was moved across and down."""
+        moved = [place - by / self.scale.step(self.view, axis) for axis, (place, by) in enumerate(zip(self.view.middle, pixels))]
+        self.changes(centre=(*moved, self.view.middle[2]))
+
+    def fits_window(self):
+        """The window is the range of what the three slices show."""
+        values = set()
+        for name, axes in PANES.items():
+            places = itertools.product(*(set(side) - {None} for side in self.sides(name)))
+            values |= {value_at(self.scale, self.view, axes, *place) for place in places}
+        self.changes(window=(min(values), max(values)))
+
+    def sides(self, name):
+        """The voxels in the columns and in the rows of a slice."""
+        sides = self.on(name, "[element.width, element.height]")
+        want_true(min(sides) >= 100, f"the slice {name} has {sides} pixels")
+        return [self.view.side(self.scale, axis, length) for axis, length in zip(PANES[name], sides)]
+
+    def differences(self, name):
+        """The pixels of a slice that aren't as is due, each with its column, its row, and what it is and should be; and its voxels."""
+        self.settle()
+        columns, rows = self.sides(name)
+        found = self.run(f"slices.pictureOf('{name}')").split()[2]
+        wanted = picture_of(self.scale, self.view, name, columns, rows)
+        want(len(found), len(wanted), f"the digits of {name}")
+        pairs = ((at // 6, found[at : at + 6], wanted[at : at + 6]) for at in range(0, len(wanted), 6))
+        return [(at % len(columns), at // len(columns), is_, due) for at, is_, due in pairs if is_ != due], columns, rows
+
+    def want_pictures(self):
+        """The three pictures of the page are those that are due."""
+        for name in PANES:
+            want(self.differences(name)[0][:1], [], f"{name}: the first pixel that is another: column, row, what it is and should be")
+
+    def want_cross(self):
+        """In each slice one line of pixels across and one down differ, which meet in the voxel at the cross."""
+        for name, (across, down, _) in PANES.items():
+            other, columns, rows = self.differences(name)
+            column, row = (collections.Counter(places).most_common(1)[0][0] for places in list(zip(*other))[:2])
+            strays = [place for place in other if place[0] != column and place[1] != row]
+            want((strays, columns[column], rows[row]), ([], self.view.at[across], self.view.at[down]), f"the cross of {name}")
+
+    def want_hatched(self, told, across, down):
+        """The page tells this first. Of the first slice the pixels of some voxels are hatched, and all others are as due."""
+        faults = self.on("faults", "element.textContent")
+        want_true(faults.startswith(told), f"it tells {faults!r} wanted {told!r}")
+        other, columns, rows = self.differences("xy")
+        inside = sum(column in across for column in columns) * sum(row in down for row in rows)
+        strays = [place for place in other if columns[place[0]] not in across or rows[place[1]] not in down]
+        want((len(other), strays), (inside, []), "the hatched pixels")
+        reds = {pixel for *_, pixel, _ in other}
+        want_true(len(reds) > 1 and all(int(pixel[:2], 16) > int(pixel[2:4], 16) for pixel in reds), f"lines of red {reds}")
+
+    def middle_of(self, name):
+        return self.on(name, "(box => [box.x + box.width / 2, box.y + box.height / 2])(element.getBoundingClientRect())")
+
+    def press(self, x, y, *path):
+        """The mouse is pressed at a point, moved along others, and let go."""
+        self.mouse("mousePressed", x, y, button="left", buttons=1, clickCount=1)
+        for place in path:
+            self.mouse("mouseMoved", *place, button="left", buttons=1)
+        self.mouse("mouseReleased", *[(x, y), *path][-1], button="left", clickCount=1)
+
+    def drag(self, *steps):
+        """Fingers are put down, moved and lifted, at some points each time."""
+        for kind, points in zip(["touchStart", *["touchMove"] * (len(steps) - 1), "touchEnd"], [*steps, []]):
+            self.touch(kind, *points)
+
+    def keep(self, title):
+        if folder := os.environ.get("PICTURES"):
+            pathlib.Path(folder).mkdir(parents=True, exist_ok=True)
+            self.take_picture(pathlib.Path(folder) / f"{title.replace(' ', '_').replace(',', '')}.png")
+
+    def want_told(self, link, query, told):
+        """The page tells a fault, and no other goes uncaught."""
+        self.open_view(link, query)
+        faults = self.on("faults", "element.textContent")
+        want_true(told in faults, f"it tells {faults!r} wanted {told!r}")
+        want(self.exceptions, [], "exceptions")
 
 
 FLOAT_SIZE = (40, 30, 20)
@@ -447,8 +530,7 @@ FORMS = [
     ),
     ("labels of 32 bits", labels(32, (48, 40, 36), (32, 32, 16), (8, 8, 8)), View((24, 20, 18), 3)),
     (
-        "labels of 64 bits in shards",
-        labels(64, (40, 44, 30), (16, 16, 8), (5, 4, 3), sharding=Sharding(1, True, 3, 4)),
+        "labels of 64 bits in shards", labels(64, (40, 44, 30), (16, 16, 8), (5, 4, 3), sharding=Sharding(1, True, 3, 4)),
         View((17, 3, 29), 6),
     ),
     ("the first of two chunk sizes", image(8, (40, 30, 20), (16, 16, 16), more=([9, 30, 4],)), View((20, 15, 10), 4, 0, (10, 200))),
@@ -457,494 +539,228 @@ FORMS = [
 ]
 
 # Shardings of one small scale: no bits, all bits dropped, many more shards than chunks.
-SHARDINGS = [
-    Sharding(0, False, 0, 0),
-    Sharding(3, False, 0, 2),
-    Sharding(0, True, 4, 0),
-    Sharding(64, True, 1, 1),
-    Sharding(1, True, 2, 62),
-    Sharding(5, False, 6, 9),
-]
-
-
-def on(browser, name, script):
-    """The value of an expression about an `element` of the page."""
-    return browser.run(f"(element => {script})(document.getElementById('{name}'))")
-
-
-def text_of(browser, name):
-    return on(browser, name, "element.textContent")
-
-
-def click(browser, name):
-    on(browser, name, "element.click()")
-
-
-def set_field(browser, name, value):
-    on(browser, name, f"{{ element.value = {json.dumps(value)}; element.dispatchEvent(new Event('change')) }}")
-    browser.run("slices.settled()")
-
-
-def open_view(browser, link, query):
-    """Opens a view's page with a query, and waits until the slices stand there."""
-    browser.open(f"{link.partition('?')[0]}?{query}", "window.slices")
-    browser.run("slices.settled()")
-
-
-def want_calm(browser):
-    """The page tells no fault, and raised no exception."""
-    want(on(browser, "faults", "element.hidden"), True, "no fault")
-    want(browser.exceptions, [], "exceptions")
-
-
-@contextlib.contextmanager
-def opened(trial, browser, scale, view):
-    """The page that shows a scale; at the end it is calm."""
-    with viewing(trial, scale.dataset) as (link, _):
-        open_view(browser, link, view.query(scale))
-        yield
-        want_calm(browser)
-
-
-def take_picture(browser, title):
-    if folder := os.environ.get("PICTURES"):
-        pathlib.Path(folder).mkdir(parents=True, exist_ok=True)
-        browser.take_picture(pathlib.Path(folder) / f"{title.replace(' ', '_').replace(',', '')}.png")
-
-
-def shows(trial, browser, title, scale, view):
-    store(trial, scale)
-    with opened(trial, browser, scale, view):
-        want_pictures(browser, scale, view)
-        take_picture(browser, title)
-
-
-def shows_far_cells(trial, browser):
-    """Chunk ids of more than 32 bits, of a grid with one layer: a corner is stored of a scale that is otherwise absent."""
-    length = 1 << 20
-    part = [(length - 24, length - 2), (length - 20, length), (0, 3)]
-    scale = Scale((length, length, 3), (4, 4, 4), width=2, values=collections.defaultdict(int), sharding=Sharding(1, True, 2, 3))
-    for number, voxel in enumerate(itertools.product(*(range(*ends) for ends in part))):
-        scale.values[scale.spot(voxel, 0)] = number * 40 + 1
-    store(trial, scale, part=part)
-    view = View((length - 12, length - 10, 1), 6, 0, (0, 60000))
-    with opened(trial, browser, scale, view):
-        want_pictures(browser, scale, view)
-
-
-def shows_shardings(trial, browser):
-    view = View((4, 5, 6), 5, 0, (0, 300))
-    for number, sharding in enumerate(SHARDINGS):
-        scale = image(8, (23, 19, 14), (4, 3, 4), sharding=sharding, dataset=f"d{number}")
-        store(trial, scale)
-        with opened(trial, browser, scale, view):
-            want_pictures(browser, scale, view)
-
-
-def middle_of(browser, name):
-    """The middle of a slice on the page."""
-    return on(browser, name, "(box => [box.x + box.width / 2, box.y + box.height / 2])(element.getBoundingClientRect())")
-
-
-def tells_values(trial, browser):
-    """The value under the pointer, with its position; chunks that aren't stored."""
-    scale = labels(64, (40, 44, 30), (16, 16, 8), (8, 8, 8), offset=(-5, 100, 0))
-    store(trial, scale, part=[(-5, 27), *scale.whole[1:]])
-    scale = dataclasses.replace(scale, values=[0 if spot % 40 >= 32 else value for spot, value in enumerate(scale.values)])
-    view = View((20, 22, 14), 4)
-    with opened(trial, browser, scale, view):
-        want_pictures(browser, scale, view)
-        x, y = middle_of(browser, "xy")
-        browser.mouse("mouseMoved", x + 4 * 3, y - 4 * 2)
-        want(text_of(browser, "where"), "x 18  y 120  z 14", "the position")
-        want(text_of(browser, "value"), str(scale.value((23, 20, 14), 0)), "the value")
-        browser.mouse("mouseMoved", x + 4 * 15, y)
-        want(text_of(browser, "value"), "0 (no chunk is stored here)", "where no chunk is")
-        if "not stored" not in text_of(browser, "busy"):
-            raise Wrong(f"it doesn't tell that chunks are absent: {text_of(browser, 'busy')}")
-        browser.mouse("mouseMoved", x - 4 * 22, y)
-        want(text_of(browser, "where"), "outside of the scale", "outside")
-        take_picture(browser, "chunks that are absent")
-
-
-def moved(view, axis, steps):
-    """A view whose cross was moved on an axis, and nothing else."""
-    at = list(view.at)
-    at[axis] += steps
-    return dataclasses.replace(view, at=tuple(at), centre=view.centre or tuple(place + 0.5 for place in view.at))
-
-
-def panned(view, axis, pixels, scale):
-    step = view.zoom * scale.resolution[axis] // min(scale.resolution)
-    centre = list(view.centre or [place + 0.5 for place in view.at])
-    centre[axis] -= pixels / step
-    return dataclasses.replace(view, centre=tuple(centre))
-
-
-def moves(trial, browser):
-    """Wheel, keys, click and drag; each is told by the pictures."""
-    scale = image(8, (70, 45, 33), (32, 16, 16), 2)
-    store(trial, scale)
-    view = View((30, 20, 10), 4, 0, (0, 255))
-    with opened(trial, browser, scale, view):
-        x, y = middle_of(browser, "xy")
-        for turns in (1, 1, 1, -1):
-            browser.mouse("mouseWheel", x, y, deltaX=0, deltaY=120 * turns)
-            view = moved(view, 2, turns)
-        want_pictures(browser, scale, view)
-        browser.mouse("mousePressed", x, y, button="left", buttons=1, clickCount=1)
-        for aside in (10, 24, 40):
-            browser.mouse("mouseMoved", x + aside, y - 16, button="left", buttons=1)
-        browser.mouse("mouseReleased", x + 40, y - 16, button="left", clickCount=1)
-        view = panned(panned(view, 0, 40, scale), 1, -16, scale)
-        want_pictures(browser, scale, view)
-        browser.mouse("mousePressed", x + 8, y + 12, button="left", buttons=1, clickCount=1)
-        browser.mouse("mouseReleased", x + 8, y + 12, button="left", clickCount=1)
-        view = moved(moved(view, 0, 2 - 10), 1, 3 + 4)
-        want_pictures(browser, scale, view)
-        for key in ("ArrowLeft", "ArrowDown", "."):
-            browser.call("Input.dispatchKeyEvent", type="keyDown", key=key)
-            browser.call("Input.dispatchKeyEvent", type="keyUp", key=key)
-        view = moved(moved(moved(view, 0, -1), 1, 1), 2, 1)
-        want_pictures(browser, scale, view)
-        browser.mouse("mouseWheel", x, y, deltaX=0, deltaY=8, modifiers=8)
-        want_pictures(browser, scale, panned(view, 1, -8, scale))
-        browser.mouse("mouseMoved", x, y)
-        before = text_of(browser, "where")
-        browser.mouse("mouseWheel", x, y, deltaX=0, deltaY=-90, modifiers=2)
-        browser.run("slices.settled()")
-        browser.mouse("mouseMoved", x, y)
-        want(text_of(browser, "where"), before, "under the pointer after zooming")
-
-
-def moves_by_fingers(trial, browser):
-    scale = image(8, (70, 45, 33), (32, 16, 16))
-    store(trial, scale)
-    view = View((30, 20, 10), 4, 0, (0, 255))
-    browser.resize(*WINDOW, is_mobile=True)
-    with opened(trial, browser, scale, view):
-        x, y = middle_of(browser, "xy")
-        browser.touch("touchStart", (x, y))
-        browser.touch("touchMove", (x + 20, y + 8))
-        browser.touch("touchMove", (x + 48, y + 16))
-        browser.touch("touchEnd")
-        view = panned(panned(view, 0, 48, scale), 1, 16, scale)
-        want_pictures(browser, scale, view)
-        browser.touch("touchStart", (x - 40, y), (x + 40, y))
-        browser.touch("touchMove", (x - 80, y), (x + 80, y))
-        browser.touch("touchEnd")
-        view = dataclasses.replace(view, zoom=8)
-        want_pictures(browser, scale, view)
-        browser.touch("touchStart", (x + 17, y + 17))
-        browser.touch("touchEnd")
-        browser.run("slices.settled()")
-        want(on(browser, "position", "element.value"), "20, 18, 10", "the cross after a tap")
-        browser.resize(390, 780, scale=2, is_mobile=True)
-        time.sleep(0.2)
-        browser.run("slices.settled()")
-        take_picture(browser, "a telephone")
-
-
-def seen(scale, view, browser):
-    """The values that the three slices show."""
-    found = set()
-    for name, (across, down, through) in PANES.items():
-        width, height = on(browser, name, "[element.width, element.height]")
-        columns = {voxel for voxel in view.side(scale, across, width) if voxel is not None}
-        rows = {voxel for voxel in view.side(scale, down, height) if voxel is not None}
-        for column, row in itertools.product(columns, rows):
-            voxel = [0, 0, 0]
-            voxel[across], voxel[down], voxel[through] = column, row, view.at[through]
-            found.add(scale.value(voxel, view.channel))
-    return found
-
-
-def with_range(scale, view, browser):
-    """A view whose window is the range of what is shown."""
-    values = seen(scale, view, browser)
-    return dataclasses.replace(view, window=(min(values), max(values)))
-
-
-def takes_windows(trial, browser):
-    """The window is the range of what is shown, at first and at the button's press; it, the channel and the cross can be set."""
-    scale = image(16, (90, 80, 70), (32, 32, 32), 2)
-    store(trial, scale)
-    view = View((45, 40, 35), 12, 1)
-    with opened(trial, browser, scale, view):
-        view = with_range(scale, view, browser)
-        want_pictures(browser, scale, view)
-        for name, value in ("low", 1000), ("high", 2000), ("channel", 0):
-            set_field(browser, name, value)
-        view = dataclasses.replace(view, window=(1000, 2000), channel=0)
-        want_pictures(browser, scale, view)
-        click(browser, "range")
-        view = with_range(scale, view, browser)
-        want_pictures(browser, scale, view)
-        set_field(browser, "position", "50, 41,36")
-        view = moved(moved(moved(view, 0, 5), 1, 1), 2, 1)
-        want_pictures(browser, scale, view)
-        click(browser, "cross")
-        browser.run("slices.settled()")
-        want_cross(browser, scale, view)
-        click(browser, "cross")
-        click(browser, "labels")
-        want_pictures(browser, dataclasses.replace(scale, block=(8, 8, 8)), view)
-
-
-def want_cross(browser, scale, view):
-    """In each slice one line of pixels across and one down differ, which meet in the voxel at the cross."""
-    for name, (across, down, through) in PANES.items():
-        width, height, found = shown(browser, name)
-        wanted = picture_of(scale, view, name, width, height)
-        other = [place[:2] for place in differences(width, found, wanted)]
-        columns, rows = zip(*other)
-        column, row = max(set(columns), key=columns.count), max(set(rows), key=rows.count)
-        strays = [place for place in other if place[0] != column and place[1] != row]
-        at = view.side(scale, across, width)[column], view.side(scale, down, height)[row]
-        want((strays, at), ([], (view.at[across], view.at[down])), f"the cross of {name}")
-
-
-def changes_scales(trial, browser):
-    """Another scale is shown at the same place, as large as before; one that can't be shown is listed with its reason."""
-    fine, size = image(8, (64, 48, 32), (32, 32, 32), key="t"), (32, 24, 16)
-    coarse = Scale(size, (16, 16, 16), values=values_of(size, 1, noise(255)), resolution=(8, 8, 16))
-    store(trial, fine, coarse)
-    info = json.loads((trial.folder / "d/info").read_text())
-    info["scales"].insert(0, {**info["scales"][0], "key": "u", "encoding": "jpeg"})
-    trial.lay_out({"d/info": json.dumps(info).encode()})
-    view = View((21, 20, 10), 4, 0, (0, 255))
-    with opened(trial, browser, fine, view):
-        want_pictures(browser, fine, view)
-        want(on(browser, "scale", "element.options[0].disabled"), True, "a scale of jpeg")
-        set_field(browser, "scale", "s")
-        want_pictures(browser, coarse, View((10, 10, 5), 8, 0, (0, 255), (10.75, 10.25, 5.25)))
-
-
-def tells_damages(trial, browser):
-    """A chunk that is damaged is hatched and told, and the others are shown; once it is mended it is shown too."""
-    scale = image(8, (70, 45, 33), (32, 16, 16))
-    store(trial, scale)
-    view = View((30, 20, 10), 4, 0, (0, 255))
-    chunk = trial.folder / scale.path_of((1, 1, 0))
-    whole = chunk.read_bytes()
-    chunk.write_bytes(whole[:-1])
-    with opened(trial, browser, scale, view):
-        want_first_fault(browser, "chunk 1,1,0 can't be shown: chunk length 8191 wanted 8192")
-        want_hatched(browser, scale, view, (range(32, 64), range(16, 32)))
-        take_picture(browser, "a damaged chunk")
-        chunk.write_bytes(whole)
-        on(browser, "faults", "element.querySelector('button').click()")
-        want_pictures(browser, scale, view)
-
-
-def want_first_fault(browser, told):
-    faults = text_of(browser, "faults")
-    want_true(faults.startswith(told), f"it tells {faults!r} wanted {told!r}")
-
-
-def want_hatched(browser, scale, view, voxels):
-    """Of the first slice the pixels of some voxels are hatched, and all others are as due."""
-    browser.run("slices.settled()")
-    width, height, found = shown(browser, "xy")
-    columns, rows = view.side(scale, 0, width), view.side(scale, 1, height)
-    wanted = picture_of(scale, view, "xy", width, height)
-    other = list(differences(width, found, wanted))
-    inside = sum(column in voxels[0] for column in columns) * sum(row in voxels[1] for row in rows)
-    strays = [place for place in other if columns[place[0]] not in voxels[0] or rows[place[1]] not in voxels[1]]
-    want((len(other), strays), (inside, []), "the hatched pixels")
-    reds = {pixel for *_, pixel, _ in other}
-    want(len(reds) > 1 and all(int(pixel[:2], 16) > int(pixel[2:4], 16) for pixel in reds), True, f"lines of red {reds}")
-
+SHARDINGS = [(0, False, 0, 0), (3, False, 0, 2), (0, True, 4, 0), (64, True, 1, 1), (1, True, 2, 62), (5, False, 6, 9)]
 
 # What the page says of a chunk, and what was done to its shard: where it is cut, and numbers by their places. It has two entries, two
 # chunks of 8 bytes, and an index with their rows, which are two ids, two starts and two sizes from byte 48 on.
 SHARD_DAMAGES = [
-    ("shard short index", 10, {}),
-    ("shard bad range", None, {0: 48, 8: 0}),
-    ("shard bad length 23", None, {0: 0, 8: 23}),
-    (f"shard too many rows {2**22 + 1}", None, {0: 0, 8: 24 * (2**22 + 1)}),
-    ("shard short minishard", -1, {}),
-    ("index id 1", None, {56: 0}),
-    ("index start 1", None, {72: 2**64 - 8}),
-    ("chunk too long 9 limit 8", None, {88: 9}),
-    ("shard short chunk", None, {72: 1000}),
-    ("chunk length 7 wanted 8", None, {88: 7}),
-    ("chunk length 0 wanted 8", None, {88: 0}),
+    ("shard short index", 10, {}), ("shard bad range", None, {0: 48, 8: 0}), ("shard bad length 23", None, {0: 0, 8: 23}),
+    (f"shard too many rows {2**22 + 1}", None, {0: 0, 8: 24 * (2**22 + 1)}), ("shard short minishard", -1, {}),
+    ("index id 1", None, {56: 0}), ("index start 1", None, {72: 2**64 - 8}), ("chunk too long 9 limit 8", None, {88: 9}),
+    ("shard short chunk", None, {72: 1000}), ("chunk length 7 wanted 8", None, {88: 7}), ("chunk length 0 wanted 8", None, {88: 0}),
 ]
 
 # What the page says of a segmentation of the one voxel 7, and its words: where the channel starts, two of a header, and the table.
 SEGMENTATION_DAMAGES = [
-    ("seg length 3", b"abc"),
-    ("seg channel 0", bytes_of([1, 2])),
-    ("seg bits 0 0 3", bytes_of([1, 3 << 24 | 2, 2, 7])),
-    ("seg values 0 0", bytes_of([1, 1 << 24 | 2, 3, 7])),
-    ("seg table 0 0 0", bytes_of([1, 3, 2, 7])),
+    ("seg length 3", b"abc"), ("seg channel 0", bytes_of([1, 2])), ("seg bits 0 0 3", bytes_of([1, 3 << 24 | 2, 2, 7])),
+    ("seg values 0 0", bytes_of([1, 1 << 24 | 2, 3, 7])), ("seg table 0 0 0", bytes_of([1, 3, 2, 7])),
 ]
 
 
-def tells_shards(trial, browser):
-    store(trial, Scale((4, 2, 2), (2, 2, 2), values=range(16), sharding=Sharding(1, False, 1, 0)))
-    whole = (trial.folder / "d/s/0.shard").read_bytes()
-    with viewing(trial, "d") as (link, _):
-        for wanted, end, numbers in SHARD_DAMAGES:
-            trial.lay_out({"d/s/0.shard": with_numbers(whole[:end], numbers)})
-            want_told(browser, link, "at=3,0,0", wanted)
-
-
-def tells_segmentations(trial, browser):
-    store(trial, Scale((1, 1, 1), (1, 1, 1), width=4, block=(1, 1, 1), values=[7]))
-    with viewing(trial, "d") as (link, _):
-        for wanted, chunk in SEGMENTATION_DAMAGES:
-            trial.lay_out({"d/s/0-1_0-1_0-1": chunk})
-            want_told(browser, link, "at=0,0,0", wanted)
-
-
-def want_told(browser, link, query, told):
-    """The page tells a fault, and no other goes uncaught."""
-    open_view(browser, link, query)
-    want_true(told in text_of(browser, "faults"), f"it tells {text_of(browser, 'faults')!r} wanted {told!r}")
-    want(browser.exceptions, [], "exceptions")
-
-
-class Failing(http.server.BaseHTTPRequestHandler):
+class Failing(Handler):
     """Sends the files below a folder whole, whatever range is asked for; one it answers 500, and one it breaks off."""
 
-    def log_message(self, *_):
-        pass
+    protocol_version = "HTTP/1.0"
 
     def do_GET(self):  # pylint: disable=invalid-name
-        path = self.server.folder / self.path.lstrip("/")
-        status = 500 if path.name == self.server.failing else 200 if path.is_file() else 404
-        content = path.read_bytes() if status == 200 else b""
-        self.send_response(status)
-        self.send_header("Access-Control-Allow-Origin", "*")
-        self.send_header("Content-Length", str(len(content)))
-        self.end_headers()
-        self.wfile.write(content[: len(content) // 2] if path.name == self.server.broken else content)
+        content, name = read_file(self.server.folder / self.path.lstrip("/")), self.path.rpartition("/")[2]
+        status = 500 if name == self.server.failing else 404 if content is None else 200
+        content = content if status == 200 else b""
+        sent = content[: len(content) // 2] if name == self.server.broken else content
+        self.reply(status, sent, len(content), **{"Access-Control-Allow-Origin": "*"})
 
 
-@contextlib.contextmanager
-def failing_server(folder):
-    server = http.server.ThreadingHTTPServer(("127.0.0.1", 0), Failing)
-    server.folder, server.failing, server.broken = folder, None, None
-    threading.Thread(target=server.serve_forever, daemon=True).start()
-    try:
-        yield server, f"http://127.0.0.1:{server.server_port}"
-    finally:
-        server.shutdown()
-        server.server_close()
+class OnPage(Trial):
+    """The rows that have a browser of their own."""
+
+    def shardings_of_every_kind(self, page):
+        for number, sharding in enumerate(SHARDINGS):
+            scale = image(8, (23, 19, 14), (4, 3, 4), sharding=Sharding(*sharding), dataset=f"d{number}")
+            store(self, scale)
+            with page.shows(self, scale, View((4, 5, 6), 5, 0, (0, 300))):
+                pass
+
+    def chunk_ids_of_more_than_32_bits(self, page):
+        """Of a grid with one layer: a corner is stored of a scale that is otherwise absent."""
+        length = 1 << 20
+        part = [(length - 24, length - 2), (length - 20, length), (0, 3)]
+        scale = Scale((length, length, 3), (4, 4, 4), width=2, values=collections.defaultdict(int), sharding=Sharding(1, True, 2, 3))
+        for number, voxel in enumerate(itertools.product(*(range(*ends) for ends in part))):
+            scale.values[scale.spot(voxel, 0)] = number * 40 + 1
+        store(self, scale, part=part)
+        with page.shows(self, scale, View((length - 12, length - 10, 1), 6, 0, (0, 60000))):
+            pass
+
+    def values_under_the_pointer(self, page):
+        """With their position; chunks that aren't stored."""
+        scale = labels(64, (40, 44, 30), (16, 16, 8), (8, 8, 8), offset=(-5, 100, 0))
+        store(self, scale, part=[(-5, 27), *scale.whole[1:]])
+        scale = dataclasses.replace(scale, values=[0 if spot % 40 >= 32 else value for spot, value in enumerate(scale.values)])
+        with page.shows(self, scale, View((20, 22, 14), 4)):
+            x, y = page.middle_of("xy")
+            for column, row, name, wanted in [
+                (3, -2, "where", "x 18  y 120  z 14"), (3, -2, "value", str(scale.value((23, 20, 14), 0))),
+                (15, 0, "value", "0 (no chunk is stored here)"), (-22, 0, "where", "outside of the scale"),
+            ]:
+                page.mouse("mouseMoved", x + 4 * column, y + 4 * row)
+                want(page.on(name, "element.textContent"), wanted, f"{name} at {column},{row}")
+            want_true("not stored" in page.on("busy", "element.textContent"), "it doesn't tell that chunks are absent")
+            page.keep("chunks that are absent")
+
+    def wheel_keys_click_and_drag(self, page):
+        """Each is told by the pictures."""
+        scale = image(8, (70, 45, 33), (32, 16, 16), 2)
+        store(self, scale)
+        with page.shows(self, scale, View((30, 20, 10), 4, 0, (0, 255))):
+            x, y = page.middle_of("xy")
+            for turns in (1, 1, 1, -1):
+                page.mouse("mouseWheel", x, y, deltaX=0, deltaY=120 * turns)
+            page.moves(0, 0, 2)
+            page.press(x, y, *((x + aside, y - 16) for aside in (10, 24, 40)))
+            page.pans(40, -16)
+            page.press(x + 8, y + 12)
+            page.moves(2 - 10, 3 + 4, 0)
+            for key, kind in itertools.product(("ArrowLeft", "ArrowDown", "."), ("keyDown", "keyUp")):
+                page.call("Input.dispatchKeyEvent", type=kind, key=key)
+            page.moves(-1, 1, 1)
+            page.mouse("mouseWheel", x, y, deltaX=0, deltaY=8, modifiers=8)
+            page.pans(0, -8)
+            page.mouse("mouseMoved", x, y)
+            before = page.on("where", "element.textContent")
+            page.mouse("mouseWheel", x, y, deltaX=0, deltaY=-90, modifiers=2)
+            page.settle()
+            page.mouse("mouseMoved", x, y)
+            want(page.on("where", "element.textContent"), before, "under the pointer after zooming")
+
+    def fingers(self, page):
+        scale = image(8, (70, 45, 33), (32, 16, 16))
+        store(self, scale)
+        page.resize(*WINDOW, is_mobile=True)
+        with page.shows(self, scale, View((30, 20, 10), 4, 0, (0, 255))):
+            x, y = page.middle_of("xy")
+            page.drag([(x, y)], [(x + 20, y + 8)], [(x + 48, y + 16)])
+            page.pans(48, 16)
+            page.drag([(x - 40, y), (x + 40, y)], [(x - 80, y), (x + 80, y)])
+            page.changes(zoom=8)
+            page.drag([(x + 17, y + 17)])
+            page.settle()
+            want(page.on("position", "element.value"), "20, 18, 10", "the cross after a tap")
+            page.resize(390, 780, scale=2, is_mobile=True)
+            time.sleep(0.2)
+            page.settle()
+            page.keep("a telephone")
+
+    def windows_channels_and_the_cross(self, page):
+        """The window is the range of what is shown, at first and at the button's press; it, the channel and the cross can be set."""
+        scale = image(16, (90, 80, 70), (32, 32, 32), 2)
+        store(self, scale)
+        with page.opened(self, scale, View((45, 40, 35), 12, 1)):
+            page.fits_window()
+            for name, value in ("low", 1000), ("high", 2000), ("channel", 0):
+                page.set_field(name, value)
+            page.changes(window=(1000, 2000), channel=0)
+            page.on("range", "element.click()")
+            page.fits_window()
+            page.set_field("position", "50, 41,36")
+            page.moves(5, 1, 1)
+            page.on("cross", "element.click()")
+            page.want_cross()
+            for name in ("cross", "labels"):
+                page.on(name, "element.click()")
+            page.scale = dataclasses.replace(scale, block=(8, 8, 8))
+            page.want_pictures()
+
+    def another_scale(self, page):
+        """It is shown at the same place, as large as before; one that can't be shown is listed with its reason."""
+        fine = image(8, (64, 48, 32), (32, 32, 32), key="t")
+        coarse = image(8, (32, 24, 16), (16, 16, 16), resolution=(8, 8, 16))
+        store(self, fine, coarse)
+        info = json.loads((self.folder / "d/info").read_text())
+        info["scales"].insert(0, {**info["scales"][0], "key": "u", "encoding": "jpeg"})
+        self.lay_out({"d/info": json.dumps(info).encode()})
+        with page.shows(self, fine, View((21, 20, 10), 4, 0, (0, 255))):
+            want(page.on("scale", "element.options[0].disabled"), True, "a scale of jpeg")
+            page.set_field("scale", "s")
+            page.scale = coarse
+            page.changes(at=(10, 10, 5), zoom=8, centre=(10.75, 10.25, 5.25))
+
+    def a_damaged_chunk(self, page):
+        """It is hatched and told, and the others are shown; once it is mended it is shown too."""
+        scale = image(8, (70, 45, 33), (32, 16, 16))
+        store(self, scale)
+        chunk = self.folder / scale.path_of((1, 1, 0))
+        whole = chunk.read_bytes()
+        chunk.write_bytes(whole[:-1])
+        with page.opened(self, scale, View((30, 20, 10), 4, 0, (0, 255))):
+            page.want_hatched("chunk 1,1,0 can't be shown: chunk length 8191 wanted 8192", range(32, 64), range(16, 32))
+            page.keep("a damaged chunk")
+            chunk.write_bytes(whole)
+            page.on("faults", "element.querySelector('button').click()")
+            page.want_pictures()
+
+    def damaged_shards(self, page):
+        store(self, Scale((4, 2, 2), (2, 2, 2), values=range(16), sharding=Sharding(1, False, 1, 0)))
+        whole = (self.folder / "d/s/0.shard").read_bytes()
+        with viewing(self, "d") as (link, _):
+            for wanted, end, numbers in SHARD_DAMAGES:
+                self.lay_out({"d/s/0.shard": with_numbers(whole[:end], numbers)})
+                page.want_told(link, "at=3,0,0", wanted)
+
+    def damaged_segmentations(self, page):
+        store(self, Scale((1, 1, 1), (1, 1, 1), width=4, block=(1, 1, 1), values=[7]))
+        with viewing(self, "d") as (link, _):
+            for wanted, chunk in SEGMENTATION_DAMAGES:
+                self.lay_out({"d/s/0-1_0-1_0-1": chunk})
+                page.want_told(link, "at=0,0,0", wanted)
+
+    def servers_that_fail(self, page):
+        """Requests that fail, of a page that is a file; a server that sends no ranges; and none at all."""
+        scale = labels(32, (48, 40, 36), (32, 32, 16), (8, 8, 8), sharding=Sharding(0, True, 1, 1))
+        plain, view = image(8, (70, 45, 33), (32, 16, 16), dataset="plain"), View((30, 20, 10), 4, 0, (0, 255))
+        for one in scale, plain:
+            store(self, one)
+        with running(Failing, folder=self.folder / "d", failing=None, broken=None) as server:
+            source = f"http://127.0.0.1:{server.server_port}"
+            with page.shows(self, scale, view, source):
+                pass
+            server.folder, page.scale = self.folder / "plain", plain
+            for member, told in ("failing", "the server answers 500"), ("broken", "the server's answer breaks off"):
+                vars(server).update({"failing": None, "broken": None, member: plain.name((1, 1, 0))})
+                page.open_view(PAGE.as_uri(), f"source={source}&{view.query(plain)}")
+                page.want_hatched(f"chunk 1,1,0 can't be shown: {told}", range(32, 64), range(16, 32))
+        for address, told in (source, "the server can't be reached"), ("", "name the volume"):
+            page.want_told(PAGE.as_uri(), f"source={address}", told)
+
+    def what_vol_tool_serve_serves(self, page):
+        """A page that is a file shows it, over one connection at a time."""
+        scale = image(16, (61, 50, 40), (16, 16, 16), sharding=Sharding(2, False, 2, 3))
+        store(self, scale)
+        with own(self) as port, page.shows(self, scale, View((30, 25, 20), 5, 0, (1000, 50000)), f"http://localhost:{port}"):
+            pass
+
+    def pieces_of_vol_tool_serve_at_once(self, page):
+        """A page of another origin asks for 40, over as many connections as the browser likes."""
+        content = random.Random(0).randbytes(40 << 16)
+        self.lay_out({"d/s/large": content})
+        with own(self) as port:
+            fetch_parts(page, port, content, 8000)
 
 
-def tells_servers(trial, browser):
-    """Requests that fail, of a page that is a file; a server that sends no ranges; and none at all."""
-    scale = labels(32, (48, 40, 36), (32, 32, 16), (8, 8, 8), sharding=Sharding(0, True, 1, 1))
-    plain = image(8, (70, 45, 33), (32, 16, 16), dataset="plain")
-    for one in scale, plain:
-        store(trial, one)
-    view = View((30, 20, 10), 4, 0, (0, 255))
-    with failing_server(trial.folder / "d") as (server, source):
-        open_view(browser, PAGE.as_uri(), f"source={source}&{view.query(scale)}")
-        want_pictures(browser, scale, view)
-        want_calm(browser)
-        server.folder = trial.folder / "plain"
-        for member, told in ("failing", "the server answers 500"), ("broken", "the server's answer breaks off"):
-            server.failing, server.broken = None, None
-            setattr(server, member, plain.name((1, 1, 0)))
-            open_view(browser, PAGE.as_uri(), f"source={source}&{view.query(plain)}")
-            want_first_fault(browser, f"chunk 1,1,0 can't be shown: {told}")
-            want_hatched(browser, plain, view, (range(32, 64), range(16, 32)))
-    for address, told in (source, "the server can't be reached"), ("", "name the volume"):
-        want_told(browser, PAGE.as_uri(), f"source={address}", told)
-
-
-def shows_served(trial, browser):
-    """A page that is a file shows what `vol_tool serve` serves, over one connection at a time."""
-    scale = image(16, (61, 50, 40), (16, 16, 16), sharding=Sharding(2, False, 2, 3))
+def shows_form(trial, page, title, scale, view):
     store(trial, scale)
-    view = View((30, 25, 20), 5, 0, (1000, 50000))
-    with trial.start("serve d --port=0 --connections=100", stdout=subprocess.PIPE) as server:
-        try:
-            port = int(server.stdout.readline().split()[1])
-            open_view(browser, PAGE.as_uri(), f"source=http://localhost:{port}&{view.query(scale)}")
-            want_pictures(browser, scale, view)
-            want_calm(browser)
-        finally:
-            server.kill()
-
-
-PIECE = 1 << 16
-
-# How many milliseconds the pieces of an object take that are all asked for at once, and of each its status, its length and whether it
-# is the right one.
-FETCH_PIECES = """
-(async (address, pieces) => {
-    const begin = performance.now();
-    const found = await Promise.all([...Array(pieces).keys()].map(async (piece) => {
-        const range = `bytes=${piece * 65536}-${piece * 65536 + 65535}`;
-        const reply = await fetch(address, {headers: {Range: range}, cache: "no-store"});
-        const bytes = new Uint8Array(await reply.arrayBuffer());
-        return [reply.status, bytes.length, bytes.every((byte) => byte === piece)];
-    }));
-    return [performance.now() - begin, found];
-})("%s", %d)
-"""
-
-
-class Pages(http.server.SimpleHTTPRequestHandler):
-    """The files of a folder, as pages of an origin of their own."""
-
-    def log_message(self, *_):  # pylint: disable=arguments-differ
-        pass
-
-
-def fetches_pieces(trial, browser):
-    """A page of another origin asks `vol_tool serve` for 40 pieces at once, over as many connections as the browser likes."""
-    count = 40
-    trial.lay_out({"d/s/x": b"".join(PIECE * bytes([piece]) for piece in range(count)), "page/index.html": b"<!doctype html>"})
-    handler = functools.partial(Pages, directory=trial.folder / "page")
-    with (
-        http.server.ThreadingHTTPServer(("127.0.0.1", 0), handler) as pages,
-        trial.start("serve d --port=0 --connections=100", stdout=subprocess.PIPE) as server,
-    ):
-        threading.Thread(target=pages.serve_forever, daemon=True).start()
-        try:
-            port = int(server.stdout.readline().split()[1])
-            browser.open(f"http://127.0.0.1:{pages.server_port}/", "document.readyState === 'complete'")
-            spent, found = browser.run(FETCH_PIECES % (f"http://127.0.0.1:{port}/s/x", count))
-        finally:
-            server.kill()
-            pages.shutdown()
-    want(found, count * [[206, PIECE, True]], "the pieces")
-    want_true(spent < 8000, f"the pieces took {spent:.0f} ms")
-
-
-ON_THE_PAGE = [
-    ("shardings of every kind", shows_shardings),
-    ("chunk ids of more than 32 bits", shows_far_cells),
-    ("values under the pointer", tells_values),
-    ("wheel, keys, click and drag", moves),
-    ("fingers", moves_by_fingers),
-    ("windows, channels and the cross", takes_windows),
-    ("another scale", changes_scales),
-    ("a damaged chunk", tells_damages),
-    ("damaged shards", tells_shards),
-    ("damaged segmentations", tells_segmentations),
-    ("servers that fail", tells_servers),
-    ("what vol_tool serve serves", shows_served),
-    ("pieces of vol_tool serve at once", fetches_pieces),
-]
+    with page.shows(trial, scale, view):
+        page.keep(title)
 
 
 def on_page(trial, judge, *arguments):
-    """A row that has a browser of its own."""
-    with Browser(find_browser(), WINDOW) as browser:
-        judge(trial, browser, *arguments)
+    with Page() as page:
+        judge(trial, page, *arguments)
 
 
 def rows():
     yield "the module without numpy", moves_files
     if importlib.util.find_spec("numpy"):
-        yield "the module with numpy", moves_arrays
+        yield "the module with numpy", run_script, WITH_NUMPY
     else:
         print("numpy isn't installed: the module isn't tried with it")
     yield "what a view answers", replies
@@ -953,9 +769,9 @@ def rows():
     if find_browser() is None:
         print("no Chromium is installed: the page isn't tried")
         return
-    for title, scale, view in FORMS:
-        yield f"the page: {title}", on_page, shows, title, scale, view
-    for title, judge in ON_THE_PAGE:
+    for title, *form in FORMS:
+        yield f"the page: {title}", on_page, shows_form, title, *form
+    for title, _, _, judge in methods_of(OnPage, Trial):
         yield f"the page: {title}", on_page, judge
 
 
