@@ -191,8 +191,18 @@ def damage_some(chance, volume, files):
     return after
 
 
+def pick_foreign(chance, volume, like=None):
+    """Sound chunks of some of the cells, those of segmentations spelled as another program may where they aren't too long so."""
+
+    def spell_otherwise(cell, raw):
+        loose = raw if volume.block is None else spell_loosely(chance, volume.shape(cell), raw)
+        return loose if len(loose) <= volume.limit(cell) else volume.spell(cell, raw)
+
+    return pick_chunks(chance, volume, spell_otherwise, like)
+
+
 def pick_stored(chance, volume):
-    """Chunks of a scale, of which some are absent, and those of segmentations spelled as another program may."""
+    """Chunks of some of the cells, those of segmentations spelled as another program may, or too long so."""
 
     def spell_some(cell, raw):
         is_own = volume.block is None or chance.random() < 0.3

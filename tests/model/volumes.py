@@ -180,6 +180,12 @@ class Volume:
         return files, put, cells
 
 
+def line(length, *chunks, **fields):
+    """A scale that is a line along x, in chunks of these lengths, or of one voxel."""
+    first, *more = ([chunk, 1, 1] for chunk in chunks or (1,))
+    return Volume([length, 1, 1], first, more=tuple(more), **fields)
+
+
 def infos_of(*volumes):
     """The info documents of scales, by their paths; those of a data set are in one."""
     infos = {}
