@@ -12,15 +12,15 @@ import itertools
 import os
 import random
 
-from harness import DEVICE, FOLDER, LOOP, PIPE, answers, main, want, want_ending, want_files
+from harness import DEVICE, FOLDER, PIPE, answers, main, want, want_ending, want_files
 from model import (
-    SEGMENTED, Sharding, Values, Volume, along, box_in, bytes_of, damaged, head_of, infos_of, line, refused, stored, stream_of, verdict,
+    SEGMENTED, Sharding, Values, Volume, along, box_in, damaged, infos_of, line, refused, stored, stream_of, verdict,
     voxels_in,
 )
 from model.chance import FORMS, damage_some, pick_foreign, pick_volume, pick_writes, with_numbers
 from model.segments import bytes_of as chunk_of
 from model.shards import shard_of
-from model.small import FIRST, INFO_PATH, NO_FOLDER, changed, padded, shards, with_info
+from model.small import FIRST, NO_FOLDER, changed, padded, shards, with_info
 from runs import is_killed_often, leaves, rows_of_stops, update_run
 
 WORKERS = [1, 2, 16]
@@ -118,8 +118,7 @@ STORED = [
     ("no boxes", SMALL, {"0-2_0-2_0-1": "01020304"}, [], {}, 0),
     ("no boxes over a damaged chunk", SMALL, {"0-2_0-2_0-1": "01"}, [], {}, 0),
     ("an offset below 0", SHIFTED, {"-3-1_0-1_0-1": "01020304"}, [at(-1, 9)], {"-3-1_0-1_0-1": "01020904"}, 1),
-    ("two channels", WIDE, {"0-2_0-1_0-1": "0100020003000400"}, [(along(1, 2), b"\t\0\b\0")],
-     {"0-2_0-1_0-1": "0100090003000800"}, 1),
+    ("two channels", WIDE, {"0-2_0-1_0-1": "0100020003000400"}, [(along(1, 2), b"\t\0\b\0")], {"0-2_0-1_0-1": "0100090003000800"}, 1),
     ("an edge chunk", EDGE, {"0-4_0-1_0-1": "01020304", "4-5_0-1_0-1": "05"}, [at(4, 9)], {"4-5_0-1_0-1": "09"}, 1),
     ("a box across two chunks", EDGE, {"0-4_0-1_0-1": "01020304"}, [at(3, 8, 9)], {"0-4_0-1_0-1": "01020308", "4-5_0-1_0-1": "09"}, 2),
     ("a damaged chunk that no box meets", ROW, {"0-1_0-1_0-1": "", "1-2_0-1_0-1": "02"}, [at(1, 9)], {"1-2_0-1_0-1": "09"}, 1),
@@ -285,28 +284,11 @@ IN_SHARDS = {**with_info(**shards()), "d/s/0.shard": b"short"}
 
 # title, what is changed, the stream, the line
 REFUSED = [
-    ("no info, and no stream", {INFO_PATH: None}, b"", "info of d: absent"),
-    ("a broken info", {INFO_PATH: b"{"}, GOOD, "info of d: not json"),
     ("two chunk sizes", with_info(chunk_sizes=[[2, 2, 1], [4, 2, 1]]), GOOD, "several chunk sizes"),
-    ("an info that is a pipe", {INFO_PATH: PIPE}, GOOD, "store fault"),
     ("2^22 + 1 padded voxels, and no stream", padded(2**22 + 1), b"", PADDED),
-    ("no stream", {}, b"", "stream: bad magic"),
-    ("a stream of another format", {}, b"PVW2" + bytes(4), "stream: bad magic"),
-    ("too many writes", {}, head_of(65537), "stream: too many writes 65537"),
-    ("a stream that ends in a box", {}, GOOD[:40], "write 0: truncated"),
-    ("a stream that ends before the last value", {}, GOOD[:-1], "write 0: truncated"),
-    ("a byte behind the stream", {}, GOOD + b"\0", "stream: trailing bytes"),
-    ("a box of no voxels", {}, head_of(1) + bytes_of([0, 0, 0], [0, 1, 1]), "write 0: empty box"),
-    ("a box outside", {}, stream_of([(box_in("3:5,0:1,0:1"), b"\1\2")]), "write 0: outside scale"),
-    ("a second box outside", {}, stream_of([(box_in("0:1,0:1,0:1"), b"\1"), (box_in("-1:1,0:1,0:1"), b"\1\2")]), "write 1: outside scale"),
     ("a box outside over a damaged chunk", {FIRST: b""}, stream_of([(box_in("0:5,0:1,0:1"), bytes(5))]), "write 0: outside scale"),
     ("a box outside over a damaged shard", IN_SHARDS, stream_of([(box_in("0:5,0:1,0:1"), bytes(5))]), "write 0: outside scale"),
     ("a damaged shard", IN_SHARDS, GOOD, "shard 0 0: shard short index"),
-    ("a shard that is a pipe", {**IN_SHARDS, "d/s/0.shard": PIPE}, GOOD, "store fault"),
-    ("a damaged chunk", {FIRST: b"123"}, GOOD, "damaged 0,0,0: chunk length 3 wanted 4"),
-    ("a chunk of a byte more", {FIRST: b"12345"}, GOOD, "damaged 0,0,0: chunk length 5 wanted 4"),
-    ("a chunk that is a device", {FIRST: DEVICE}, GOOD, "store fault"),
-    ("a chunk that is a link to itself", {FIRST: LOOP}, GOOD, "store fault"),
     ("a chunks' folder that is a file", NO_FOLDER, GOOD, "store fault"),
     ("a raw chunk as a segmentation's", with_info({"data_type": "uint64"}, **SEGMENTED),
      stream_of([(box_in("1:2,1:2,0:1"), bytes(8))]), "damaged 0,0,0: seg channel 0"),
