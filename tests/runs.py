@@ -113,11 +113,11 @@ def want_made(trial, method, source, target, *options):
     return made
 
 
-def leaves(trial, files, words, wanted, put, feed=b"", **how):
+def leaves(trial, files, words, wanted, put, feed=b"", output=subprocess.PIPE, **how):
     """A run over files ends so, and puts these in their place or beside them; None is one that is gone. The others are as they were."""
     trial.lay_out(files)
     before = standing(trial.folder)
-    trial.want(words, wanted, feed, **how)
+    trial.want(words, wanted, feed, output=output, **how)
     after = standing(trial.folder)
     want_files(*({path: entry for path, entry in found.items() if path not in put} for found in (after, before)))
     want_files({path: after[path][2] for path in put if path in after}, {path: due for path, due in put.items() if due is not None})
@@ -144,7 +144,7 @@ def rows_of_stops(run):
 
 
 def stops(trial, files, run, output, fault, count):
-    leaves(trial, files, run.words, refused(fault), front_of(run.put, count), run.stream, output=output)
+    leaves(trial, files, run.words, refused(fault), front_of(run.put, count), run.stream, output)
 
 
 # Kills
