@@ -21,7 +21,8 @@ from model.chance import FORMS, damage_some, form_of, pick_box, pick_layouts, pi
 from model.heads import replies_to
 from model.infos import Refused as BadInfo
 from model.infos import padded_voxels, scale_in
-from model.odd import pick_info, pick_pieces, pick_requests, pick_stream
+from model.odd import pick_info, pick_stream
+from model.requests import cut_at_random, pick_requests
 from model.streams import Refused as BadStream
 from model.streams import writes_in
 from peers import connect, serving
@@ -137,6 +138,8 @@ def judges_stores(trial, seed):
 
 OBJECTS = {"d/s/x": b"0123456789", "d/s/empty": b"", "d/s/long": b"long" * 40_000, "d/s/...": b"dots", "d/info": b"{}"}
 
+TARGETS = ["/s/x", "/s/x", "/s/empty", "/s/long", "/info", "/s/..."]
+
 # How many connections a server has here, and how long a peer waits between two pieces, in seconds.
 CONNECTIONS = 20
 PAUSE = 0.001
@@ -162,9 +165,9 @@ def answers_requests(trial, seed):
     with serving(trial, CONNECTIONS) as port:
         for number in range(CONNECTIONS):
             chance = random.Random(f"requests {seed} {number}")
-            stream = pick_requests(chance)
+            stream = pick_requests(chance, TARGETS, chance.randint(0, 3))
             wanted, _ = replies_to(stream, OBJECTS)
-            pieces = pick_pieces(chance, stream)
+            pieces = cut_at_random(chance, stream, 60)
             want(talk_in_pieces(port, pieces), wanted, f"to {pieces!r:.300}")
 
 

@@ -118,7 +118,22 @@ def pick_chunks(chance, volume, spell, like=None):
     return {cell: spell(cell, pick_values(chance, like or volume, volume.box_of(cell))) for cell in cells}
 
 
+def choose(chance, usual, odd, seldom):
+    """The usual one, or an odd one once in so many times."""
+    return chance.choice(odd) if chance.randrange(seldom) == 0 else usual
+
+
 # Damages
+
+
+def damage_bytes(chance, content):
+    """Bytes of which some are others, gone, doubled or more."""
+    content = bytearray(content)
+    for _ in range(chance.choice([1, 1, 1, 2, 3])):
+        at, length = chance.randrange(len(content) + 1), chance.choice([0, 1, 1, 2, chance.randint(0, 40)])
+        put = chance.choice([b"", chance.randbytes(chance.randint(1, 3)), bytes(content[at : at + length]) * 2, b'"', b"\0", b"\xff"])
+        content[at : at + length] = put
+    return bytes(content) if chance.random() < 0.8 else bytes(content[: chance.randrange(len(content) + 1)])
 
 
 def with_numbers(content, numbers):
