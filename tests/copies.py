@@ -83,6 +83,7 @@ IN_THREES = {"e/t/0-3_0-1_0-1": b"\1\2\3", "e/t/3-6_0-1_0-1": b"\4\5\6", "e/t/6-
 ZERO = {**infos_of(LITTLE, THREES), **LITTLE.files_after([(box_in("4:5,0:1,0:1"), b"\0")])[0]}
 WIDE_BLOCKS, NARROW, LABEL = line(5, 5, width=4, block=(2**23, 1, 1)), at(line(5, 3, width=4), *INTO), bytes_of([12345])
 LABELS = {**infos_of(WIDE_BLOCKS, NARROW), "d/s/0-5_0-1_0-1": bytes_of([1, 2, 0, 12345])}
+COPIED_LABELS = {"e/t/0-3_0-1_0-1": 3 * LABEL, "e/t/3-5_0-1_0-1": 2 * LABEL}
 
 # Damages that are stated here.
 
@@ -169,20 +170,17 @@ EMPTY = "folder not empty"
 # title, what is changed, the line; and source and target, where they are others. First come the words, then the info of the source, that of
 # the target, its voxels, what both scales have alike, and their cells.
 REFUSED = [
-    ("no info of both", {INFO_PATH: None}, "info of d: absent"),
     ("no info of the source", {INFO_PATH: None, **TARGET}, "info of d: absent"),
     ("no info of the target", {}, "info of e: absent"),
     ("no key of the source", TARGET, "info of d: scale absent", ("d", "t"), INTO),
     ("no key of the target", TARGET, "info of e: scale absent", FROM, ("e", "s")),
     ("no key of the target in one data set", TARGET, "info of d: scale absent", FROM, ("d", "t")),
-    ("a broken info of the source", {INFO_PATH: b"{"}, "info of d: not json"),
     ("a broken info of the target", {"e/info": b"{"}, "info of e: not json"),
     ("a broken info of both", {INFO_PATH: b"{", "e/info": b"[]"}, "info of d: not json"),
     ("pictures in the source", {**with_info(encoding="jpeg"), **TARGET}, "info of d: unsupported encoding"),
     ("pictures in the target", with_target(encoding="jpeg"), "info of e: unsupported encoding"),
     ("an info of the target before a damaged source", NO_FIRST, "info of e: absent"),
     ("2^24 + 1 padded voxels of the target", target_padded(2**24 + 1), "info of e: limit padded"),
-    ("2^24 + 1 padded voxels of the source", {**padded(2**24 + 1), **TARGET}, "info of d: limit padded"),
     ("2^22 + 1 padded voxels, and another size", target_padded(2**22 + 1), PADDED),
     ("2^22 + 1 padded voxels over an object", {**target_padded(2**22 + 1), **OBJECT}, PADDED),
     ("2^22 + 1 padded voxels of a damaged source", {**padded(2**22 + 1), **SHORT_LONG, **target_padded(2**22 + 1)}, PADDED),
@@ -212,7 +210,6 @@ REFUSED = [
     ("the source as the target", {}, EMPTY, FROM, FROM),
     ("a damaged source as the target", NO_FIRST, EMPTY, FROM, FROM),
     ("an info in the target's folder", {"d/s/info": info_of([4, 2, 1], [4, 1, 1])}, EMPTY, ("d/s", "s"), FROM),
-    ("an info of the source that is a pipe", {**TARGET, INFO_PATH: PIPE}, "store fault"),
     ("an info of the target that is a pipe", {"e/info": PIPE}, "store fault"),
     ("such an info, and none of the source", {"e/info": PIPE, INFO_PATH: None}, "info of d: absent"),
     ("a raw chunk as a segmentation's", {**with_info({"data_type": "uint64"}, **SEGMENTED), **with_target({"data_type": "uint64"})},
@@ -242,8 +239,7 @@ def rows(count):
     for title, change, wanted in outcomes(TARGET, with_info(**shards()), "e/t"):
         yield title, answers, changed(change), words_of(()), wanted
     yield "many workers, and no chunks", answers, changed(TARGET, NO_CHUNKS), [*words_of(()), "--workers=16"], stored(0, 0)
-    yield "blocks that are too large to be written", leaves, LABELS, words_of(()), stored(2, 2), {
-        "e/t/0-3_0-1_0-1": 3 * LABEL, "e/t/3-5_0-1_0-1": 2 * LABEL}
+    yield "blocks that are too large to be written", leaves, LABELS, words_of(()), stored(2, 2), COPIED_LABELS
     yield "a copy into such blocks", answers, LABELS, words_of((INTO, FROM)), refused("padded voxels 8388608 over 4194304")
     yield "a chunk of zeros", leaves, ZERO, words_of(()), stored(1, 1), {"e/t/3-6_0-1_0-1": bytes(3)}
     yield "seven voxels in threes", leaves, SEVEN_RUN.before, words_of(()), stored(3, 3), IN_THREES

@@ -5,7 +5,7 @@ import random
 
 from harness import DEVICE, FOLDER, LOOP, PIPE, contents, standing, want, want_ending, want_files
 from model import Sharding, Values, Volume, box_in, damaged, infos_of, line, refused, sound, stored, voxels_in
-from model.chance import FORMS, damage_some, pick_box, pick_foreign, pick_writes
+from model.chance import FORMS, damage_some, pick_box, pick_stored, pick_writes
 from model.pyramids import next_of
 from model.small import FIRST, NO_CHUNKS, NO_FOLDER, SECOND
 from runs import WORKERS, apart, made_by, pick_workers, want_made
@@ -130,7 +130,7 @@ def makes_random(trial, seed, forms, pick):
     chance = random.Random(f"{seed} {forms}")
     method, source, target, like = pick(chance, forms)
     if chance.random() < 0.2:
-        trial.store(source, pick_foreign(chance, source, like))
+        trial.store(source, pick_stored(chance, source, like, is_sound=True))
     else:
         trial.write(source, pick_boxes(chance, source, like))
     trial.lay_out(infos_of(source, target))

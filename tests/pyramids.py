@@ -15,7 +15,7 @@ from model import SEGMENTED, Sharding, Volume, infos_of, line, refused, stored
 from model.chance import pick_scales
 from model.pyramids import METHODS, next_of
 from model.segments import bytes_of
-from model.small import FIRST, INFO_PATH, NO_CHUNKS, changed, shards, with_next
+from model.small import FIRST, NO_CHUNKS, changed, shards, with_next
 from making import FIXED, PAIRS, is_made, makes_fixed, outcomes, rows_at_random, tells_damage
 from runs import WORKERS, leaves, made_run, rows_of_stops
 
@@ -182,15 +182,10 @@ def moved(source, target):
 # title, what is changed, the line; and the words, where they aren't those of a plain mean. First come the words, then the two scales, the
 # target's voxels, the sizes, the offsets, the cells, the target's folder, and then the source's cells.
 REFUSED = [
-    ("no info", {INFO_PATH: None}, "info of d: absent"),
-    ("a broken info", {INFO_PATH: b"{"}, "info of d: not json"),
-    ("an info that is a pipe", {INFO_PATH: PIPE}, "store fault"),
     ("no key of the source", NEXT, "info of d: scale absent", words(source="u")),
     ("no key of the target", NEXT, "info of d: scale absent", words(target="u")),
     ("pictures in the source", with_next({"encoding": "jpeg"}), "info of d: unsupported encoding"),
     ("pictures in the target", with_next(encoding="jpeg"), "info of d: unsupported encoding"),
-    ("pictures in the source, and no key of the target", with_next({"encoding": "jpeg"}), "info of d: unsupported encoding",
-     words(target="u")),
     ("no key of the source, and pictures in the target", with_next(encoding="jpeg"), "info of d: scale absent", words(source="u")),
     ("an info before a damaged source", {**with_next(encoding="jpeg"), **NO_FIRST}, "info of d: unsupported encoding"),
     ("2^24 + 1 padded voxels of the target", blocks(2**24 + 1), "info of d: limit padded"),

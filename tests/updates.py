@@ -17,7 +17,7 @@ from model import (
     SEGMENTED, Sharding, Values, Volume, along, box_in, damaged, infos_of, line, refused, stored, stream_of, verdict,
     voxels_in,
 )
-from model.chance import FORMS, damage_some, pick_foreign, pick_volume, pick_writes, with_numbers
+from model.chance import FORMS, damage_some, pick_stored, pick_volume, pick_writes, with_numbers
 from model.segments import bytes_of as chunk_of
 from model.shards import shard_of
 from model.small import FIRST, NO_FOLDER, changed, padded, shards, with_info
@@ -46,7 +46,7 @@ def with_strays(chance, volume, files):
 
 def lay_foreign(trial, chance, volume):
     """Chunks as another program may have stored them, and perhaps rows that no cell reads. Gives the values."""
-    chunks = pick_foreign(chance, volume)
+    chunks = pick_stored(chance, volume, is_sound=True)
     files = trial.store(volume, chunks)
     if volume.sharding is not None and volume.sharding.shard_bits < 5 and chance.random() < 0.5:
         trial.lay_out(with_strays(chance, volume, files))

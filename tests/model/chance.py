@@ -157,19 +157,12 @@ def damage_chunk(chance, shape, chunk):
     return bytes_of(words)[:length] + bytes(chance.choice([0] * 9 + [chance.randint(1, 40)]))
 
 
-def numbers_in(volume, shard):
-    """The places of the numbers of all entries and rows of a shard."""
-    bits = volume.sharding.minishard_bits
-    places = list(range(0, 16 << bits, 8))
-    for minishard in range(2**bits):
-        begin, rows = rows_of(bits, minishard, shard)
-        places += range(begin, begin + 24 * rows, 8)
-    return places
-
-
 def damage_shard(chance, volume, shard):
     """Some numbers of entries and rows are others, or some bytes at any place."""
-    places = numbers_in(volume, shard)
+    bits = volume.sharding.minishard_bits
+    places = list(range(0, 16 << bits, 8))
+    for begin, count in (rows_of(bits, minishard, shard) for minishard in range(2**bits)):
+        places += range(begin, begin + 24 * count, 8)
     if volume.block is not None and chance.random() < 0.5:
         places = range(len(shard) - 8)
     numbers = {}
@@ -206,24 +199,16 @@ def damage_some(chance, volume, files):
     return after
 
 
-def pick_foreign(chance, volume, like=None):
-    """Sound chunks of some of the cells, those of segmentations spelled as another program may where they aren't too long so."""
-
-    def spell_otherwise(cell, raw):
-        loose = raw if volume.block is None else spell_loosely(chance, volume.shape(cell), raw)
-        return loose if len(loose) <= volume.limit(cell) else volume.spell(cell, raw)
-
-    return pick_chunks(chance, volume, spell_otherwise, like)
-
-
-def pick_stored(chance, volume):
-    """Chunks of some of the cells, those of segmentations spelled as another program may, or too long so."""
+def pick_stored(chance, volume, like=None, is_sound=False):
+    """Chunks of some of the cells, those of segmentations also spelled as another program may; too long ones, where they needn't be sound."""
 
     def spell_some(cell, raw):
-        is_own = volume.block is None or chance.random() < 0.3
-        return volume.spell(cell, raw) if is_own else spell_loosely(chance, volume.shape(cell), raw)
+        if volume.block is None or chance.random() < 0.3:
+            return volume.spell(cell, raw)
+        loose = spell_loosely(chance, volume.shape(cell), raw)
+        return volume.spell(cell, raw) if is_sound and len(loose) > volume.limit(cell) else loose
 
-    return pick_chunks(chance, volume, spell_some)
+    return pick_chunks(chance, volume, spell_some, like)
 
 
 def some_chunks(volume):
