@@ -200,7 +200,7 @@ def damage_some(chance, volume, files):
 
 
 def pick_stored(chance, volume, like=None, is_sound=False):
-    """Chunks of some of the cells, those of segmentations also as another program spells them; too long ones, where they needn't be sound."""
+    """Chunks of some of the cells, those of segmentations also as another program spells them, and too long ones, if not all are sound."""
 
     def spell_some(cell, raw):
         if volume.block is None or chance.random() < 0.3:
