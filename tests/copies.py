@@ -16,7 +16,10 @@ from model import SEGMENTED, Sharding, Volume, box_in, info_of, infos_of, line, 
 from model.chance import pick_layouts
 from model.segments import bytes_of
 from model.small import FIRST, INFO_PATH, NO_CHUNKS, changed, padded, padded_info, shards, with_info
-from making import FIXED, HASHED, IN_ONE_SHARD, PAIRS, is_made, makes_fixed, outcomes, rows_at_random, tells_damage
+from making import (
+    FIXED, HASHED, IN_ONE_SHARD, PAIRS, SEVEN, SEVEN_VALUES, makes_around, makes_between, makes_fixed, outcomes, rows_at_random,
+    tells_damage,
+)
 from runs import WORKERS, is_killed_often, leaves, made_run, rows_of_stops
 
 FROM, INTO = ("d", "s"), ("e", "t")
@@ -48,24 +51,7 @@ AROUND = [
     ("one folder by two names", ("d", "a/b"), ("d/a", "b")),
 ]
 
-LITTLE = line(7, 2)
-HASHED_LITTLE = line(7, 3, sharding=HASHED)
-SEVEN = [(LITTLE.whole, bytes(range(1, 8)))]
-
-
-def copies_between(trial, source, target):
-    pair = at(LITTLE, *source), at(HASHED_LITTLE, *target)
-    trial.write(pair[0], SEVEN)
-    trial.lay_out(infos_of(*pair))
-    is_made(trial, None, *pair)
-
-
-def copies_around(trial, source, target, written):
-    """A source with a file is refused and stays; one without is copied, which has no files."""
-    pair = at(LITTLE, *source), at(HASHED_LITTLE, *target)
-    trial.write(pair[0], SEVEN if written else [])
-    run = made_run(None, *pair, {})
-    answers(trial, run.before, run.words, refused("folder not empty") if written else stored(0, 0))
+SEVEN_IN_SHARDS = line(7, 3, sharding=HASHED)
 
 
 def pick_copy(chance, forms):
@@ -78,9 +64,9 @@ def pick_copy(chance, forms):
 
 # What is stated of a copy of seven voxels, of one whose values are 0, and of labels in blocks that are too large to be written.
 THREES = at(line(7, 3), *INTO)
-SEVEN_RUN = made_run(None, LITTLE, THREES, LITTLE.files_after(SEVEN)[0])
+SEVEN_RUN = made_run(None, SEVEN, THREES, SEVEN.files_after(SEVEN_VALUES)[0])
 IN_THREES = {"e/t/0-3_0-1_0-1": b"\1\2\3", "e/t/3-6_0-1_0-1": b"\4\5\6", "e/t/6-7_0-1_0-1": b"\7"}
-ZERO = {**infos_of(LITTLE, THREES), **LITTLE.files_after([(box_in("4:5,0:1,0:1"), b"\0")])[0]}
+ZERO = {**infos_of(SEVEN, THREES), **SEVEN.files_after([(box_in("4:5,0:1,0:1"), b"\0")])[0]}
 WIDE_BLOCKS, NARROW, LABEL = line(5, 5, width=4, block=(2**23, 1, 1)), at(line(5, 3, width=4), *INTO), bytes_of([12345])
 LABELS = {**infos_of(WIDE_BLOCKS, NARROW), "d/s/0-5_0-1_0-1": bytes_of([1, 2, 0, 12345])}
 COPIED_LABELS = {"e/t/0-3_0-1_0-1": 3 * LABEL, "e/t/3-5_0-1_0-1": 2 * LABEL}
@@ -248,10 +234,11 @@ def rows(count):
         yield title, makes_fixed, *case, None
     for (title, *case), workers in itertools.product(DAMAGES, WORKERS):
         yield f"damaged, {title}, by {workers} workers", tells_damage, *case, None, workers
-    for title, *names in NAMES:
-        yield title, copies_between, *names
-    for (title, *names), written in itertools.product(AROUND, (True, False)):
-        yield f"{title}, {'with a file' if written else 'without files'}", copies_around, *names, written
+    for title, source, target in NAMES:
+        yield title, makes_between, None, at(SEVEN, *source), at(SEVEN_IN_SHARDS, *target)
+    for (title, source, target), is_written in itertools.product(AROUND, (True, False)):
+        pair = at(SEVEN, *source), at(SEVEN_IN_SHARDS, *target)
+        yield f"{title}, {'with a file' if is_written else 'without files'}", makes_around, None, *pair, is_written
     yield from rows_at_random(pick_copy, itertools.product(range(count), PAIRS))
 
 

@@ -3,7 +3,7 @@ import dataclasses
 import itertools
 import random
 
-from harness import DEVICE, FOLDER, LOOP, PIPE, contents, standing, want, want_ending, want_files
+from harness import DEVICE, FOLDER, LOOP, PIPE, answers, contents, standing, want, want_ending, want_files
 from model import Sharding, Values, Volume, box_in, damaged, infos_of, line, refused, sound, stored, voxels_in
 from model.chance import FORMS, damage_some, pick_box, pick_stored, pick_writes
 from model.pyramids import next_of
@@ -111,6 +111,25 @@ def makes_fixed(trial, source, layout, written, method):
         made = is_made(trial, method, source, target, "--workers=1", boxes=[pick_box(chance, target)])
         if method is None:
             want(made.values.all(), Values(source, writes).all(), "the values that were written")
+
+
+# Seven voxels with the values 1 to 7, in pairs.
+SEVEN = line(7, 2)
+SEVEN_VALUES = [(SEVEN.whole, bytes(range(1, 8)))]
+
+
+def makes_between(trial, method, source, target):
+    """By any names of the two."""
+    trial.write(source, SEVEN_VALUES)
+    trial.lay_out(infos_of(source, target))
+    is_made(trial, method, source, target)
+
+
+def makes_around(trial, method, source, target, is_written):
+    """A source in the target's folder is refused and stays where it has a file; of one without there is nothing to make."""
+    trial.write(source, SEVEN_VALUES if is_written else [])
+    words, _ = made_by(method, source, target, {})
+    answers(trial, infos_of(source, target), words, refused("folder not empty") if is_written else stored(0, 0))
 
 
 # Scales at random

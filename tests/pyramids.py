@@ -16,7 +16,9 @@ from model.chance import pick_scales
 from model.pyramids import METHODS, next_of
 from model.segments import bytes_of
 from model.small import FIRST, NO_CHUNKS, changed, shards, with_next
-from making import FIXED, PAIRS, is_made, makes_fixed, outcomes, rows_at_random, tells_damage
+from making import (
+    FIXED, PAIRS, SEVEN, SEVEN_VALUES, is_made, makes_around, makes_between, makes_fixed, outcomes, rows_at_random, tells_damage,
+)
 from runs import WORKERS, leaves, made_run, rows_of_stops
 
 # What is stated of next scales
@@ -62,9 +64,8 @@ def reduces_stated(trial, source, held, layout, due, method, workers):
     want(made.answer(), stored(len(stated), len(stated)), "the model's answer")
 
 
-SEVEN = line(7, 2)
 THREES = next_of(SEVEN, key="t", chunk=[3, 1, 1])
-SEVEN_RUN = made_run("mode", SEVEN, THREES, SEVEN.files_after([(SEVEN.whole, bytes(range(1, 8)))])[0])
+SEVEN_RUN = made_run("mode", SEVEN, THREES, SEVEN.files_after(SEVEN_VALUES)[0])
 THREE_FILES = {"d/t/0-3_0-1_0-1": b"\1\3\5", "d/t/3-4_0-1_0-1": b"\7"}
 
 # title, key of the source, and of the target
@@ -74,21 +75,6 @@ NAMES = [
     ("a key that begins with the other", "s", "s1"),
     ("a key that the other begins with", "s1", "s"),
 ]
-
-
-def reduces_between(trial, source, target):
-    pair = [dataclasses.replace(volume, key=key) for volume, key in ((SEVEN, source), (THREES, target))]
-    trial.write(pair[0], [(SEVEN.whole, bytes(range(1, 8)))])
-    trial.lay_out(infos_of(*pair))
-    is_made(trial, "mode", *pair)
-
-
-def reduces_around(trial, written):
-    """A source in the target's folder is refused where it has a file, and else there is nothing to make."""
-    pair = dataclasses.replace(SEVEN, key="t/s"), THREES
-    trial.write(pair[0], [(SEVEN.whole, bytes(7))] if written else [])
-    run = made_run("mean", *pair, {})
-    answers(trial, run.before, run.words, refused("folder not empty") if written else stored(0, 0))
 
 
 # Five voxels of one label, in blocks that are too large to be written, and their next scale in raw chunks, and in such blocks.
@@ -258,10 +244,10 @@ def rows(count):
     yield "a next scale in such blocks", answers, LABELS, words(target="u", method="mode"), too_wide
     for (title, *case), method, workers in itertools.product(DAMAGES, METHODS, WORKERS):
         yield f"damaged, {title}, {method}, {workers} workers", tells_damage, *case, method, workers
-    for title, *names in NAMES:
-        yield title, reduces_between, *names
-    for written in (True, False):
-        yield f"a source in the target's folder, {'with a file' if written else 'without files'}", reduces_around, written
+    for title, source, target in NAMES:
+        yield title, makes_between, "mode", dataclasses.replace(SEVEN, key=source), dataclasses.replace(THREES, key=target)
+    for is_written, title in ((True, "with a file"), (False, "without files")):
+        yield f"a source in the target's folder, {title}", makes_around, "mean", dataclasses.replace(SEVEN, key="t/s"), THREES, is_written
     yield "seven voxels in threes", leaves, SEVEN_RUN.before, words(method="mode"), stored(2, 2), THREE_FILES
     yield from rows_of_stops(SEVEN_RUN)
     yield from rows_at_random(pick_next, zip(range(count), itertools.cycle(PAIRS)))
