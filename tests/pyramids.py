@@ -217,7 +217,7 @@ REFUSED = [
 
 # title, what is changed, words: the source has no chunk, so the target has none, and no folder is made
 EMPTY_SOURCES = [
-    ("no chunks in shards", IN_SHARDS, words("--workers=16", method="mode")),
+    ("no chunks in shards, 16 workers", IN_SHARDS, words("--workers=16", method="mode")),
     ("options in front", {**NO_CHUNKS, **NEXT}, ["downsample", "--workers=2", "d", "--method=mode", "s", "t"]),
     ("one voxel as its own next scale, and no chunks", {**NO_CHUNKS, **ONE_VOXEL}, words(target="s")),
     ("the greatest offset", {**NO_CHUNKS, **moved([2**40, -(2**40), 0], [2**39, -(2**39), 0])}, words()),

@@ -72,6 +72,7 @@ def no_commands():
     no_method = ["downsample", "d", "s", "t"]
     lines = [
         [], ["--help"], ["cut", "d", "s", WHOLE], ["--method=mean", *no_method], [*no_method, "--method", "mean"],
+        ["downsample", "d", "s", "--method=mean"],
         *itertools.chain(*(spoiled(words, kinds) for words, kinds in COMMANDS)),
     ]
     return [words for number, words in enumerate(lines) if words not in GOOD_WORDS and words not in lines[:number]]
@@ -305,10 +306,10 @@ def rows():
     for (words, _), (title, info, line) in itertools.product(COMMANDS, INFOS):
         change = info if isinstance(info, dict) else {INFO_PATH: info}
         told = line if line == "store fault" else f"info of d: {line}"
-        yield f"an info {title}, {words[0]}", answers, changed(change), words, refused(told)
+        yield f"an info {title}, {' '.join(words)}", answers, changed(change), words, refused(told)
     for (words, _), (title, change, dataset, key, line) in itertools.product(COMMANDS, ABSENT):
         named = [words[0], dataset, key, *words[3:]]
-        yield f"{title}, {words[0]}", answers, changed(change), named, refused(f"info of {dataset}: {line}")
+        yield f"{title}, {' '.join(words)}", answers, changed(change), named, refused(f"info of {dataset}: {line}")
     for words, (title, change, line) in itertools.product(([*CUT, WHOLE], VERIFY, UPDATE), CELLS):
         yield f"{title}, {words[0]}", answers, changed(change), words, refused(line), STREAM
     for words, (title, change, box, whole) in itertools.product((CUT, VERIFY), OUTSIDE):
