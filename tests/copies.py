@@ -32,16 +32,11 @@ def at(volume, dataset, key):
 
 # title, data set and key of the source, and of the target
 NAMES = [
-    ("two data sets", FROM, INTO),
-    ("one data set", ("d", "s"), ("d", "t")),
-    ("a target in the source's folder", ("d", "s"), ("d", "s/t")),
-    ("a target deep in it", ("d", "s"), ("d", "s/t/u/v")),
-    ("a data set in the source's folder", ("d", "s"), ("d/s", "t")),
-    ("a data set in the source's data set", ("d", "s"), ("d/e", "s")),
-    ("a data set around the source's", ("d/e", "s"), ("d", "s")),
-    ("a key that begins with the other", ("d", "s"), ("d", "s1")),
-    ("a key that the other begins with", ("d", "s1"), ("d", "s")),
-    ("a key that is the other's data set", ("d", "e"), ("e", "d")),
+    ("two data sets", FROM, INTO), ("one data set", ("d", "s"), ("d", "t")),
+    ("a target in the source's folder", ("d", "s"), ("d", "s/t")), ("a target deep in it", ("d", "s"), ("d", "s/t/u/v")),
+    ("a data set in the source's folder", ("d", "s"), ("d/s", "t")), ("a data set in the source's data set", ("d", "s"), ("d/e", "s")),
+    ("a data set around the source's", ("d/e", "s"), ("d", "s")), ("a key that begins with the other", ("d", "s"), ("d", "s1")),
+    ("a key that the other begins with", ("d", "s1"), ("d", "s")), ("a key that is the other's data set", ("d", "e"), ("e", "d")),
 ]
 
 # title, data set and key of the source, and of the target: where the source has a file, the target's folder has it too
@@ -156,8 +151,7 @@ EMPTY = "folder not empty"
 # title, what is changed, the line; and source and target, where they are others. First come the words, then the info of the source, that of
 # the target, its voxels, what both scales have alike, and their cells.
 REFUSED = [
-    ("no info of the source", {INFO_PATH: None, **TARGET}, "info of d: absent"),
-    ("no info of the target", {}, "info of e: absent"),
+    ("no info of the source", {INFO_PATH: None, **TARGET}, "info of d: absent"), ("no info of the target", {}, "info of e: absent"),
     ("no key of the source", TARGET, "info of d: scale absent", ("d", "t"), INTO),
     ("no key of the target", TARGET, "info of e: scale absent", FROM, ("e", "s")),
     ("no key of the target in one data set", TARGET, "info of d: scale absent", FROM, ("d", "t")),
@@ -175,8 +169,7 @@ REFUSED = [
     ("sizes of another order", with_target(size=[2, 4, 1]), "differs size"),
     *((f"another offset along {axis}", with_target(voxel_offset=offset), "differs voxel_offset")
       for axis, offset in (("x", [1, 0, 0]), ("y", [0, -1, 0]), ("z", [0, 0, 2**40]))),
-    ("another data type", with_target(SIXTEEN), "differs data_type"),
-    ("two channels", with_target(TWO), "differs num_channels"),
+    ("another data type", with_target(SIXTEEN), "differs data_type"), ("two channels", with_target(TWO), "differs num_channels"),
     ("all of these are others", with_target({**SIXTEEN, **TWO}, size=[4, 2, 2], voxel_offset=[0, 0, 1]), "differs size"),
     ("all but the size", with_target({**SIXTEEN, **TWO}, voxel_offset=[0, 0, 1]), "differs voxel_offset"),
     ("data type and channels", with_target({**SIXTEEN, **TWO}), "differs data_type"),
@@ -184,8 +177,7 @@ REFUSED = [
     ("another size before too many cells", {**lines(1, 1, 2**23), **with_target(size=[2**23, 2, 1], chunk=[1, 1, 1])}, "differs size"),
     ("channels before an object and a damaged source", {**with_target(TWO), **OBJECT, **NO_FIRST}, "differs num_channels"),
     ("another size before a pipe in the target's folder", {**with_target(size=[4, 2, 2]), **PIPE_INSIDE}, "differs size"),
-    ("2^22 + 1 cells of the source", lines(1, 4, 2**22 + 1), CELLS),
-    ("2^22 + 1 cells of the target", lines(4, 1, 2**22 + 1), CELLS),
+    ("2^22 + 1 cells of the source", lines(1, 4, 2**22 + 1), CELLS), ("2^22 + 1 cells of the target", lines(4, 1, 2**22 + 1), CELLS),
     ("2^23 cells of the source and 2^24 of the target", lines(2, 1, 2**24), f"too many cells {2**23}"),
     ("2^24 cells of the source and 2^23 of the target", lines(1, 2, 2**24), f"too many cells {2**24}"),
     ("2^120 cells of the source", cubes([1, 1, 1], [2**9] * 3), f"too many cells {2**120}"),
@@ -193,8 +185,7 @@ REFUSED = [
     ("too many cells over an object", {**lines(1, 4, 2**22 + 1), **OBJECT}, CELLS),
     ("too many cells of a damaged source", {**lines(2**22 + 1, 1, 2**22 + 1), **SHORT_LONG}, CELLS),
     ("one of the target's own objects", {**TARGET, "e/t/0-4_0-1_0-1": bytes(4)}, EMPTY),
-    ("the source as the target", {}, EMPTY, FROM, FROM),
-    ("a damaged source as the target", NO_FIRST, EMPTY, FROM, FROM),
+    ("the source as the target", {}, EMPTY, FROM, FROM), ("a damaged source as the target", NO_FIRST, EMPTY, FROM, FROM),
     ("an info in the target's folder", {"d/s/info": info_of([4, 2, 1], [4, 1, 1])}, EMPTY, ("d/s", "s"), FROM),
     ("an info of the target that is a pipe", {"e/info": PIPE}, "store fault"),
     ("such an info, and none of the source", {"e/info": PIPE, INFO_PATH: None}, "info of d: absent"),

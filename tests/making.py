@@ -49,18 +49,15 @@ PART = ["-4:9,0:11,10:16", "15:17,8:10,11:17"]
 
 # title, the source, the target's layout, and the boxes that are written into the source; all of it where there are none
 FIXED = [
-    ("one chunk into voxels", line(5, 5), {"chunk": [1, 1, 1]}, []),
-    ("voxels into one chunk", line(5), {"chunk": [5, 5, 5]}, []),
-    ("voxels into a chunk that is larger than the scale", line(6), {"chunk": [2**40, 1, 1]}, []),
-    ("one voxel", line(1), {}, []),
+    ("one chunk into voxels", line(5, 5), {"chunk": [1, 1, 1]}, []), ("voxels into one chunk", line(5), {"chunk": [5, 5, 5]}, []),
+    ("voxels into a chunk that is larger than the scale", line(6), {"chunk": [2**40, 1, 1]}, []), ("one voxel", line(1), {}, []),
     ("chunks of three into chunks of two", line(11, 3), {"chunk": [2, 1, 1]}, []),
     ("chunks of two into chunks of three", line(11, 2), {"chunk": [3, 1, 1]}, []),
     ("a voxel in the middle", line(11, 3), {"chunk": [2, 1, 1]}, ["5:6,0:1,0:1"]),
     ("two voxels far from each other", line(40, 3), {"chunk": [4, 1, 1]}, ["0:1,0:1,0:1", "39:40,0:1,0:1"]),
     ("the edge alone", line(11, 3), {"chunk": [4, 1, 1]}, ["10:11,0:1,0:1"]),
     ("16 bits, an offset below 0", line(9, 4, width=2, offset=(-8, -2, 2)), {"chunk": [3, 1, 1]}, []),
-    ("64 bits", line(9, 4, width=8), {"chunk": [5, 1, 1]}, []),
-    ("1,024 channels", line(3, 2, channels=1024), {"chunk": [1, 1, 1]}, []),
+    ("64 bits", line(9, 4, width=8), {"chunk": [5, 1, 1]}, []), ("1,024 channels", line(3, 2, channels=1024), {"chunk": [1, 1, 1]}, []),
     ("the same layout", solid([5, 4, 3], [2, 3, 2]), {}, []),
     ("odd on each axis", solid([7, 5, 3], [4, 4, 2], width=8), {"chunk": [3, 2, 1]}, []),
     ("even on each axis", solid([8, 6, 4], [3, 3, 3], width=1, channels=3), {"chunk": [2, 2, 2]}, []),

@@ -25,12 +25,9 @@ UPDATE = ["update", "d", "s"]
 
 # The words of each command that reads the scale s, and what each of them is.
 COMMANDS = [
-    ([*CUT, WHOLE], "dataset key box"),
-    (VERIFY, "dataset key"),
-    ([*VERIFY, FAR], "dataset key box"),
-    (WRITE, "dataset key workers"),
-    (UPDATE, "dataset key workers"),
-    (["generate", "d", "s", "7", "1"], "dataset key number number workers"),
+    ([*CUT, WHOLE], "dataset key box"), (VERIFY, "dataset key"),
+    ([*VERIFY, FAR], "dataset key box"), (WRITE, "dataset key workers"),
+    (UPDATE, "dataset key workers"), (["generate", "d", "s", "7", "1"], "dataset key number number workers"),
     (["reshard", "d", "s", "e", "t"], "dataset key dataset key workers"),
     (["downsample", "d", "s", "t", "--method=mean"], "dataset key key method workers"),
 ]
@@ -80,20 +77,13 @@ def no_commands():
 
 # title, the info document or what is changed, what every command tells of it
 INFOS = [
-    ("that is missing", None, "absent"),
-    ("that is a folder", FOLDER, "absent"),
-    ("that is a link to itself", LOOP, "store fault"),
-    ("that is a pipe", PIPE, "store fault"),
-    ("that is empty", b"", "not json"),
-    ("of 2 MiB", b" " * 2**21, "too long"),
-    ("of 2^20 + 1 bytes", b" " * (2**20 + 1), "too long"),
-    ("of 2^20 bytes", b" " * 2**20, "not json"),
-    ("that isn't UTF-8", b'{"type":"\xff"}', "not json"),
-    ("that isn't JSON", b"{'type': 'image'}", "not json"),
-    ("cut off", info_of([4, 2, 1], [2, 2, 1])[:-1], "not json"),
-    ("that is an array", b"[]", "root wrong kind"),
-    ("that is an empty object", b"{}", "type missing"),
-    ("with a size of 0", with_info(size=[4, 2, 0]), "size bad value"),
+    ("that is missing", None, "absent"), ("that is a folder", FOLDER, "absent"),
+    ("that is a link to itself", LOOP, "store fault"), ("that is a pipe", PIPE, "store fault"),
+    ("that is empty", b"", "not json"), ("of 2 MiB", b" " * 2**21, "too long"),
+    ("of 2^20 + 1 bytes", b" " * (2**20 + 1), "too long"), ("of 2^20 bytes", b" " * 2**20, "not json"),
+    ("that isn't UTF-8", b'{"type":"\xff"}', "not json"), ("that isn't JSON", b"{'type': 'image'}", "not json"),
+    ("cut off", info_of([4, 2, 1], [2, 2, 1])[:-1], "not json"), ("that is an array", b"[]", "root wrong kind"),
+    ("that is an empty object", b"{}", "type missing"), ("with a size of 0", with_info(size=[4, 2, 0]), "size bad value"),
     ("with another @type", with_info({"@type": "x"}), "@type bad value"),
     ("with a type that is none", with_info({"type": "mesh"}), "type bad value"),
     ("with a data type of floats", with_info({"data_type": "float32"}), "unsupported data_type"),
@@ -132,18 +122,15 @@ CELLS = [
     ("a chunk of a byte more", {FIRST: b"12345"}, "damaged 0,0,0: chunk length 5 wanted 4"),
     ("an empty chunk", {FIRST: b""}, "damaged 0,0,0: chunk length 0 wanted 4"),
     ("faults in both cells", {SECOND: b"", FIRST: b"1"}, "damaged 0,0,0: chunk length 1 wanted 4"),
-    ("a chunk that is a link to itself", {SECOND: LOOP}, "store fault"),
-    ("a chunk that is a pipe", {SECOND: PIPE}, "store fault"),
+    ("a chunk that is a link to itself", {SECOND: LOOP}, "store fault"), ("a chunk that is a pipe", {SECOND: PIPE}, "store fault"),
     ("a chunk that is a device", {FIRST: DEVICE}, "store fault"),
     ("a shard that is a pipe", {**with_info(sharding=SHARDING), SHARD: PIPE}, "store fault"),
 ]
 
 # title, what is changed, a box, and that of the scale
 OUTSIDE = [
-    ("a box past the end", {}, "[0:5,0:2,0:1]", WHOLE),
-    ("a box before the begin", {}, "[-1:4,0:2,0:1]", WHOLE),
-    ("a box with 2^41", {}, FAR, WHOLE),
-    ("a box with -2^41", {}, LOW, WHOLE),
+    ("a box past the end", {}, "[0:5,0:2,0:1]", WHOLE), ("a box before the begin", {}, "[-1:4,0:2,0:1]", WHOLE),
+    ("a box with 2^41", {}, FAR, WHOLE), ("a box with -2^41", {}, LOW, WHOLE),
     ("a box before an offset", with_info(voxel_offset=[-3, 5, 7]), "[-4:1,5:7,7:8]", "[-3:1,5:7,7:8]"),
     ("a box outside, of a damaged scale", {FIRST: b""}, "[0:4,0:3,0:1]", WHOLE),
 ]
@@ -220,13 +207,10 @@ def one_write(begin, size, values=b""):
 
 # title, the stream, the line
 STREAMS = [
-    ("of an empty stream", b"", "stream: bad magic"),
-    ("of three bytes", b"PVW", "stream: bad magic"),
-    ("with another magic", b"PVW2" + STREAM[4:], "stream: bad magic"),
-    ("without a count", b"PVW1", "write 0: truncated"),
+    ("of an empty stream", b"", "stream: bad magic"), ("of three bytes", b"PVW", "stream: bad magic"),
+    ("with another magic", b"PVW2" + STREAM[4:], "stream: bad magic"), ("without a count", b"PVW1", "write 0: truncated"),
     ("of 65,537 boxes", head_of(65537), "stream: too many writes 65537"),
-    ("of 65,536 boxes that are missing", head_of(65536), "write 0: truncated"),
-    ("of a byte less", STREAM[:-1], "write 0: truncated"),
+    ("of 65,536 boxes that are missing", head_of(65536), "write 0: truncated"), ("of a byte less", STREAM[:-1], "write 0: truncated"),
     ("of a byte more", STREAM + b"\0", "stream: trailing bytes"),
     ("of a byte behind no boxes", head_of(0) + b"\0", "stream: trailing bytes"),
     ("of a second box without its values", SECOND_WRITE + bytes_of([0, 0, 0], [1, 1, 1]), "write 1: truncated"),
@@ -243,10 +227,8 @@ WRITES = [
     ("of 2^22 + 1 padded voxels with a bad stream", {**NO_CHUNKS, **padded(2**22 + 1)}, b"", TOO_MANY),
     ("of 2^22 + 1 padded voxels beside a pipe", {**NO_CHUNKS, **padded(2**22 + 1), "d/s/x": PIPE}, STREAM, TOO_MANY),
     ("of 2^22 + 2 padded voxels of two channels", {**NO_CHUNKS, **padded(2**21 + 1, 2)}, head_of(0), "padded voxels 4194306 over 4194304"),
-    ("over chunks", {}, STREAM, EMPTY),
-    ("over chunks, with a bad stream", {}, b"", EMPTY),
-    ("over one chunk", {FIRST: None}, STREAM, EMPTY),
-    ("above a deep object", {**NO_CHUNKS, "d/s/x/y": b""}, STREAM, EMPTY),
+    ("over chunks", {}, STREAM, EMPTY), ("over chunks, with a bad stream", {}, b"", EMPTY),
+    ("over one chunk", {FIRST: None}, STREAM, EMPTY), ("above a deep object", {**NO_CHUNKS, "d/s/x/y": b""}, STREAM, EMPTY),
     ("above an object in a folder that ends in .part", {**NO_CHUNKS, "d/s/x.part/y": b""}, STREAM, EMPTY),
     ("of more than 2^30 bytes", {**NO_CHUNKS, **with_info(WIDE, size=[2**27 + 1, 1, 1])}, one_write([0, 0, 0], [2**27 + 1, 1, 1]),
      "write 0: too large"),
@@ -258,8 +240,7 @@ WRITES = [
 
 # title, what is changed, the box, the output
 SERVED = [
-    ("a sound dataset", {}, WHOLE, VALUES),
-    ("UINT8 and Raw", with_info({"data_type": "UINT8"}, encoding="Raw"), WHOLE, VALUES),
+    ("a sound dataset", {}, WHOLE, VALUES), ("UINT8 and Raw", with_info({"data_type": "UINT8"}, encoding="Raw"), WHOLE, VALUES),
     ("1,024 channels of 131,072 bytes", {INFO_PATH: deep_info(131072)}, "[7:9,0:1,0:1]", bytes(2048)),
     ("a box across the chunks", {}, "[1:3,1:2,0:1]", bytes([4, 7])),
     ("the first of two chunk sizes", {**with_info(chunk_sizes=[[2, 2, 1], [4, 2, 1]]), "d/s/0-4_0-2_0-1": b""}, WHOLE, VALUES),

@@ -98,8 +98,7 @@ STORED = {WHOLE: b"\1\2\3\4", LEFT: b"\1\2", RIGHT: b"\3\4"}
 
 # title, the scale, what a write of its first four voxels tells, the files, and what verify tells then
 WRITTEN = [
-    ("a chunk and its halves", FOUR, (3, 3), STORED, (3, 3)),
-    ("halves, and a chunk", turned(FOUR), (3, 3), STORED, (3, 3)),
+    ("a chunk and its halves", FOUR, (3, 3), STORED, (3, 3)), ("halves, and a chunk", turned(FOUR), (3, 3), STORED, (3, 3)),
     ("one size twice", line(4, 4, 4), (2, 2), {WHOLE: b"\1\2\3\4"}, (2, 2)),
     ("two sizes that are clipped to one box", line(4, 9, 4), (2, 2), {WHOLE: b"\1\2\3\4"}, (2, 2)),
     ("sizes that don't divide", line(5, 4, 3), (3, 3), {WHOLE: b"\1\2\3\4", "d/s/0-3_0-1_0-1": b"\1\2\3", "d/s/3-5_0-1_0-1": b"\4\0"},
@@ -114,8 +113,7 @@ TOLD = [
     ("a short copy", {RIGHT: b"\3"}, "damaged in 1 1,0,0: chunk length 1 wanted 2"),
     ("a long copy", {RIGHT: b"\3\4\5"}, "damaged in 1 1,0,0: chunk length 3 wanted 2"),
     ("an empty copy", {LEFT: b""}, "damaged in 1 0,0,0: chunk length 0 wanted 2"),
-    ("a copy that is gone", {LEFT: None}, "conflict 1 0,0,0 0 0 1"),
-    ("the last copy is gone", {RIGHT: None}, "conflict 1 2,0,0 0 0 3"),
+    ("a copy that is gone", {LEFT: None}, "conflict 1 0,0,0 0 0 1"), ("the last copy is gone", {RIGHT: None}, "conflict 1 2,0,0 0 0 3"),
     ("copies exchanged", {LEFT: b"\3\4", RIGHT: b"\1\2"}, "conflict 1 0,0,0 0 3 1"),
     ("two other values", {LEFT: b"\1\7", RIGHT: b"\3\7"}, "conflict 1 1,0,0 0 7 2"),
     ("a value, and a fault behind it", {LEFT: b"\1\7", RIGHT: b"\3"}, "conflict 1 1,0,0 0 7 2"),

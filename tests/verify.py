@@ -93,8 +93,7 @@ ALL = "cells 12 stored 12 absent 0"
 
 # title, changes, box, line
 IN_FILES = [
-    ("as it is", [], None, ALL),
-    ("a box of a voxel", [], box_in("2:3,2:3,8:9"), "cells 1 stored 1 absent 0"),
+    ("as it is", [], None, ALL), ("a box of a voxel", [], box_in("2:3,2:3,8:9"), "cells 1 stored 1 absent 0"),
     ("a box across cells", [], box_in("-1:1,1:3,7:8"), "cells 4 stored 4 absent 0"),
     ("no chunk", [put(P000, None), put(P110, None)], None, "cells 12 stored 10 absent 2"),
     ("no chunk in a box", [put(P000, None)], box_in("-2:-1,0:1,7:8"), "cells 1 stored 0 absent 1"),
@@ -119,11 +118,9 @@ SIX = line(11, 2, sharding=Sharding(minishard_bits=1))
 SOUND = "cells 6 stored 6 absent 0"
 
 IN_A_SHARD = [
-    ("as it is", [], None, SOUND),
-    ("a box in one cell", [], along(10, 11), "cells 1 stored 1 absent 0"),
+    ("as it is", [], None, SOUND), ("a box in one cell", [], along(10, 11), "cells 1 stored 1 absent 0"),
     ("a box over two cells", [], along(3, 5), "cells 2 stored 2 absent 0"),
-    ("no shard", [put(SHARD, None)], None, "cells 6 stored 0 absent 6"),
-    ("bytes behind the shard", [longer(SHARD, b"more")], None, SOUND),
+    ("no shard", [put(SHARD, None)], None, "cells 6 stored 0 absent 6"), ("bytes behind the shard", [longer(SHARD, b"more")], None, SOUND),
     # the way to an index
     ("an empty shard", [cut_to(SHARD, 0)], None, "damaged 0,0,0: shard short index"),
     ("a byte less than an entry", [cut_to(SHARD, 15)], None, "damaged 0,0,0: shard short index"),
@@ -171,8 +168,7 @@ IN_A_SHARD = [
     ("chunks behind the shard", [row(0, 0, start=1000)], None, "damaged 0,0,0: shard short chunk"),
     ("a chunk that ends with the shard", [row(1, 2, start=72)], None, SOUND),
     ("a chunk that ends a byte later", [row(1, 2, start=73)], None, "damaged 5,0,0: shard short chunk"),
-    ("chunks where others stand", [row(1, 0, start=0)], None, SOUND),
-    ("a chunk inside its own index", [row(0, 2, start=60)], None, SOUND),
+    ("chunks where others stand", [row(1, 0, start=0)], None, SOUND), ("a chunk inside its own index", [row(0, 2, start=60)], None, SOUND),
     # parts
     ("a fault of an index outside the box", [entry(1, 155, 83)], along(4, 6), "cells 1 stored 1 absent 0"),
     ("a fault of an index at a later cell", [entry(1, 155, 83)], along(5, 8), "damaged 3,0,0: shard bad range"),
@@ -261,6 +257,7 @@ LARGE = [
 # Files that are too large for the model: with holes, or with an index of 2^22 rows.
 ONE = line(1)
 ONE_IN_A_SHARD = line(1, sharding=Sharding(preshift=64))
+LONGEST = line(1, sharding=Sharding(63, False, 1, 0))
 FAR_BEHIND = 2**36
 LAST_ROW = 2**22 - 1
 
@@ -299,16 +296,15 @@ LONGEST_INDEX = [
 ]
 
 
-def is_told_of_one_file(trial, volume, numbers, line):
+def is_told_of_one_file(trial, volume, numbers, text):
     content = {place: struct.pack(f"<{len(values)}Q", *values) for place, values in numbers.items()}
     trial.lay_out({**infos_of(volume), volume.path_of((0, 0, 0)): content})
-    trial.want(call(), told(line))
+    trial.want(call(), told(text))
 
 
-def is_told_of_longest_index(trial, numbers, told_line):
-    volume = line(1, sharding=Sharding(63, False, 1, 0))
-    trial.lay_out({**infos_of(volume), f"d/s/{SHARD}": longest_index(numbers)})
-    trial.want(call(), told(told_line))
+def is_told_of_longest_index(trial, numbers, text):
+    trial.lay_out({**infos_of(LONGEST), LONGEST.path(SHARD): longest_index(numbers)})
+    trial.want(call(), told(text))
 
 
 # Scales of every form.
@@ -365,8 +361,7 @@ CELLS = "too many cells 4194305"
 # title, what is changed, words, line. First come the words, then the info, the box, the number of cells, and then the cells.
 REFUSED = [
     ("a box outside, of too many cells", LARGEST, [OUTSIDE], f"box {OUTSIDE} outside [0:{2**40},0:{2**40},0:{2**40}]"),
-    ("2^22 + 1 cells", TOO_LONG, [], CELLS),
-    ("a box of 2^22 + 1 cells", LARGEST, [f"[7:{2**22 + 8},3:4,9:10]"], CELLS),
+    ("2^22 + 1 cells", TOO_LONG, [], CELLS), ("a box of 2^22 + 1 cells", LARGEST, [f"[7:{2**22 + 8},3:4,9:10]"], CELLS),
     ("2^120 cells", LARGEST, [], f"too many cells {2**120}"),
     ("2^64 cells in shards", with_info(size=[2**22, 2**21, 2**21], chunk=[1, 1, 1], **shards()), [], f"too many cells {2**64}"),
     ("a voxel of each of 2^23 cells", with_info(size=[2**24, 2, 1], chunk=[4, 1, 1]), [f"[3:{2**24 - 3},0:2,0:1]"],
@@ -382,12 +377,10 @@ REFUSED = [
 
 # title, what is changed, words, line
 SERVED = [
-    ("a sound dataset", {}, [], "cells 2 stored 2 absent 0"),
-    ("the whole scale as a box", {}, [WHOLE], "cells 2 stored 2 absent 0"),
+    ("a sound dataset", {}, [], "cells 2 stored 2 absent 0"), ("the whole scale as a box", {}, [WHOLE], "cells 2 stored 2 absent 0"),
     ("a voxel", {}, ["[2:3,1:2,0:1]"], "cells 1 stored 1 absent 0"),
     ("a pipe outside the box", {SECOND: PIPE}, ["[0:2,0:2,0:1]"], "cells 1 stored 1 absent 0"),
-    ("a missing chunk", {FIRST: None}, [], "cells 2 stored 1 absent 1"),
-    ("no chunks", NO_CHUNKS, [], "cells 2 stored 0 absent 2"),
+    ("a missing chunk", {FIRST: None}, [], "cells 2 stored 1 absent 1"), ("no chunks", NO_CHUNKS, [], "cells 2 stored 0 absent 2"),
     ("a folder in a chunk's place", {FIRST: FOLDER}, [], "cells 2 stored 1 absent 1"),
     ("a file in the place of the chunks' folder", NO_FOLDER, [], "cells 2 stored 0 absent 2"),
     ("a shard that is missing", IN_ONE, [], "cells 2 stored 0 absent 2"),
