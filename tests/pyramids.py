@@ -80,7 +80,7 @@ NAMES = [
 # Five voxels of one label, in blocks that are too large to be written, and their next scale in raw chunks, and in such blocks.
 WIDE_BLOCKS = line(5, 5, width=4, block=(2**23, 1, 1))
 RAW, TOO_WIDE = (next_of(WIDE_BLOCKS, key=key, block=block) for key, block in (("t", None), ("u", WIDE_BLOCKS.block)))
-LABELS = {**infos_of(WIDE_BLOCKS, RAW, TOO_WIDE), "d/s/0-5_0-1_0-1": bytes_of([1, 2, 0, 12345])}
+WIDE_FILES = {**infos_of(WIDE_BLOCKS, RAW, TOO_WIDE), "d/s/0-5_0-1_0-1": bytes_of([1, 2, 0, 12345])}
 REDUCED_LABELS = {"d/t/0-3_0-1_0-1": 3 * bytes_of([12345])}
 
 
@@ -233,9 +233,9 @@ def rows(count):
         yield f"{title}, {method}, {workers} workers", reduces_stated, *case, method, workers
     for (title, *case), method in itertools.product(FIXED, METHODS):
         yield f"{title}, {method}", makes_fixed, *case, method
-    yield "blocks that are too large to be written", leaves, LABELS, words(method="mode"), stored(1, 1), REDUCED_LABELS
+    yield "blocks that are too large to be written", leaves, WIDE_FILES, words(method="mode"), stored(1, 1), REDUCED_LABELS
     too_wide = refused("padded voxels 8388608 over 4194304")
-    yield "a next scale in such blocks", answers, LABELS, words(target="u", method="mode"), too_wide
+    yield "a next scale in such blocks", answers, WIDE_FILES, words(target="u", method="mode"), too_wide
     for (title, *case), method, workers in itertools.product(DAMAGES, METHODS, WORKERS):
         yield f"damaged, {title}, {method}, {workers} workers", tells_damage, *case, method, workers
     for title, source, target in NAMES:
