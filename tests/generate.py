@@ -8,49 +8,36 @@ The list is made from the rules of docs/statuses.md (model/lists.py); what write
 import itertools
 import random
 
-from harness import answers, main, memory_limit, open_full, want, want_files
-from model import Volume, answer, draw_boxes, generated, infos_of, printed, refused, sum_of, voxels_in
+from harness import answers, main, memory_limit, open_full, want
+from model import Volume, draw_boxes, generated, infos_of, line, printed, refused, voxels_in
 from model.chance import pick_volume
+from runs import leaves, list_run
 
-WORKERS = (1, 3, 16)
-
-
-def words_of(number, count, workers=None):
-    return ["generate", "d", "s", str(number), str(count), *([] if workers is None else [f"--workers={workers}"])]
+WORKERS = ([], ["--workers=1"], ["--workers=3"], ["--workers=16"])
 
 
-def objects_after(volume, writes):
-    return volume.files(volume.chunks_after(writes))
-
-
-def is_generated(trial, volume, number, count, workers, line=None):
+def is_generated(trial, volume, number, count, options, stated=None):
     """The list leaves the objects that are due and prints its line, which is stated or worked out."""
-    writes = generated(volume, number, count)
-    objects = objects_after(volume, writes)
-    wanted = answer(count, objects.values(), sum_of(volume, writes))
-    if line is not None:
-        want(wanted, printed(line), "the model")
-    trial.lay_out(infos_of(volume))
-    trial.want(words_of(number, count, workers), wanted)
-    want_files(trial.files(), objects)
+    run = list_run(volume, number, count, *options)
+    if stated is not None:
+        want(run.ending, printed(stated), "the model")
+    leaves(trial, run.before, run.words, run.ending, run.put)
 
 
-def is_written(trial, volume, number, count, workers):
+def is_written(trial, volume, number, count, options):
     """A stream of the list leaves the same objects."""
-    trial.write(volume, generated(volume, number, count), f"--workers={workers}")
+    trial.write(volume, generated(volume, number, count), *options)
 
 
-ONE = Volume([1, 1, 1], [1, 1, 1])
-ROW = Volume([4, 1, 1], [4, 1, 1])
-TWO_CHANNELS = Volume([3, 2, 1], [2, 2, 1], (-5, 7, 0), 2, 2)
+ROW = line(4, 4)
 WIDE = Volume([9, 8, 3], [4, 3, 2], (5, -6, 7), 3, 8)
 
 # title, scale, number, writes, line
 KNOWN = [
-    ("one voxel", ONE, 5, 2, "writes 2 objects 1 bytes 1 sum 36"),
+    ("one voxel", line(1), 5, 2, "writes 2 objects 1 bytes 1 sum 36"),
     ("four voxels", ROW, 1, 1, "writes 1 objects 1 bytes 4 sum 1"),
     ("no writes", ROW, 1, 0, "writes 0 objects 0 bytes 0 sum 0"),
-    ("two channels", TWO_CHANNELS, 9, 2, None),
+    ("two channels", Volume([3, 2, 1], [2, 2, 1], (-5, 7, 0), 2, 2), 9, 2, None),
     ("the largest number", WIDE, 2**31 - 1, 7, None),
     ("as many writes as there may be", Volume([7, 5, 3], [3, 3, 3]), 11, 4096, None),
 ]
@@ -67,7 +54,7 @@ def pick_list(seed):
 # Refusals
 
 HUGE = Volume([1025, 1024, 1024], [64, 64, 64])
-PADDED = Volume([4194305, 1, 1], [4194305, 1, 1], width=4, block=(1, 1, 1))
+PADDED = line(4194305, 4194305, width=4, block=(1, 1, 1))
 TALL = Volume([64, 64, 32], [8, 8, 8], channels=1024, width=8)
 FINE = Volume([200, 200, 200], [1, 1, 1])
 OTHERS = {"d/s/x": b"x"}
@@ -92,22 +79,11 @@ REFUSED = [
 ]
 
 
-def is_refused(trial, volume, number, count, others, line):
-    answers(trial, {**infos_of(volume), **others}, words_of(number, count), refused(line))
-
-
-def stands_without_a_line(trial):
-    """The output takes no line: all objects stand."""
-    trial.lay_out(infos_of(WIDE))
-    trial.want(words_of(3, 5), refused("output fault"), output=open_full)
-    want_files(trial.files(), objects_after(WIDE, generated(WIDE, 3, 5)))
-
-
 def leaves_input(trial):
     """The input isn't read."""
     trial.lay_out({**infos_of(ROW), "input": b"left"})
     with (trial.folder / "input").open("rb") as feed:
-        trial.want(words_of(1, 1), printed("writes 1 objects 1 bytes 4 sum 1"), feed)
+        trial.want("generate d s 1 1", printed("writes 1 objects 1 bytes 4 sum 1"), feed)
         want(feed.read(), b"left", "the input")
 
 
@@ -115,21 +91,23 @@ def sums_in_memory(trial):
     """A large scale is summed in the memory of one layer of its chunks and 16 MiB; none is stored."""
     trial.lay_out(infos_of(Volume([512] * 3, [64] * 3)))
     limit = memory_limit(512 * 512 * 64 + (16 << 20))
-    trial.want(words_of(0, 0), printed("writes 0 objects 0 bytes 0 sum 0"), prepare=limit)
+    trial.want("generate d s 0 0", printed("writes 0 objects 0 bytes 0 sum 0"), prepare=limit)
 
 
 def rows():
-    for (title, *case, line), workers in itertools.product(KNOWN, (None, *WORKERS)):
-        yield f"{title}, {workers or 'no number of'} workers", is_generated, *case, workers, line
-    for workers in WORKERS:
-        yield f"200 writes, {workers} workers", is_generated, LARGE, 7, 200, workers
-    for seed, workers in itertools.product(range(10), WORKERS):
-        title = f"segmentation {seed}, {workers} workers"
-        yield title, is_generated, *pick_list(seed), workers
-        yield f"{title}, by write", is_written, *pick_list(seed), workers
-    for title, *case in REFUSED:
-        yield title, is_refused, *case
-    yield "a line to a full device", stands_without_a_line
+    for (title, *case, stated), options in itertools.product(KNOWN, WORKERS):
+        yield f"{title}, {options}", is_generated, *case, options, stated
+    for options in WORKERS[1:]:
+        yield f"200 writes, {options}", is_generated, LARGE, 7, 200, options
+        for seed in range(10):
+            yield f"segmentation {seed}, {options}", is_generated, *pick_list(seed), options
+            yield f"segmentation {seed}, {options}, by write", is_written, *pick_list(seed), options
+    for title, volume, number, count, others, told in REFUSED:
+        words = volume.words("generate", str(number), str(count))
+        yield title, answers, {**infos_of(volume), **others}, words, refused(told)
+    # the output takes no line: all objects stand
+    run = list_run(WIDE, 3, 5)
+    yield "a line to a full device", leaves, run.before, run.words, refused("output fault"), run.put, b"", open_full
     yield "the input", leaves_input
     yield "a large scale in the memory of a layer", sums_in_memory
 

@@ -16,15 +16,17 @@ import socket
 import time
 
 from harness import main, want, want_files
-from model import copy_of, cutout, infos_of, printed, refused, sound, spell, stored, stream_of, verdict
+from model import cutout, infos_of, printed, refused, sound, spell, stored, stream_of, verdict
 from model.chance import FORMS, damage_some, form_of, pick_box, pick_layouts, pick_sizes, pick_stored, pick_writes
 from model.heads import replies_to
 from model.infos import Refused as BadInfo
 from model.infos import padded_voxels, scale_in
-from model.odd import pick_info, pick_pieces, pick_requests, pick_stream
+from model.odd import pick_info, pick_stream
+from model.requests import cut_at_random, pick_requests
 from model.streams import Refused as BadStream
 from model.streams import writes_in
 from peers import connect, serving
+from runs import pick_workers, want_made
 
 NOWHERE = [(-(2**41), 1 - 2**41)] * 3
 FEW_CELLS = 4096
@@ -107,10 +109,6 @@ def judges_streams(trial, seed):
 # Stores
 
 
-def pick_workers(chance):
-    return chance.choice([[], ["--workers=2"], ["--workers=3"], ["--workers=16"]])
-
-
 def judges_stores(trial, seed):
     """A store of which some files are damaged, by each command."""
     chance = random.Random(f"stores {seed}")
@@ -118,9 +116,8 @@ def judges_stores(trial, seed):
     target = dataclasses.replace(other, dataset="e", key="t")
     files = volume.files(pick_stored(chance, volume))
     trial.lay_out({**infos_of(volume), **infos_of(target), **files})
-    damaged = damage_some(chance, volume, files)
-    trial.lay_out(damaged)
-    files = {path: content for path, content in damaged.items() if content is not None}
+    trial.lay_out(damage_some(chance, volume, files))
+    files = trial.files()
     for box in (volume.whole, pick_box(chance, volume), pick_box(chance, volume)):
         trial.want(volume.words("cutout", spell(box)), cutout(volume, files, box))
         trial.want(volume.words("verify", spell(box)), verdict(volume, files, box))
@@ -128,14 +125,15 @@ def judges_stores(trial, seed):
         trial.want(volume.words("write"), refused("folder not empty"), stream_of([]))
         trial.want(volume.words("generate", "1", "1"), refused("folder not empty"))
     want_files(trial.files(), files)
-    words = ["reshard", volume.dataset, volume.key, target.dataset, target.key, *pick_workers(chance)]
-    trial.want_copy(words, copy_of(volume, target, files))
+    want_made(trial, None, volume, target, *pick_workers(chance))
     trial.want_update(volume, pick_writes(chance, volume, chance.randint(1, 3)), *pick_workers(chance))
 
 
 # Requests
 
 OBJECTS = {"d/s/x": b"0123456789", "d/s/empty": b"", "d/s/long": b"long" * 40_000, "d/s/...": b"dots", "d/info": b"{}"}
+
+TARGETS = ["/s/x", "/s/x", "/s/empty", "/s/long", "/info", "/s/..."]
 
 # How many connections a server has here, and how long a peer waits between two pieces, in seconds.
 CONNECTIONS = 20
@@ -162,9 +160,9 @@ def answers_requests(trial, seed):
     with serving(trial, CONNECTIONS) as port:
         for number in range(CONNECTIONS):
             chance = random.Random(f"requests {seed} {number}")
-            stream = pick_requests(chance)
+            stream = pick_requests(chance, TARGETS, chance.randint(0, 3))
             wanted, _ = replies_to(stream, OBJECTS)
-            pieces = pick_pieces(chance, stream)
+            pieces = cut_at_random(chance, stream, 60)
             want(talk_in_pieces(port, pieces), wanted, f"to {pieces!r:.300}")
 
 

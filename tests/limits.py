@@ -8,9 +8,9 @@ The largest row writes 1 GiB into its folder. The status, the output or its leng
 import subprocess
 import tempfile
 
-from harness import main
-from model import OK, SEGMENTED, SHARDING, along, box_in, bytes_of, head_of, info_of, printed, refused, stored, stream_of
-from model.small import shards
+from harness import answers, main
+from model import (OK, SEGMENTED, SHARDING, Sharding, along, box_in, bytes_of, head_of, info_of, line, printed, refused, stored, stream_of)
+from runs import leaves
 
 # The most cells that a box or a grid of a copy may have, the most pairs of a write and a cell, and the most bytes of a cutout or of
 # the values of a stream.
@@ -32,14 +32,14 @@ def padded(length):
     return info[:-1] + b" " * (length - len(info)) + info[-1:]
 
 
-def line_of(cells, chunk=1, **scale):
+def in_shards(cells, **sharding):
     """A line of so many cells, in shards."""
-    return info_of([cells, 1, 1], [chunk, 1, 1], None, **{"sharding": SHARDING, **scale})
+    return line(cells, sharding=Sharding(**sharding)).info()
 
 
-def sizes(length, *chunks):
+def sizes_of(length, *chunks):
     """A line of so many voxels, with chunks of these lengths."""
-    return info_of([length, 1, 1], None, chunk_sizes=[[chunk, 1, 1] for chunk in chunks])
+    return line(length, *chunks).info()
 
 
 def wide(chunk):
@@ -58,7 +58,7 @@ WRITE = "write d s"
 UPDATE = "update d s"
 COPY = "reshard d s e s"
 TOO_MANY = refused(f"too many cells {CELLS + 1}")
-TWO_SHARDS = line_of(CELLS, **shards(shard_bits=1))
+TWO_SHARDS = in_shards(CELLS, shard_bits=1)
 MORE_IN_FOURS = info_of([CELLS + 1, 1, 1], [4, 1, 1])
 LINE = info_of([65, 1, 1], [1, 1, 1])
 ONE = "cutout d s [0:1,0:1,0:1]"
@@ -70,21 +70,21 @@ LENGTHS = [FRONT - 1, FRONT, FRONT + 1, 2 * FRONT, DOCUMENT - 1, DOCUMENT]
 
 # title, the infos of the data sets d and e, words, what the run ends with, the stream
 RUNS = [
-    ("verify of 2^22 cells", [line_of(CELLS)], VERIFY, printed(f"cells {CELLS} stored 0 absent {CELLS}"), b""),
-    ("verify of a cell more", [line_of(CELLS + 1)], VERIFY, TOO_MANY, b""),
-    ("a copy of 2^22 cells", [line_of(CELLS), TWO_SHARDS], COPY, stored(0, 0), b""),
-    ("a copy of a cell more", [line_of(CELLS + 1), MORE_IN_FOURS], COPY, TOO_MANY, b""),
-    ("a copy into a cell more", [MORE_IN_FOURS, line_of(CELLS + 1)], COPY, TOO_MANY, b""),
+    ("verify of 2^22 cells", [in_shards(CELLS)], VERIFY, printed(f"cells {CELLS} stored 0 absent {CELLS}"), b""),
+    ("verify of a cell more", [in_shards(CELLS + 1)], VERIFY, TOO_MANY, b""),
+    ("a copy of 2^22 cells", [in_shards(CELLS), TWO_SHARDS], COPY, stored(0, 0), b""),
+    ("a copy of a cell more", [in_shards(CELLS + 1), MORE_IN_FOURS], COPY, TOO_MANY, b""),
+    ("a copy into a cell more", [MORE_IN_FOURS, in_shards(CELLS + 1)], COPY, TOO_MANY, b""),
     ("2^22 pairs", [LINE], WRITE, stored(64, 64), pairs(64, 64)),
     ("a pair more", [LINE], WRITE, refused(f"too many cells {PAIRS + 1}"), pairs(65, 64)),
     ("2^22 pairs of an update", [LINE], UPDATE, stored(64, 64), pairs(64, 64)),
     ("a pair more of an update", [LINE], UPDATE, refused(f"too many cells {PAIRS + 1}"), pairs(65, 64)),
     # of several chunk sizes cells are counted together, and pairs size by size, each before anything is put
-    ("verify of 2^22 cells of two sizes", [sizes(CELLS, 2, 2)], VERIFY, printed(f"cells {CELLS} stored 0 absent {CELLS}"), b""),
-    ("verify of a cell more of two sizes", [sizes(CELLS, CELLS, 1)], VERIFY, TOO_MANY, b""),
-    ("2^22 pairs of a further size", [sizes(65, 65, 1)], WRITE, stored(65, 65), pairs(64, 64)),
-    ("a pair more of a further size", [sizes(65, 65, 1)], WRITE, refused(f"too many cells {PAIRS + 1}"), pairs(65, 64)),
-    ("too many pairs of both sizes", [sizes(130, 2, 1)], WRITE, refused(f"too many cells {PAIRS + 1}"), pairs(130, 128)),
+    ("verify of 2^22 cells of two sizes", [sizes_of(CELLS, 2, 2)], VERIFY, printed(f"cells {CELLS} stored 0 absent {CELLS}"), b""),
+    ("verify of a cell more of two sizes", [sizes_of(CELLS, CELLS, 1)], VERIFY, TOO_MANY, b""),
+    ("2^22 pairs of a further size", [sizes_of(65, 65, 1)], WRITE, stored(65, 65), pairs(64, 64)),
+    ("a pair more of a further size", [sizes_of(65, 65, 1)], WRITE, refused(f"too many cells {PAIRS + 1}"), pairs(65, 64)),
+    ("too many pairs of both sizes", [sizes_of(130, 2, 1)], WRITE, refused(f"too many cells {PAIRS + 1}"), pairs(130, 128)),
     # 1,321 x 793 x 1,025 is one more
     ("a cutout of a byte more", [info_of([1321, 793, 1025], [64, 64, 64])], "cutout d s [0:1321,0:793,0:1025]",
      refused(f"box too large {BYTES + 1}"), b""),
@@ -121,7 +121,7 @@ def keeps_cells(trial, cell, wanted):
     """An update of a cell of a line of 2^22 + 1, of which all but the last stand in one shard with chunks of no bytes."""
     one = (1).to_bytes(8, "little")
     shard = {0: bytes(8) + (24 * CELLS).to_bytes(8, "little") + bytes(8) + (CELLS - 1) * one, 15 + 24 * CELLS: b"\0"}
-    trial.lay_out({"d/info": line_of(CELLS + 1), "d/s/0.shard": shard})
+    trial.lay_out({"d/info": in_shards(CELLS + 1), "d/s/0.shard": shard})
     trial.want(UPDATE, wanted, stream_of([(along(cell, cell + 1), b"\1")]))
 
 
@@ -130,11 +130,9 @@ def cuts_all(trial):
     trial.want("cutout d s [0:1024,0:1024,0:1024]", printed(b""), output=subprocess.DEVNULL)
 
 
-def tells_folders_apart(trial):
-    """A scale whose folder's name begins another's."""
-    trial.lay_out({"d/info": info_of([2, 1, 1], [2, 1, 1]), "d/sx/0-2_0-1_0-1": b"\1\2"})
-    trial.want(WRITE, stored(1, 1), stream_of([(box_in("0:2,0:1,0:1"), b"\3\4")]))
-    trial.want("cutout d s [0:2,0:1,0:1]", printed(b"\3\4"))
+# A scale whose folder's name begins another's, which holds a chunk.
+APART = {"d/info": line(2, 2).info(), "d/sx/0-2_0-1_0-1": b"\1\2"}
+THREE_FOUR = stream_of([(box_in("0:2,0:1,0:1"), b"\3\4")])
 
 
 def rows():
@@ -146,7 +144,9 @@ def rows():
     yield "a cutout of 2^30 bytes", cuts_all
     yield "an update that keeps 2^22 cells", keeps_cells, 0, refused("damaged 0,0,0: chunk length 0 wanted 1")
     yield "an update of a cell beside 2^22 that are kept", keeps_cells, CELLS, TOO_MANY
-    yield "a folder beside whose name goes on", tells_folders_apart
+    beside = {**APART, "d/s/0-2_0-1_0-1": b"\3\4"}
+    yield "a cutout beside a folder whose name goes on", answers, beside, "cutout d s [0:2,0:1,0:1]", printed(b"\3\4")
+    yield "a folder beside whose name goes on", leaves, APART, WRITE, stored(1, 1), {"d/s/0-2_0-1_0-1": b"\3\4"}, THREE_FOUR
 
 
 if __name__ == "__main__":

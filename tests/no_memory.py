@@ -15,8 +15,8 @@ import dataclasses
 import pathlib
 import subprocess
 
-from disturbed import ROW, ROW_OBJECTS, RUNS, in_store
-from harness import LIMIT, Wrong, built, main, want, want_true
+from disturbed import FULL_ROW, RUNS, in_store, want_front_of
+from harness import LIMIT, Wrong, built, main, want, want_true, words_in
 from model import DOOR, MEMORY, OK, STORE, USAGE, Sharding, Volume, cutout, infos_of
 from model.chance import some_chunks
 from peers import PEERS, SERVE, WHOLE, failed_of, fronts_of, is_answered, serve_peers
@@ -69,7 +69,7 @@ def refuse_each(trial, title, files, run_with, want_refused):
     raise Wrong("it has more allocations than were tried")
 
 
-def is_refused_each(trial, run):
+def is_refused_each(trial, title, run):
     def run_with(folder, variables):
         return dataclasses.replace(trial, folder=folder).run(run.words, run.stream, **variables)
 
@@ -78,10 +78,10 @@ def is_refused_each(trial, run):
         if whole[0] == OK:
             want(whole[3], run.after(), "files with memory")
         if found != whole:
-            run.want_front(found, [NO_MEMORY] if run.ending[0] == USAGE else [NO_MEMORY, (STORE, b"store fault\n")])
-            want_true(not found[1] or run.words.startswith("cutout"), f"output {found[1]!r}")
+            want_front_of(run, found, [NO_MEMORY] if run.ending[0] == USAGE else [NO_MEMORY, (STORE, b"store fault\n")])
+            want_true(not found[1] or words_in(run.words)[0] == "cutout", f"output {found[1]!r}")
 
-    refuse_each(trial, run.title, run.before(), run_with, want_refused)
+    refuse_each(trial, title, run.before, run_with, want_refused)
 
 
 def is_refused_each_served(trial):
@@ -97,7 +97,7 @@ def is_refused_each_served(trial):
         whole_ones = all(one in fronts_of(peer) + failed_of(peer) for one, peer in zip(got, PEERS))
         want_true(whole_ones and (status != OK or is_answered(got)), f"status {status}, and the peers got {got!r}")
 
-    refuse_each(trial, "a served run", {**ROW_OBJECTS, "d/info": ROW}, run_with, want_refused)
+    refuse_each(trial, "a served run", FULL_ROW, run_with, want_refused)
 
 
 def is_refused_each_fetched(trial, volume):
@@ -123,8 +123,8 @@ def rows():
     yield "a served run", is_refused_each_served
     for volume in FETCHED:
         yield f"a fetched box of {len(volume.cells)} cells", is_refused_each_fetched, volume
-    for run in RUNS:
-        yield run.title, is_refused_each, run
+    for title, run in RUNS.items():
+        yield title, is_refused_each, title, run
 
 
 if __name__ == "__main__":

@@ -9,12 +9,13 @@ none. The first object that is longer is a fault of the store. Then the command 
 what is left where it may be there, else in an emptied folder.
 """
 import dataclasses
+import functools
 import itertools
 import random
 
 from harness import file_limit, main, want_files
-from model import Sharding, Volume, answer, copy_of, generated, infos_of, refused, stored, stream_of, sum_of, update_of, voxels_in
-from model.pyramids import reduction_of
+from model import Sharding, Volume, refused, voxels_in
+from runs import apart, list_run, made_run, objects_in, update_run, write_run
 
 # Three layers of cells, the last ones clipped on each axis.
 RAW = Volume([5, 3, 5], [2, 2, 2], (-3, 0, 7), 2, 4)
@@ -25,7 +26,6 @@ FORMS = {
     "segmentations": dataclasses.replace(RAW, block=(2, 1, 2)),
     "segmentations in shards": dataclasses.replace(RAW, block=(2, 1, 2), sharding=SHARDING),
 }
-WORKERS = ([], ["--workers=2"])
 
 # Two chunk sizes, of which no box is the other's too.
 SIZES = dataclasses.replace(RAW, more=([3, 3, 3],))
@@ -37,60 +37,29 @@ def at_random(seed, box):
 
 ALL = at_random(1, RAW.whole)
 INNER = at_random(2, [(begin + 1, end - 1) for begin, end in RAW.whole])
-LIST = (7, 9)
 
 
-@dataclasses.dataclass(frozen=True)
-class Work:
-    """What is run: its words and stream, the files before, those that it puts, what it ends with, and whether it may be repeated."""
-
-    words: list
-    stream: bytes
-    before: dict
-    due: dict
-    ending: tuple
-    is_repeatable: bool = False
+def over_all(volume, *options):
+    return update_run(volume, volume.files_after(ALL)[0], INNER, *options)
 
 
-def write_of(volume):
-    files, put, cells = volume.files_after(ALL)
-    return Work(volume.words("write"), stream_of(ALL), {}, files, stored(len(put), cells))
-
-
-def list_of(volume):
-    number, count = LIST
-    writes = generated(volume, number, count)
-    files, put, _ = volume.files_after(writes)
-    return Work(volume.words("generate", str(number), str(count)), b"", {}, files, answer(count, put, sum_of(volume, writes)))
-
-
-def over_of(volume):
-    before = volume.files(volume.chunks_after(ALL))
-    update = update_of(volume, before, INNER)
-    return Work(volume.words("update"), stream_of(INNER), before, update.files, update.answer, True)
-
-
-def copy_from(volume):
-    """From raw chunks of another size."""
+def made_into(method, volume, *options):
+    """From raw chunks of another size, for a method of a scale that is twice as large but for an odd edge."""
     source = dataclasses.replace(RAW, chunk=[3, 3, 3], dataset="f", key="t")
-    before = source.files(source.chunks_after(ALL))
-    copy = copy_of(source, volume, before)
-    return Work(["reshard", "f", "t", "d", "s"], b"", {**infos_of(source), **before}, copy.files, copy.answer())
+    if method is not None:
+        size, offset = [2 * RAW.size[0], 2 * RAW.size[1], 2 * RAW.size[2] - 1], tuple(2 * at for at in RAW.offset)
+        source = dataclasses.replace(source, size=size, offset=offset, dataset="d")
+    return made_run(method, source, volume, source.files_after(at_random(3, source.whole))[0], *options)
 
 
-def reduction_from(volume):
-    """From raw chunks of another size, of a scale twice as large but for an odd edge."""
-    source = dataclasses.replace(RAW, size=[2 * side for side in RAW.size[:2]] + [2 * RAW.size[2] - 1], chunk=[3, 3, 3],
-                                 offset=tuple(2 * at for at in RAW.offset), key="t")
-    count = voxels_in(source.whole) * source.channels * source.width
-    before = source.files(source.chunks_after([(source.whole, random.Random(3).randbytes(count))]))
-    made = reduction_of(source, volume, "mean", before)
-    words = ["downsample", "d", "t", "s", "--method=mean"]
-    return Work(words, b"", {**infos_of(source, volume), **before}, made.files, made.answer())
-
-
-IN_EACH_SIZE = {"a write": write_of, "a list": list_of}
-WORKS = {**IN_EACH_SIZE, "an update": over_of, "a copy": copy_from, "a reduction": reduction_from}
+IN_EACH_SIZE = {
+    "a write": lambda volume, *options: write_run(volume, ALL, *options),
+    "a list": lambda volume, *options: list_run(volume, 7, 9, *options),
+}
+RUNS = {
+    **IN_EACH_SIZE, "an update": over_all, "a copy": functools.partial(made_into, None),
+    "a reduction": functools.partial(made_into, "mean"),
+}
 
 
 def rooms_of(files):
@@ -99,32 +68,28 @@ def rooms_of(files):
     return sorted({0, *lengths, *(length - 1 for length in lengths), *(length // 2 for length in lengths)})
 
 
-def objects_of(trial):
-    """The files, with the documents of other data sets than the one that is written."""
-    return {path: content for path, content in trial.files().items() if path.startswith("d/")}
-
-
-def is_full(trial, volume, make_work, options):
-    work = make_work(volume)
-    before = {path: content for path, content in work.before.items() if path.startswith("d/") and path != "d/info"}
-    for number, room in enumerate(rooms_of(work.due)):
-        own = dataclasses.replace(trial, folder=trial.folder / str(number))
-        own.lay_out({**infos_of(volume), **work.before})
-        front = dict(itertools.takewhile(lambda item: len(item[1]) <= room, work.due.items()))
-        ending = work.ending if len(front) == len(work.due) else refused("store fault")
-        own.want([*work.words, *options], ending, work.stream, prepare=file_limit(room))
-        want_files(objects_of(own), {**before, **front}, f"with {room} bytes, file")
-        if not work.is_repeatable:
+def is_full(trial, volume, make_run, options):
+    run = make_run(volume, *options)
+    before = objects_in(run.before)
+    for room in rooms_of(run.put):
+        own = apart(trial, str(room))
+        own.lay_out(run.before)
+        front = dict(itertools.takewhile(lambda item: len(item[1]) <= room, run.put.items()))
+        ending = run.ending if len(front) == len(run.put) else refused("store fault")
+        own.want(run.words, ending, run.stream, prepare=file_limit(room))
+        want_files(own.files(), {**before, **front}, f"with {room} bytes, file")
+        if "update" not in run.words:
             own.lay_out({path: None for path in front})
-        own.want([*work.words, *options], work.ending, work.stream)
-        want_files(objects_of(own), {**before, **work.due}, f"without a limit behind {room} bytes, file")
+        own.want(run.words, run.ending, run.stream)
+        want_files(own.files(), {**before, **run.put}, f"without a limit behind {room} bytes, file")
 
 
 def rows():
-    for (form, volume), (title, work), options in itertools.product(FORMS.items(), WORKS.items(), WORKERS):
-        yield f"{title}, {form}, {' '.join(options)}", is_full, volume, work, options
-    for (title, work), options in itertools.product(IN_EACH_SIZE.items(), WORKERS):
-        yield f"{title}, chunks of two sizes, {' '.join(options)}", is_full, SIZES, work, options
+    for options in ([], ["--workers=2"]):
+        for (form, volume), (title, make_run) in itertools.product(FORMS.items(), RUNS.items()):
+            yield f"{title}, {form}, {' '.join(options)}", is_full, volume, make_run, options
+        for title, make_run in IN_EACH_SIZE.items():
+            yield f"{title}, chunks of two sizes, {' '.join(options)}", is_full, SIZES, make_run, options
 
 
 if __name__ == "__main__":

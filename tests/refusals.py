@@ -7,6 +7,7 @@ The status, the output and the one line on standard error are compared with what
 it held before. The output is empty, but where a cutout breaks off: then it has what lies below the layer of chunks that is damaged
 or can't be read.
 """
+import itertools
 import os
 import struct
 
@@ -14,52 +15,75 @@ from harness import DEVICE, FOLDER, LOOP, PIPE, answers, main, open_closed_pipe,
 from model import SEGMENTED, SHARDING, box_in, bytes_of, head_of, info_of, printed, refused, shard_of, stream_of
 from model.small import (
     FAR, FIRST, INFO_PATH, LOW, NO_CHUNKS, NO_FOLDER, SECOND, VALUES, WHOLE, changed, deep_info, padded, shards, wide_info, with_info,
+    with_next,
 )
 
 CUT = ["cutout", "d", "s"]
 WRITE = ["write", "d", "s"]
+VERIFY = ["verify", "d", "s"]
+UPDATE = ["update", "d", "s"]
 
-# Names and boxes that are none.
-DATASETS = ["", "../d", "d/../d", "/d", "d/", "d//d", "-d", "d" * 201, b"\xff"]
-KEYS = ["", "..", "../s", ".", "s s", "-s", "s" * 201, "é"]
-BOXES = [
-    "[0:4, 0:2,0:1]", " [0:4,0:2,0:1]", "[0:4,0:2,0:1]\n", "[0:1,0:1]", "[0:1,0:1,0:1,0:1]", "0:4,0:2,0:1", "", "[-0:4,0:2,0:1]",
-    "[0:4,01:2,0:1]", "[0:4,0:+1,0:1]", "[0:4,1:1,0:1]", "[0:4,2:1,0:1]", "[0:2199023255553,0:2,0:1]",
-    "[-2199023255553:4,0:2,0:1]", "[0:18446744073709551616,0:2,0:1]",
+# The words of each command that reads the scale s, and what each of them is.
+COMMANDS = [
+    ([*CUT, WHOLE], "dataset key box"), (VERIFY, "dataset key"),
+    ([*VERIFY, FAR], "dataset key box"), (WRITE, "dataset key workers"),
+    (UPDATE, "dataset key workers"), (["generate", "d", "s", "7", "1"], "dataset key number number workers"),
+    (["reshard", "d", "s", "e", "t"], "dataset key dataset key workers"),
+    (["downsample", "d", "s", "t", "--method=mean"], "dataset key key method workers"),
 ]
 
-# Options of a write that are none.
-OPTIONS = [
-    "--workers=0", "--workers=17", "--workers=01", "--workers=+1", "--workers=", "--workers", "--workers 1",
-    "--workers=1 --workers=1", "--port=1", "-w", "--", "--help",
-]
+# Words of each kind that are none, and options that are none of any command.
+NONE = {
+    "dataset": ["", "../d", "d/../d", "/d", "d/", "d//d", "-d", "d" * 201, b"\xff"],
+    "key": ["", "..", "../s", ".", "s//s", "s s", "-s", "s" * 201, "é"],
+    "box": ["[0:4, 0:2,0:1]", " [0:4,0:2,0:1]", "[0:4,0:2,0:1]\n", "[0:1,0:1]", "[0:1,0:1,0:1,0:1]", "0:4,0:2,0:1", "", "[-0:4,0:2,0:1]",
+        "[0:4,01:2,0:1]", "[0:4,0:+1,0:1]", "[0:4,1:1,0:1]", "[0:4,2:1,0:1]", "[0:2199023255553,0:2,0:1]",
+        "[-2199023255553:4,0:2,0:1]", "[0:18446744073709551616,0:2,0:1]", f"--box={WHOLE}"],
+    "number": ["", "-1", "01", "+1", "1.0", "2147483648"],
+    "method": ["--method", "--method=", "--method=Mean", "--method=median", "--method=mean ", "-method=mean", "mean"],
+    "workers": [
+        "--workers=0", "--workers=17", "--workers=01", "--workers=+1", "--workers=", "--workers", "--workers 1", "--workers=1 --workers=1"],
+    "options": ["x", "", WHOLE, b"\xff", "--port=1", "--connections=1", "-w", "--", "--help", "--method=mode"],
+}
 
-# Command lines that are none.
-NO_COMMANDS = [
-    [], ["cutout"], CUT, [*CUT, WHOLE, WHOLE], [*CUT, WHOLE, ""], [*CUT, WHOLE, b"\xff"], ["cut", "d", "s", WHOLE],
-    ["CUTOUT", "d", "s", WHOLE], ["update", "d"], ["update", "d", "s", "x"], ["--help"], [*CUT, WHOLE, "--workers=1"],
-    ["--workers=1", *CUT, WHOLE],
-    *(["cutout", dataset, "s", WHOLE] for dataset in DATASETS),
-    *(["cutout", "d", key, WHOLE] for key in KEYS),
-    *([*CUT, box] for box in BOXES),
-    ["write", "d"], [*WRITE, "x"], ["write", "d", "../s"], ["--workers=1", *WRITE],
-    *([*WRITE, *options.split()] for options in OPTIONS),
-]
+GOOD_WORDS = [words for words, _ in COMMANDS] + [[*VERIFY, WHOLE]]
 
-# title, the info document or what is changed, what is told of it
+
+def spoiled(words, kinds):
+    """Command lines that are none: with a word less or more, or with one that is none in the place of another."""
+    command, *others = words
+    yield from (words[:count] for count in range(1, len(words)))
+    yield from ([command.upper(), *others], ["--workers=1", *words], [*words, words[-1]])
+    for place, kind in enumerate(kinds.split(), 1):
+        if kind == "workers":
+            yield from ([*words, *options.split()] for options in NONE[kind])
+        else:
+            yield from ([*words[:place], none, *words[place + 1 :]] for none in NONE[kind])
+    yield from ([*words, option] for option in NONE["options"])
+    if "workers" not in kinds:
+        yield [*words, "--workers=1"]
+
+
+def no_commands():
+    """Command lines that are none, each once."""
+    no_method = ["downsample", "d", "s", "t"]
+    lines = [
+        [], ["--help"], ["cut", "d", "s", WHOLE], ["--method=mean", *no_method], [*no_method, "--method", "mean"],
+        ["downsample", "d", "s", "--method=mean"],
+        *itertools.chain(*(spoiled(words, kinds) for words, kinds in COMMANDS)),
+    ]
+    return [words for number, words in enumerate(lines) if words not in GOOD_WORDS and words not in lines[:number]]
+
+
+# title, the info document or what is changed, what every command tells of it
 INFOS = [
-    ("that is missing", None, "absent"),
-    ("that is a folder", FOLDER, "absent"),
-    ("that is empty", b"", "not json"),
-    ("of 2 MiB", b" " * 2**21, "too long"),
-    ("of 2^20 + 1 bytes", b" " * (2**20 + 1), "too long"),
-    ("of 2^20 bytes", b" " * 2**20, "not json"),
-    ("that isn't UTF-8", b'{"type":"\xff"}', "not json"),
-    ("that isn't JSON", b"{'type': 'image'}", "not json"),
-    ("cut off", info_of([4, 2, 1], [2, 2, 1])[:-1], "not json"),
-    ("that is an array", b"[]", "root wrong kind"),
-    ("that is an empty object", b"{}", "type missing"),
-    ("with a size of 0", with_info(size=[4, 2, 0]), "size bad value"),
+    ("that is missing", None, "absent"), ("that is a folder", FOLDER, "absent"),
+    ("that is a link to itself", LOOP, "store fault"), ("that is a pipe", PIPE, "store fault"),
+    ("that is empty", b"", "not json"), ("of 2 MiB", b" " * 2**21, "too long"),
+    ("of 2^20 + 1 bytes", b" " * (2**20 + 1), "too long"), ("of 2^20 bytes", b" " * 2**20, "not json"),
+    ("that isn't UTF-8", b'{"type":"\xff"}', "not json"), ("that isn't JSON", b"{'type': 'image'}", "not json"),
+    ("cut off", info_of([4, 2, 1], [2, 2, 1])[:-1], "not json"), ("that is an array", b"[]", "root wrong kind"),
+    ("that is an empty object", b"{}", "type missing"), ("with a size of 0", with_info(size=[4, 2, 0]), "size bad value"),
     ("with another @type", with_info({"@type": "x"}), "@type bad value"),
     ("with a type that is none", with_info({"type": "mesh"}), "type bad value"),
     ("with a data type of floats", with_info({"data_type": "float32"}), "unsupported data_type"),
@@ -92,39 +116,41 @@ WIDE = {"data_type": "uint64"}
 LARGE = "[0:1024,0:1024,0:1025]"
 CUBE = f"[0:{2**40},0:{2**40},0:{2**40}]"
 
+# title, what is changed, the line of each command that reads both chunks
+CELLS = [
+    ("a short chunk", {FIRST: b"123"}, "damaged 0,0,0: chunk length 3 wanted 4"),
+    ("a chunk of a byte more", {FIRST: b"12345"}, "damaged 0,0,0: chunk length 5 wanted 4"),
+    ("an empty chunk", {FIRST: b""}, "damaged 0,0,0: chunk length 0 wanted 4"),
+    ("faults in both cells", {SECOND: b"", FIRST: b"1"}, "damaged 0,0,0: chunk length 1 wanted 4"),
+    ("a chunk that is a link to itself", {SECOND: LOOP}, "store fault"), ("a chunk that is a pipe", {SECOND: PIPE}, "store fault"),
+    ("a chunk that is a device", {FIRST: DEVICE}, "store fault"),
+    ("a shard that is a pipe", {**with_info(sharding=SHARDING), SHARD: PIPE}, "store fault"),
+]
+
+# title, what is changed, a box, and that of the scale
+OUTSIDE = [
+    ("a box past the end", {}, "[0:5,0:2,0:1]", WHOLE), ("a box before the begin", {}, "[-1:4,0:2,0:1]", WHOLE),
+    ("a box with 2^41", {}, FAR, WHOLE), ("a box with -2^41", {}, LOW, WHOLE),
+    ("a box before an offset", with_info(voxel_offset=[-3, 5, 7]), "[-4:1,5:7,7:8]", "[-3:1,5:7,7:8]"),
+    ("a box outside, of a damaged scale", {FIRST: b""}, "[0:4,0:3,0:1]", WHOLE),
+]
+
 # title, what is changed, the box, the line
 CUTOUTS = [
     ("a raw chunk as a segmentation's", with_info(WIDE, **SEGMENTED), WHOLE, "damaged 0,0,0: seg channel 0"),
-    ("a segmentation's chunk of half words", {**with_info(WIDE, **SEGMENTED), FIRST: b"123456"}, WHOLE,
-     "damaged 0,0,0: seg length 6"),
+    ("a segmentation's chunk of half words", {**with_info(WIDE, **SEGMENTED), FIRST: b"123456"}, WHOLE, "damaged 0,0,0: seg length 6"),
     ("a bad chunk of a segmentation in a shard",
-     {**with_info(WIDE, sharding=SHARDING, **SEGMENTED), SHARD: shard_of(0, [(0, 0, BAD_BITS)])}, WHOLE,
-     "damaged 0,0,0: seg bits 0 0 3"),
+     {**with_info(WIDE, sharding=SHARDING, **SEGMENTED), SHARD: shard_of(0, [(0, 0, BAD_BITS)])}, WHOLE, "damaged 0,0,0: seg bits 0 0 3"),
+    ("a fault in the second cell", {SECOND: b""}, WHOLE, "damaged 1,0,0: chunk length 0 wanted 4"),
     ("a short shard", {**with_info(sharding=SHARDING), SHARD: b"short"}, WHOLE, "damaged 0,0,0: shard short index"),
-    ("a shard that is a pipe", {**with_info(sharding=SHARDING), SHARD: PIPE}, WHOLE, "store fault"),
     ("a shard without its second entry", {INFO_PATH: info_of([2, 1, 1], [1, 1, 1], **shards(minishard_bits=1)), SHARD: bytes(16)},
      "[0:2,0:1,0:1]", "damaged 1,0,0: shard short index"),
-    ("an info that is a link to itself", {INFO_PATH: LOOP}, WHOLE, "store fault"),
-    ("an info that is a pipe", {INFO_PATH: PIPE}, WHOLE, "store fault"),
-    ("a box past the end", {}, "[0:5,0:2,0:1]", f"box [0:5,0:2,0:1] outside {WHOLE}"),
-    ("a box before the begin", {}, "[-1:4,0:2,0:1]", f"box [-1:4,0:2,0:1] outside {WHOLE}"),
-    ("a box with 2^41", {}, FAR, f"box {FAR} outside {WHOLE}"),
-    ("a box with -2^41", {}, LOW, f"box {LOW} outside {WHOLE}"),
     ("a box of more than 2^30 bytes", with_info(size=[2048] * 3, chunk=[64] * 3), LARGE, f"box too large {2**30 + 2**20}"),
     ("a box of 2^120 bytes", with_info(size=[2**40] * 3, chunk=[64] * 3), CUBE, f"box too large {2**120}"),
-    ("a short chunk", {FIRST: b"123"}, WHOLE, "damaged 0,0,0: chunk length 3 wanted 4"),
-    ("a chunk of a byte more", {FIRST: b"12345"}, WHOLE, "damaged 0,0,0: chunk length 5 wanted 4"),
-    ("an empty chunk", {FIRST: b""}, WHOLE, "damaged 0,0,0: chunk length 0 wanted 4"),
-    ("a fault in the second cell", {SECOND: b""}, WHOLE, "damaged 1,0,0: chunk length 0 wanted 4"),
-    ("faults in both cells", {SECOND: b"", FIRST: b"1"}, WHOLE, "damaged 0,0,0: chunk length 1 wanted 4"),
     ("a fault in a cell of the second row", {**with_info(size=[4, 4, 1]), "d/s/2-4_2-4_0-1": b"123"}, "[3:4,3:4,0:1]",
      "damaged 1,1,0: chunk length 3 wanted 4"),
     ("half a chunk of wide values", {**with_info({"data_type": "uint16", "num_channels": 2}), FIRST: bytes(8)}, WHOLE,
      "damaged 0,0,0: chunk length 8 wanted 16"),
-    ("a box before an offset", with_info(voxel_offset=[-3, 5, 7]), "[-4:1,5:7,7:8]", "box [-4:1,5:7,7:8] outside [-3:1,5:7,7:8]"),
-    ("a chunk that is a link to itself", {SECOND: LOOP}, WHOLE, "store fault"),
-    ("a chunk that is a pipe", {SECOND: PIPE}, WHOLE, "store fault"),
-    ("a chunk that is a device", {SECOND: DEVICE}, WHOLE, "store fault"),
 ]
 
 # title, what is changed, the data set and the key that are named, what is told of the info
@@ -140,15 +166,12 @@ ABSENT = [
 THREE_LAYERS = {**with_info(size=[4, 2, 3]), "d/s/2-4_0-2_2-3": b"123"}
 SECOND_ABOVE = "d/s/2-4_0-2_1-2"
 TWO_CHANNELS = {
-    **with_info({"num_channels": 2}, size=[4, 2, 2]),
-    FIRST: bytes([1, 2, 3, 4, 21, 22, 23, 24]),
-    SECOND: bytes([5, 6, 7, 8, 25, 26, 27, 28]),
-    "d/s/0-2_0-2_1-2": bytes(range(31, 39)),
+    **with_info({"num_channels": 2}, size=[4, 2, 2]), FIRST: bytes([1, 2, 3, 4, 21, 22, 23, 24]),
+    SECOND: bytes([5, 6, 7, 8, 25, 26, 27, 28]), "d/s/0-2_0-2_1-2": bytes(range(31, 39)),
 }
 THICK = {
     **with_info({"num_channels": 2}, size=[4, 2, 4], chunk=[2, 2, 2], voxel_offset=[0, 0, -3]),
-    "d/s/0-2_0-2_-3--1": bytes(range(1, 17)),
-    "d/s/0-2_0-2_-1-1": b"",
+    "d/s/0-2_0-2_-3--1": bytes(range(1, 17)), "d/s/0-2_0-2_-1-1": b"",
 }
 IN_A_SHARD = {
     **with_info(size=[4, 2, 2], sharding=SHARDING),
@@ -161,8 +184,7 @@ BROKEN_OFF = [
     ("the third layer", THREE_LAYERS, "[0:4,0:2,0:3]", VALUES + bytes(8), "damaged 1,0,2: chunk length 3 wanted 4"),
     ("the layer where the box begins", THREE_LAYERS, "[0:4,0:2,2:3]", b"", "damaged 1,0,2: chunk length 3 wanted 4"),
     ("a row of a box", THREE_LAYERS, "[1:3,1:2,0:3]", bytes([4, 7, 0, 0]), "damaged 1,0,2: chunk length 3 wanted 4"),
-    ("the second layer of two channels", {**TWO_CHANNELS, SECOND_ABOVE: b"123"}, TWO, VALUES,
-     "damaged 1,0,1: chunk length 3 wanted 8"),
+    ("the second layer of two channels", {**TWO_CHANNELS, SECOND_ABOVE: b"123"}, TWO, VALUES, "damaged 1,0,1: chunk length 3 wanted 8"),
     ("both layers", {**TWO_CHANNELS, SECOND: b"", "d/s/0-2_0-2_1-2": b"123"}, TWO, b"", "damaged 1,0,0: chunk length 0 wanted 8"),
     ("two channels of a layer of two planes, of which the box has one", THICK, "[0:4,0:2,-2:1]", bytes([5, 6, 0, 0, 7, 8, 0, 0]),
      "damaged 0,0,1: chunk length 0 wanted 16"),
@@ -183,36 +205,31 @@ def one_write(begin, size, values=b""):
     return head_of(1) + bytes_of(begin, size) + values
 
 
+# title, the stream, the line
+STREAMS = [
+    ("of an empty stream", b"", "stream: bad magic"), ("of three bytes", b"PVW", "stream: bad magic"),
+    ("with another magic", b"PVW2" + STREAM[4:], "stream: bad magic"), ("without a count", b"PVW1", "write 0: truncated"),
+    ("of 65,537 boxes", head_of(65537), "stream: too many writes 65537"),
+    ("of 65,536 boxes that are missing", head_of(65536), "write 0: truncated"), ("of a byte less", STREAM[:-1], "write 0: truncated"),
+    ("of a byte more", STREAM + b"\0", "stream: trailing bytes"),
+    ("of a byte behind no boxes", head_of(0) + b"\0", "stream: trailing bytes"),
+    ("of a second box without its values", SECOND_WRITE + bytes_of([0, 0, 0], [1, 1, 1]), "write 1: truncated"),
+    ("of no voxels", one_write([0, 0, 0], [4, 2, 0]), "write 0: empty box"),
+    ("past the end", one_write([0, 0, 0], [5, 2, 1], bytes(10)), "write 0: outside scale"),
+    ("before the begin", SECOND_WRITE + bytes_of([-1, 0, 0], [1, 1, 1]) + b"9", "write 1: outside scale"),
+    ("of a size that passes 64 bits", one_write([2, 0, 0], [2**64 - 1, 1, 1]), "write 0: outside scale"),
+]
+
 # title, what is changed, the stream, the line
 WRITES = [
-    ("without an info", {INFO_PATH: None}, b"", "info of d: absent"),
-    ("by a broken info, with a bad stream", {INFO_PATH: b"{"}, b"", "info of d: not json"),
-    ("of 2^24 + 1 padded voxels", {**NO_CHUNKS, **padded(2**24 + 1)}, STREAM, "info of d: limit padded"),
     ("of 2^22 + 1 padded voxels", {**NO_CHUNKS, **padded(2**22 + 1)}, head_of(0), TOO_MANY),
     ("of 2^22 + 1 padded voxels over chunks", padded(2**22 + 1), head_of(0), TOO_MANY),
     ("of 2^22 + 1 padded voxels with a bad stream", {**NO_CHUNKS, **padded(2**22 + 1)}, b"", TOO_MANY),
     ("of 2^22 + 1 padded voxels beside a pipe", {**NO_CHUNKS, **padded(2**22 + 1), "d/s/x": PIPE}, STREAM, TOO_MANY),
-    ("of 2^22 + 2 padded voxels of two channels", {**NO_CHUNKS, **padded(2**21 + 1, 2)}, head_of(0),
-     "padded voxels 4194306 over 4194304"),
-    ("over chunks", {}, STREAM, EMPTY),
-    ("over chunks, with a bad stream", {}, b"", EMPTY),
-    ("over one chunk", {FIRST: None}, STREAM, EMPTY),
-    ("above a deep object", {**NO_CHUNKS, "d/s/x/y": b""}, STREAM, EMPTY),
+    ("of 2^22 + 2 padded voxels of two channels", {**NO_CHUNKS, **padded(2**21 + 1, 2)}, head_of(0), "padded voxels 4194306 over 4194304"),
+    ("over chunks", {}, STREAM, EMPTY), ("over chunks, with a bad stream", {}, b"", EMPTY),
+    ("over one chunk", {FIRST: None}, STREAM, EMPTY), ("above a deep object", {**NO_CHUNKS, "d/s/x/y": b""}, STREAM, EMPTY),
     ("above an object in a folder that ends in .part", {**NO_CHUNKS, "d/s/x.part/y": b""}, STREAM, EMPTY),
-    ("of an empty stream", NO_CHUNKS, b"", "stream: bad magic"),
-    ("of three bytes", NO_CHUNKS, b"PVW", "stream: bad magic"),
-    ("with another magic", NO_CHUNKS, b"PVW2" + STREAM[4:], "stream: bad magic"),
-    ("without a count", NO_CHUNKS, b"PVW1", "write 0: truncated"),
-    ("of 65,537 boxes", NO_CHUNKS, head_of(65537), "stream: too many writes 65537"),
-    ("of 65,536 boxes that are missing", NO_CHUNKS, head_of(65536), "write 0: truncated"),
-    ("of a byte less", NO_CHUNKS, STREAM[:-1], "write 0: truncated"),
-    ("of a byte more", NO_CHUNKS, STREAM + b"\0", "stream: trailing bytes"),
-    ("of a byte behind no boxes", NO_CHUNKS, head_of(0) + b"\0", "stream: trailing bytes"),
-    ("of a second box without its values", NO_CHUNKS, SECOND_WRITE + bytes_of([0, 0, 0], [1, 1, 1]), "write 1: truncated"),
-    ("of no voxels", NO_CHUNKS, one_write([0, 0, 0], [4, 2, 0]), "write 0: empty box"),
-    ("past the end", NO_CHUNKS, one_write([0, 0, 0], [5, 2, 1], bytes(10)), "write 0: outside scale"),
-    ("before the begin", NO_CHUNKS, SECOND_WRITE + bytes_of([-1, 0, 0], [1, 1, 1]) + b"9", "write 1: outside scale"),
-    ("of a size that passes 64 bits", NO_CHUNKS, one_write([2, 0, 0], [2**64 - 1, 1, 1]), "write 0: outside scale"),
     ("of more than 2^30 bytes", {**NO_CHUNKS, **with_info(WIDE, size=[2**27 + 1, 1, 1])}, one_write([0, 0, 0], [2**27 + 1, 1, 1]),
      "write 0: too large"),
     ("into more than 2^22 chunks", {**NO_CHUNKS, **with_info(size=[2097153, 1, 1], chunk=[1, 1, 1])}, LONG, "too many cells 4194306"),
@@ -223,34 +240,19 @@ WRITES = [
 
 # title, what is changed, the box, the output
 SERVED = [
-    ("a sound dataset", {}, WHOLE, VALUES),
-    ("UINT8 and Raw", with_info({"data_type": "UINT8"}, encoding="Raw"), WHOLE, VALUES),
+    ("a sound dataset", {}, WHOLE, VALUES), ("UINT8 and Raw", with_info({"data_type": "UINT8"}, encoding="Raw"), WHOLE, VALUES),
     ("1,024 channels of 131,072 bytes", {INFO_PATH: deep_info(131072)}, "[7:9,0:1,0:1]", bytes(2048)),
     ("a box across the chunks", {}, "[1:3,1:2,0:1]", bytes([4, 7])),
     ("the first of two chunk sizes", {**with_info(chunk_sizes=[[2, 2, 1], [4, 2, 1]]), "d/s/0-4_0-2_0-1": b""}, WHOLE, VALUES),
     ("a fault outside the box", {SECOND: b""}, "[0:2,0:2,0:1]", bytes([1, 2, 3, 4])),
     ("an offset below 0", {**with_info(voxel_offset=[-3, 5, 7]), "d/s/-3--1_5-7_7-8": bytes([1, 2, 3, 4])}, "[-2:0,5:7,7:8]",
      bytes([2, 0, 4, 0])),
-    (
-        "two channels of 16 bits",
-        {
-            **with_info({"@type": "neuroglancer_multiscale_volume", "data_type": "uint16", "num_channels": 2}),
-            FIRST: bytes(range(16)),
-            SECOND: None,
-        },
-        "[1:3,0:2,0:1]",
-        bytes([2, 3, 0, 0, 6, 7, 0, 0, 10, 11, 0, 0, 14, 15, 0, 0]),
-    ),
-    (
-        "planes of 64 bits",
-        {
-            **with_info({"type": "segmentation", **WIDE}, size=[1, 1, 3], chunk=[1, 1, 2]),
-            "d/s/0-1_0-1_0-2": bytes(range(16)),
-            "d/s/0-1_0-1_2-3": bytes(range(8)),
-        },
-        "[0:1,0:1,1:3]",
-        bytes(range(8, 16)) + bytes(range(8)),
-    ),
+    ("two channels of 16 bits",
+     {**with_info({"@type": "neuroglancer_multiscale_volume", "data_type": "uint16", "num_channels": 2}), FIRST: bytes(range(16)),
+      SECOND: None}, "[1:3,0:2,0:1]", bytes([2, 3, 0, 0, 6, 7, 0, 0, 10, 11, 0, 0, 14, 15, 0, 0])),
+    ("planes of 64 bits",
+     {**with_info({"type": "segmentation", **WIDE}, size=[1, 1, 3], chunk=[1, 1, 2]), "d/s/0-1_0-1_0-2": bytes(range(16)),
+      "d/s/0-1_0-1_2-3": bytes(range(8))}, "[0:1,0:1,1:3]", bytes(range(8, 16)) + bytes(range(8))),
     ("a segmentation's chunk, and one that is missing",
      {**with_info({"type": "segmentation", **WIDE}, **SEGMENTED), FIRST: SEVEN_NINE, SECOND: None}, WHOLE,
      2 * struct.pack("<4Q", 7, 9, 0, 0)),
@@ -265,7 +267,12 @@ SERVED = [
 ]
 
 
-def refuses_folder_as_stream(trial, change, line):
+def puts_out(trial, opened):
+    answers(trial, changed(), [*CUT, WHOLE], refused("output fault"), output=opened)
+
+
+def takes_folder(trial, change, line):
+    """A folder as the stream."""
     feed = os.open("/", os.O_RDONLY)
     try:
         answers(trial, changed(change), WRITE, refused(line), feed)
@@ -273,30 +280,35 @@ def refuses_folder_as_stream(trial, change, line):
         os.close(feed)
 
 
-def puts_out(trial, opened):
-    answers(trial, changed(), [*CUT, WHOLE], refused("output fault"), output=opened)
-
-
 def rows():
-    for words in NO_COMMANDS:
-        yield f"no command: {words!r:.120}", answers, changed(), words, refused("usage")
-    for title, info, line in INFOS:
+    for words in no_commands():
+        files = changed(with_next(), {"e/info": with_next()[INFO_PATH]})
+        yield f"no command: {words!r:.120}", answers, files, words, refused("usage"), STREAM
+    for (words, _), (title, info, line) in itertools.product(COMMANDS, INFOS):
         change = info if isinstance(info, dict) else {INFO_PATH: info}
-        yield f"an info {title}", answers, changed(change), [*CUT, WHOLE], refused(f"info of d: {line}")
-    for title, change, dataset, key, line in ABSENT:
-        yield title, answers, changed(change), ["cutout", dataset, key, WHOLE], refused(f"info of {dataset}: {line}")
+        told = line if line == "store fault" else f"info of d: {line}"
+        yield f"an info {title}, {' '.join(words)}", answers, changed(change), words, refused(told)
+    for (words, _), (title, change, dataset, key, line) in itertools.product(COMMANDS, ABSENT):
+        named = [words[0], dataset, key, *words[3:]]
+        yield f"{title}, {' '.join(words)}", answers, changed(change), named, refused(f"info of {dataset}: {line}")
+    for words, (title, change, line) in itertools.product(([*CUT, WHOLE], VERIFY, UPDATE), CELLS):
+        yield f"{title}, {words[0]}", answers, changed(change), words, refused(line), STREAM
+    for words, (title, change, box, whole) in itertools.product((CUT, VERIFY), OUTSIDE):
+        yield f"{title}, {words[0]}", answers, changed(change), [*words, box], refused(f"box {box} outside {whole}")
     for title, change, box, line in CUTOUTS:
         yield title, answers, changed(change), [*CUT, box], refused(line)
     for title, change, box, output, line in BROKEN_OFF:
         yield f"a cutout that breaks off: {title}", answers, changed(change), [*CUT, box], refused(line, output)
+    for (words, change), (title, feed, line) in itertools.product(((WRITE, NO_CHUNKS), (UPDATE, {})), STREAMS):
+        yield f"{words[0]}, a stream {title}", answers, changed(change), words, refused(line), feed
     for title, change, feed, line in WRITES:
         yield f"a write {title}", answers, changed(change), WRITE, refused(line), feed
     for title, change, box, output in SERVED:
         yield title, answers, changed(change), [*CUT, box], printed(output)
-    yield "output to a full device", puts_out, open_full
-    yield "output into a closed pipe", puts_out, open_closed_pipe
-    yield "a folder as the stream", refuses_folder_as_stream, NO_CHUNKS, "feed fault"
-    yield "a folder as the stream of too many voxels", refuses_folder_as_stream, {**NO_CHUNKS, **padded(2**22 + 1)}, TOO_MANY
+    for title, opened in (("a full device", open_full), ("a closed pipe", open_closed_pipe)):
+        yield f"output to {title}", puts_out, opened
+    yield "a folder as the stream", takes_folder, NO_CHUNKS, "feed fault"
+    yield "a folder as the stream of too many voxels", takes_folder, {**NO_CHUNKS, **padded(2**22 + 1)}, TOO_MANY
 
 
 if __name__ == "__main__":

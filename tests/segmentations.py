@@ -1,5 +1,5 @@
 #!/usr/bin/env python3
-"""Writes into random segmentation scales, and cuts boxes out of them, of chunks spelled otherwise and of damaged ones.
+"""Writes into random segmentation scales, cuts boxes out of them and judges them, of chunks spelled otherwise and of damaged ones.
 
     tests/segmentations.py [PROGRAM [COUNT]]
 
@@ -12,13 +12,13 @@ import random
 import struct
 import sys
 
-from harness import Wrong, main, want, want_ending, want_files
+from harness import main, want, want_ending, want_files, want_true
 from model import (
-    Values, Volume, along, breaks, corners, cutout, damaged, infos_of, printed, refused, spell, stored, stream_of, voxels_in,
+    Values, Volume, answers, breaks, corners, damaged, infos_of, line, printed, refused, sound, spell, stored, stream_of, voxels_in,
 )
 from model.breaks import DAMAGED_CELL, ascending
-from model.chance import damage_chunk, pick_boxes, pick_chunks, pick_volume, pick_writes
-from model.segments import bytes_of, spell_loosely
+from model.chance import damage_chunk, pick_boxes, pick_stored, pick_volume, pick_writes
+from model.segments import bytes_of
 
 
 def pick_scale(chance):
@@ -34,19 +34,11 @@ def is_written(trial, seed):
     trial.want_values(volume, Values(volume, writes), pick_boxes(chance, volume))
 
 
-def pick_spelled(chance, volume):
-    """Chunks with labels, some of them absent, in this project's spelling or in another."""
-
-    def spell_some(cell, raw):
-        return volume.spell(cell, raw) if chance.random() < 0.3 else spell_loosely(chance, volume.shape(cell), raw)
-
-    return pick_chunks(chance, volume, spell_some)
-
-
 def is_read(trial, seed):
+    """Chunks with labels, some of them absent, in this project's spelling or in another."""
     chance = random.Random(f"read {seed}")
     volume = pick_scale(chance)
-    files = trial.store(volume, pick_spelled(chance, volume))
+    files = trial.store(volume, pick_stored(chance, volume))
     trial.want_cuts(volume, files, pick_boxes(chance, volume))
 
 
@@ -54,7 +46,7 @@ def is_damaged(trial, seed):
     """Some damaged chunks among others: the whole scale, and each cell's box."""
     chance = random.Random(f"damaged {seed}")
     volume = pick_scale(chance)
-    chunks = pick_spelled(chance, volume)
+    chunks = pick_stored(chance, volume)
     for cell in chance.sample(sorted(chunks), min(len(chunks), 3)):
         chunks[cell] = damage_chunk(chance, volume.shape(cell), chunks[cell])
     files = trial.store(volume, chunks)
@@ -62,25 +54,28 @@ def is_damaged(trial, seed):
     trial.want_cuts(volume, files, [volume.whole, *map(volume.box_of, cells)])
 
 
-# Three cells, of which the second is damaged.
+# Three cells, of which the second is damaged
 
 
-def refuses_cell(trial, volume, chunk, line):
-    """Cutouts that meet the damaged cell are refused, and one of the last cell is served."""
+def refuses_cell(trial, volume, chunk, told):
+    """Cutouts and judgements that meet the damaged cell tell its line, and those of the last cell are served."""
     files = trial.store(volume, {**ascending(volume), DAMAGED_CELL: chunk})
-    told = refused(damaged(DAMAGED_CELL, line))
-    x, y, z = volume.box_of(DAMAGED_CELL)
-    for box in (volume.whole, [(x[0], x[0] + 1), (y[1] - 1, y[1]), (z[1] - 1, z[1])]):
-        want_ending(cutout(volume, files, box), told, "the model")
-        trial.want(volume.words("cutout", spell(box)), told)
-    trial.want_cuts(volume, files, [volume.box_of((2, 0, 0))])
+    x, y, z = own = volume.box_of(DAMAGED_CELL)
+    for box in (volume.whole, own, [(x[0], x[0] + 1), (y[1] - 1, y[1]), (z[1] - 1, z[1])]):
+        for command, model in (("cutout", answers.cutout), ("verify", answers.verdict)):
+            want_ending(model(volume, files, box), refused(damaged(DAMAGED_CELL, told)), f"the model of {command}")
+            trial.want_unchanged(volume.words(command, spell(box)), refused(damaged(DAMAGED_CELL, told)))
+    last = volume.box_of((2, 0, 0))
+    trial.want_cuts(volume, files, [last])
+    trial.want_unchanged(volume.words("verify", spell(last)), sound(1, 1))
 
 
 def takes_longest(trial, volume):
-    """A chunk with words behind it that nothing refers to, as long as a chunk may be, is served."""
+    """A chunk with words behind it that nothing refers to, as long as a chunk may be, is served and sound."""
     chunks = ascending(volume)
     trial.store(volume, {**chunks, DAMAGED_CELL: chunks[DAMAGED_CELL].ljust(volume.limit(DAMAGED_CELL), b"\xff")})
     trial.want_cuts(volume, volume.files(chunks), [volume.whole])
+    trial.want_unchanged(volume.words("verify"), sound(3, 3))
 
 
 CLIPPED_CELL = (2, 0, 0)
@@ -89,15 +84,23 @@ CLIPPED_CELL = (2, 0, 0)
 def takes_clipped(trial, volume, more):
     """A chunk of a clipped cell may be as long as its own size allows, and no longer."""
     chunks, limit = ascending(volume), volume.limit(CLIPPED_CELL)
-    if limit >= volume.limit(DAMAGED_CELL):
-        raise Wrong("the cell isn't clipped")
+    want_true(limit < volume.limit(DAMAGED_CELL), "the cell isn't clipped")
     trial.store(volume, {**chunks, CLIPPED_CELL: chunks[CLIPPED_CELL].ljust(limit + more, b"\xff")})
     box = volume.box_of(CLIPPED_CELL)
-    if more == 0:
-        trial.want_cuts(volume, volume.files(chunks), [box])
-    else:
-        line = damaged(CLIPPED_CELL, breaks.too_long(volume, limit, limit + more))
-        trial.want(volume.words("cutout", spell(box)), refused(line))
+    due = answers.cutout(volume, volume.files(chunks), box)
+    told = damaged(CLIPPED_CELL, breaks.too_long(volume, limit, limit + more))
+    trial.want(volume.words("cutout", spell(box)), refused(told) if more else due)
+
+
+# title, what breaks the chunk, each in a channel, in its last block or its first; the last one's line is told
+TWO_BREAKS = [
+    ("a lower channel first", [("3 bits", 1, False), ("a table behind the end", 0, True)]),
+    ("a lower block first", [("3 bits", 0, True), ("a table behind the end", 0, False)]),
+    ("bits before a table", [("a table behind the end", 0, False), ("3 bits", 0, False)]),
+    ("indices before a table", [("a table behind the end", 1, True), ("indices behind the end", 1, True)]),
+    ("headers before bits", [("3 bits", 0, False), ("headers behind the end", 0, False)]),
+    ("a channel's blocks before the next one's headers", [("headers behind the end", 1, False), ("3 bits", 0, True)]),
+]
 
 
 # title, channels, bytes of a value, words of a chunk of one block without bits, and the value of all voxels. The table is among the
@@ -121,7 +124,7 @@ def takes_short(trial, sharding, channels, width, words, value):
 
 def refuses_one_word(trial):
     """A chunk of one word that leads behind its end."""
-    volume = Volume([1, 1, 1], [1, 1, 1], width=4, block=(1, 1, 1))
+    volume = line(1, width=4, block=(1, 1, 1))
     trial.store(volume, {(0, 0, 0): b"\xff" * 4})
     for command in (volume.words("cutout", spell(volume.whole)), volume.words("verify")):
         trial.want_unchanged(command, refused("damaged 0,0,0: seg channel 0"))
@@ -153,7 +156,7 @@ def writes_largest(trial):
     chunk = struct.pack("<I", 1) + words.tobytes() + values.tobytes()
     want((trial.folder / LONG.path_of((0, 0, 0))).read_bytes() == chunk, True, "the chunk that is due")
     for begin, end in [(0, count), (count - 1, count)]:
-        trial.want(LONG.words("cutout", spell(along(begin, end))), printed(values[begin:end].tobytes()))
+        trial.want(LONG.words("cutout", spell([(begin, end), (0, 1), (0, 1)])), printed(values[begin:end].tobytes()))
 
 
 def rows(count):
@@ -162,8 +165,11 @@ def rows(count):
         yield f"other spellings {seed}", is_read, seed
         yield f"damaged chunks {seed}", is_damaged, seed
     for form, volume in breaks.VOLUMES.items():
-        for title, chunk, line in breaks.every_break(volume):
-            yield f"{form}, {title}", refuses_cell, volume, chunk, line
+        for title, chunk, told in breaks.every_break(volume):
+            yield f"{form}, {title}", refuses_cell, volume, chunk, told
+        for title, two in TWO_BREAKS:
+            chunk, lines = breaks.broken(volume, *two)
+            yield f"{form}, {title}", refuses_cell, volume, chunk, lines[-1]
         yield f"{form}, the longest chunk", takes_longest, volume
         for more in (0, 4):
             yield f"{form}, a clipped chunk, {more} bytes too long", takes_clipped, volume, more

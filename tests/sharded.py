@@ -9,36 +9,26 @@ import random
 import struct
 
 from harness import main, want
-from model import Sharding, Values, Volume, along, infos_of, printed, refused, spell
-from model.chance import pick_box, pick_chunks, pick_volume, pick_writes, with_numbers
+from model import Sharding, Values, along, infos_of, line, printed, refused, spell
+from model.chance import pick_box, pick_stored, pick_volume, pick_writes, with_numbers
 
 
-def boxes_of(chance, volume):
-    """The whole scale and three boxes of it."""
-    return [volume.whole, *(pick_box(chance, volume) for _ in range(3))]
-
-
-def reads_scale(trial, seed):
-    """Shards of the model."""
-    chance = random.Random(f"scale {seed}")
+def reads_scale(trial, seed, is_written):
+    """Shards of the model, or of overlapping boxes that are written, as they are due, read back: the whole scale and three boxes of it."""
+    chance = random.Random(f"{'writes' if is_written else 'scale'} {seed}")
     volume = pick_volume(chance, is_raw=True, in_shards=True)
-    chunks = pick_chunks(chance, volume, lambda cell, raw: raw)
-    trial.store(volume, chunks)
-    values = Values(volume, [(volume.box_of(cell), raw) for cell, raw in chunks.items()])
-    trial.want_values(volume, values, boxes_of(chance, volume))
-
-
-def writes_scale(trial, seed):
-    """Overlapping boxes leave the shards that are due, and read back."""
-    chance = random.Random(f"writes {seed}")
-    volume = pick_volume(chance, is_raw=True, in_shards=True)
-    writes = pick_writes(chance, volume, chance.randint(0, 5))
-    trial.write(volume, writes)
-    trial.want_values(volume, Values(volume, writes), boxes_of(chance, volume))
+    if is_written:
+        held = pick_writes(chance, volume, chance.randint(0, 5))
+        trial.write(volume, held)
+    else:
+        chunks = pick_stored(chance, volume)
+        trial.store(volume, chunks)
+        held = [(volume.box_of(cell), raw) for cell, raw in chunks.items()]
+    trial.want_values(volume, Values(volume, held), [volume.whole, *(pick_box(chance, volume) for _ in range(3))])
 
 
 # Eleven voxels in cells of two, by their ids in two minishards of one shard.
-SIX = Volume([11, 1, 1], [2, 1, 1], sharding=Sharding(minishard_bits=1))
+SIX = line(11, 2, sharding=Sharding(minishard_bits=1))
 SIX_CHUNKS = {cell: bytes(range(2 * cell[0] + 1, min(2 * cell[0] + 3, 12))) for cell in SIX.cells}
 
 
@@ -97,7 +87,7 @@ ROWS = [
 
 
 def reads_row(trial, sharding, numbers, length, box, wanted):
-    volume = Volume([2, 1, 1], [1, 1, 1], sharding=sharding)
+    volume = line(2, sharding=sharding)
     files = trial.store(volume, {(0, 0, 0): b"\n", (1, 0, 0): b"\v"})
     first = min(files)
     trial.lay_out({first: with_numbers(files[first], numbers)[:length]})
@@ -106,7 +96,7 @@ def reads_row(trial, sharding, numbers, length, box, wanted):
 
 def reads_far(trial):
     """A chunk and its index that lie far behind the begin of a file with a hole: only their ranges are read."""
-    far, one = 2**36, Volume([1, 1, 1], [1, 1, 1], sharding=ONE_MINISHARD)
+    far, one = 2**36, line(1, sharding=ONE_MINISHARD)
     shard = {0: struct.pack("<2Q", far + 1, far + 25), 16 + far: b"\7" + struct.pack("<3Q", 0, far, 1)}
     trial.lay_out({**infos_of(one), "d/s/0.shard": shard})
     trial.want("cutout d s [0:1,0:1,0:1]", printed(b"\7"))
@@ -114,7 +104,7 @@ def reads_far(trial):
 
 def reads_many_rows(trial):
     """A minishard of more rows than a window of an index, whole and around the windows' ends."""
-    volume = Volume([2500, 1, 1], [1, 1, 1], sharding=Sharding(preshift=64))
+    volume = line(2500, sharding=Sharding(preshift=64))
     chunks = {(number, 0, 0): bytes([number % 251]) for number in range(2500) if number % 7 != 3}
     trial.store(volume, chunks)
     values = Values(volume, [(volume.box_of(cell), chunk) for cell, chunk in chunks.items()])
@@ -123,7 +113,7 @@ def reads_many_rows(trial):
 
 def finds_first_and_last(trial):
     """Of an index of 5,000 rows the chunk of the first and that of the last."""
-    volume = Volume([5000, 1, 1], [1, 1, 1], sharding=ONE_MINISHARD)
+    volume = line(5000, sharding=ONE_MINISHARD)
     values = random.Random("rows").randbytes(5000)
     (shard,) = trial.write(volume, [(volume.whole, values)]).values()
     want(len(shard), 16 + 5000 + 24 * 5000, "the length of the shard")
@@ -133,8 +123,8 @@ def finds_first_and_last(trial):
 
 def rows(count):
     for seed in range(count):
-        yield f"scale {seed}", reads_scale, seed
-        yield f"writes {seed}", writes_scale, seed
+        yield f"scale {seed}", reads_scale, seed, False
+        yield f"writes {seed}", reads_scale, seed, True
         yield f"damaged shard {seed}", reads_damaged, seed
     for title, *case in ROWS:
         yield title, reads_row, *case

@@ -11,21 +11,13 @@ import itertools
 import json
 import random
 
-from harness import answers, contents, main, standing, want, want_files
-from model import (
-    SEGMENTED, SHARDING, Values, Volume, answer, copy_of, generated, info_of, infos_of, printed, refused, sound, spell, stored,
-    stream_of, sum_of, verdict,
-)
+from harness import answers, main, want
+from model import (SEGMENTED, SHARDING, Values, Volume, info_of, infos_of, line, printed, refused, sound, spell, stored, stream_of, verdict)
 from model.chance import damage_some, pick_box, pick_boxes, pick_writes
-from model.pyramids import METHODS, next_of, reduction_of
+from model.pyramids import METHODS, next_of
 from model.segments import spell_loosely
 from model.small import padded_info
-
-
-def line(length, *chunks, **fields):
-    """A scale that is a line along x, with these lengths of chunks."""
-    first, *more = ([chunk, 1, 1] for chunk in chunks)
-    return Volume([length, 1, 1], first, more=tuple(more), **fields)
+from runs import leaves, list_run, want_made
 
 
 def turned(volume):
@@ -82,9 +74,8 @@ def is_judged(trial, volume, seed):
     files = trial.write(volume, pick_writes(chance, volume, 3))
     for view in volume.views:
         own = {path: files[path] for path in map(view.path_of, view.cells) if path in files}
-        damaged = damage_some(chance, view, own)
-        trial.lay_out(damaged)
-        after = {path: content for path, content in {**files, **damaged}.items() if content is not None}
+        trial.lay_out(damage_some(chance, view, own))
+        after = trial.files()
         for box in (volume.whole, pick_box(chance, volume)):
             trial.want_unchanged(volume.words("verify", spell(box)), verdict(volume, after, box))
             trial.want_cuts(volume, after, [box])
@@ -93,13 +84,9 @@ def is_judged(trial, volume, seed):
 
 def is_generated(trial, volume, number, count, workers):
     """The list of a number is stored in each size; the counts are those of all sizes, and the sum is the scale's."""
-    writes = generated(volume, number, count)
-    files, put, _ = volume.files_after(writes)
-    trial.lay_out(infos_of(volume))
-    words = volume.words("generate", str(number), str(count), f"--workers={workers}")
-    trial.want(words, answer(count, put, sum_of(volume, writes)))
-    want_files(trial.files(), files)
-    trial.want_unchanged(volume.words("verify"), verdict(volume, files))
+    run = list_run(volume, number, count, f"--workers={workers}")
+    leaves(trial, run.before, run.words, run.ending, run.put)
+    trial.want_unchanged(volume.words("verify"), verdict(volume, run.put))
 
 
 # A small scale, as it is stated
@@ -111,8 +98,7 @@ STORED = {WHOLE: b"\1\2\3\4", LEFT: b"\1\2", RIGHT: b"\3\4"}
 
 # title, the scale, what a write of its first four voxels tells, the files, and what verify tells then
 WRITTEN = [
-    ("a chunk and its halves", FOUR, (3, 3), STORED, (3, 3)),
-    ("halves, and a chunk", turned(FOUR), (3, 3), STORED, (3, 3)),
+    ("a chunk and its halves", FOUR, (3, 3), STORED, (3, 3)), ("halves, and a chunk", turned(FOUR), (3, 3), STORED, (3, 3)),
     ("one size twice", line(4, 4, 4), (2, 2), {WHOLE: b"\1\2\3\4"}, (2, 2)),
     ("two sizes that are clipped to one box", line(4, 9, 4), (2, 2), {WHOLE: b"\1\2\3\4"}, (2, 2)),
     ("sizes that don't divide", line(5, 4, 3), (3, 3), {WHOLE: b"\1\2\3\4", "d/s/0-3_0-1_0-1": b"\1\2\3", "d/s/3-5_0-1_0-1": b"\4\0"},
@@ -121,21 +107,13 @@ WRITTEN = [
 ]
 
 
-def is_stored(trial, volume, told, files, judged):
-    trial.lay_out(infos_of(volume))
-    trial.want("write d s", stored(*told), FULL)
-    want_files(trial.files(), files)
-    trial.want_unchanged("verify d s", sound(*judged))
-
-
 # title, the files that are others, what is told, and of which box
 TOLD = [
     ("another value", {RIGHT: b"\3\5"}, "conflict 1 3,0,0 0 5 4"),
     ("a short copy", {RIGHT: b"\3"}, "damaged in 1 1,0,0: chunk length 1 wanted 2"),
     ("a long copy", {RIGHT: b"\3\4\5"}, "damaged in 1 1,0,0: chunk length 3 wanted 2"),
     ("an empty copy", {LEFT: b""}, "damaged in 1 0,0,0: chunk length 0 wanted 2"),
-    ("a copy that is gone", {LEFT: None}, "conflict 1 0,0,0 0 0 1"),
-    ("the last copy is gone", {RIGHT: None}, "conflict 1 2,0,0 0 0 3"),
+    ("a copy that is gone", {LEFT: None}, "conflict 1 0,0,0 0 0 1"), ("the last copy is gone", {RIGHT: None}, "conflict 1 2,0,0 0 0 3"),
     ("copies exchanged", {LEFT: b"\3\4", RIGHT: b"\1\2"}, "conflict 1 0,0,0 0 3 1"),
     ("two other values", {LEFT: b"\1\7", RIGHT: b"\3\7"}, "conflict 1 1,0,0 0 7 2"),
     ("a value, and a fault behind it", {LEFT: b"\1\7", RIGHT: b"\3"}, "conflict 1 1,0,0 0 7 2"),
@@ -210,6 +188,15 @@ OF_LABELS = [
 ]
 
 
+# a scale, its values, and what is told of it
+STATED = [
+    (FOUR, bytes([1, 2, 3, 4]), TOLD),
+    (SQUARE, bytes(range(16)), IN_ORDER),
+    (CUBE, bytes(range(1, 9)), OF_AXES),
+    (LABELS, labels_of(1, 2, 7, LARGEST), OF_LABELS),
+]
+
+
 def tells(trial, volume, values, changes, told, box=None):
     """Of a scale with these values and other files the judgement ends so; where the first size's stand, cutouts are these values."""
     trial.write(volume, [(volume.whole, values)])
@@ -258,12 +245,6 @@ TAKEN = [
     ("a second size of 2^27 bytes", info_with([[4, 1, 1], [2**27, 1, 1]], 2**40)),
     ("a second size of 2^24 padded voxels", labels_info(2**40, 1, 2**24)),
 ]
-
-
-def is_read(trial, info):
-    """An info gives a scale."""
-    trial.lay_out({"d/info": info})
-    trial.want_unchanged("cutout d s [0:1,0:1,0:1]", printed(bytes(4 if b"uint32" in info else 1)))
 
 
 # What isn't done
@@ -337,9 +318,6 @@ def leaves_stream(trial):
         want(feed.read(), FULL, "the input")
 
 
-# Copies of the first size
-
-
 def is_copied(trial, volume, seed):
     """A copy, and a next scale by each method, are made of the first size alone, whatever the others say."""
     chance = random.Random(seed)
@@ -347,35 +325,29 @@ def is_copied(trial, volume, seed):
     files = trial.write(volume, pick_writes(chance, volume, 3))
     first = set(map(volume.path_of, volume.cells))
     others = {path: chance.choice([None, b"", content + b"\0"]) for path, content in files.items() if path not in first}
-    copy = dataclasses.replace(volume, key="t", chunk=[3, 2, 2], more=())
-    halves = {method: next_of(volume, key=method, more=()) for method in METHODS}
-    trial.lay_out({**infos_of(volume, copy, *halves.values()), **others})
-    trial.want_copy([*volume.words("reshard"), copy.dataset, copy.key], copy_of(volume, copy, contents(standing(trial.folder))))
-    for method, half in halves.items():
-        made = reduction_of(volume, half, method, contents(standing(trial.folder)))
-        trial.want_copy(volume.words("downsample", half.key, f"--method={method}"), made)
+    targets = {method: next_of(volume, key=method, more=()) for method in METHODS}
+    targets[None] = dataclasses.replace(volume, key="t", chunk=[3, 2, 2], more=())
+    trial.lay_out({**infos_of(volume, *targets.values()), **others})
+    for method, target in targets.items():
+        want_made(trial, method, volume, target)
 
 
 def rows():
-    for title, *case in WRITTEN:
-        yield title, is_stored, *case
+    for title, volume, told, files, judged in WRITTEN:
+        yield title, leaves, infos_of(volume), "write d s", stored(*told), files, FULL
+        yield f"{title}, judged", answers, {**infos_of(volume), **files}, "verify d s", sound(*judged)
     for (title, volume), seed in itertools.product(SCALES, range(3)):
         yield f"{title}, seed {seed}", is_written, volume, seed, 1 + seed
         yield f"{title}, turned, seed {seed}", is_written, turned(volume), seed, 16
         yield f"{title}, damaged, seed {seed}", is_judged, volume, seed
-    for title, *case in TOLD:
-        yield title, tells, FOUR, bytes([1, 2, 3, 4]), *case
-    for title, *case in IN_ORDER:
-        yield title, tells, SQUARE, bytes(range(16)), *case
-    for title, *case in OF_AXES:
-        yield title, tells, CUBE, bytes(range(1, 9)), *case
-    for title, *case in OF_LABELS:
-        yield title, tells, LABELS, labels_of(1, 2, 7, LARGEST), *case
+    for volume, values, cases in STATED:
+        for title, *case in cases:
+            yield title, tells, volume, values, *case
     for title, info, told in INFOS:
         for words in ("cutout d s [0:1,0:1,0:1]", "verify d s", "write d s", "update d s"):
             yield f"{title}, {words}", answers, {"d/info": info}, words, refused(f"info of d: {told}"), stream_of([])
     for title, info in TAKEN:
-        yield title, is_read, info
+        yield title, answers, {"d/info": info}, "cutout d s [0:1,0:1,0:1]", printed(bytes(4 if b"uint32" in info else 1))
     for title, words, files, feed, told in REFUSED:
         yield title, answers, files, words, refused(told), feed
     yield "the input of an update that is refused", leaves_stream

@@ -19,12 +19,13 @@ import subprocess
 import sys
 import typing
 
-from disturbed import DEEP_RUNS, ROW, ROW_OBJECTS, RUNS, SIZES_RUNS, in_store
-from harness import LIMIT, Wrong, main, want, want_true
+from disturbed import DEEP_RUNS, FULL_ROW, RUNS, SIZES_RUNS, in_store, want_front_of
+from harness import LIMIT, Wrong, main, want, want_true, words_in
 from model import DOOR, FEED, OK, OUTPUT, STORE
 from peers import PEERS, SERVE, WHOLE, failed_of, fronts_of, is_answered, serve_peers
+from runs import wrong_with
 
-# The calls to files, folders and streams.
+# The calls to files, folders and streams; those to peers; and those that have to do with memory, time, threads and the process alone.
 TO_FILES = set(
     """
     open openat openat2 creat close fcntl lseek dup dup2 dup3 ioctl read readv pread64 preadv preadv2 write writev pwrite64 pwritev
@@ -32,13 +33,9 @@ TO_FILES = set(
     renameat renameat2 unlink unlinkat rmdir ftruncate truncate fallocate fsync fdatasync sendfile copy_file_range poll getcwd
     """.split()
 )
-
-# The calls to peers.
 TO_PEERS = set(
     "socket bind listen getsockname getpeername accept accept4 getsockopt setsockopt recvfrom recvmsg sendto sendmsg shutdown".split()
 )
-
-# The calls that have to do with memory, time, threads and the process alone.
 TO_OTHERS = set(
     """
     execve exit exit_group arch_prctl prlimit64 getrandom set_tid_address set_robust_list rseq brk mmap munmap mprotect mremap madvise
@@ -58,16 +55,14 @@ TRACED = [
     "a write", "a write beside unfinished files", "a write of nothing", "a write into shards", "a folder that isn't empty", "a list",
     "an update", "an update of nothing", "an update of a shard", "an update of shards", "an update of a damaged shard", "a cutout",
     "a cutout of shards", "a cutout of nothing", "a cutout of layers", "a cutout of a damaged layer", "a copy", "a copy into shards",
-    "a next scale", "a next scale in shards",
-    "an update of blocks", "a copy into blocks", "a copy out of shards", "a judgement", "a judgement of shards",
-    *(run.title for run in SIZES_RUNS + DEEP_RUNS),
+    "a next scale", "a next scale in shards", "an update of blocks", "a copy into blocks", "a copy out of shards", "a judgement",
+    "a judgement of shards", *SIZES_RUNS, *DEEP_RUNS,
 ]
 
 FAULTS = {STORE: b"store fault\n", FEED: b"feed fault\n", OUTPUT: b"output fault\n"}
 
 # What a served run says on standard error, by its status.
 SERVED_LINES = {OK: b"", OUTPUT: b"output fault\n", DOOR: b"door fault\n"}
-SERVED_FILES = {**ROW_OBJECTS, "d/info": ROW}
 
 
 def traced(trial, files, options, run_in):
@@ -89,10 +84,10 @@ def trace_run(trial, run, options):
 
     def run_in(folder, command):
         with stream.open("rb") as feed:
-            done = subprocess.run([*command, *run.words.split()], cwd=folder, stdin=feed, capture_output=True, timeout=LIMIT)
+            done = subprocess.run([*command, *words_in(run.words)], cwd=folder, stdin=feed, capture_output=True, timeout=LIMIT)
         return done.returncode, done.stdout, done.stderr
 
-    return traced(trial, run.before(), options, run_in)
+    return traced(trial, run.before, options, run_in)
 
 
 def want_failed(run, found, call, is_lost):
@@ -105,14 +100,14 @@ def want_failed(run, found, call, is_lost):
     if (status, output, files) == (wanted, due, run.after()) and is_told:
         return
     if status == UNSTARTED and LOADER_LINE in errors:
-        want((output, files), (b"", run.before()), "a run that wasn't started")
+        want((output, files), (b"", run.before), "a run that wasn't started")
         return
     untold = [(fault, b"") for fault in FAULTS] if is_lost and call == "write" else []
-    run.want_front(found, [*FAULTS.items(), *untold], int(is_lost))
+    want_front_of(run, found, [*FAULTS.items(), *untold], int(is_lost))
 
 
 def trace_served(trial, options):
-    return traced(trial, SERVED_FILES, options, lambda folder, command: serve_peers([*command, *SERVE], folder))
+    return traced(trial, FULL_ROW, options, lambda folder, command: serve_peers([*command, *SERVE], folder))
 
 
 def is_front(one, peer):
@@ -129,7 +124,7 @@ def want_failed_served(found, call, _is_lost):
     told = SERVED_LINES.get(status)
     is_told = told is not None and (errors == told or call == "write" and told.startswith(errors))
     want_true(is_told, f"status {status}, {errors!r}")
-    want_true(not output and line in ([], [b"listening"]) and files == SERVED_FILES, f"output {line!r} {output!r}, files {files}")
+    want_true(not output and line in ([], [b"listening"]) and files == FULL_ROW, f"output {line!r} {output!r}, files {files}")
     is_due = is_answered(got) if status == OK and call not in TO_PEERS else all(map(is_front, got, PEERS))
     want_true(is_due, f"status {status}, the peers got {got!r}")
 
@@ -159,15 +154,6 @@ def want_each(run, call, count, failure, statuses):
             raise Wrong(f"call {number}: {wrong}") from wrong
 
 
-def wrong_with(judge, *arguments):
-    """What is wrong with a row, or None."""
-    try:
-        judge(*arguments)
-    except Wrong as wrong:
-        return str(wrong)
-    return None
-
-
 def fails_each(title, run):
     """Each kind of call of a run, and each way to fail."""
     plain, lines = run.trace([])
@@ -184,13 +170,13 @@ def fails_each(title, run):
     print(f"{title}: {told}; runs by their status: {dict(sorted(statuses.items()))}", flush=True)
 
 
-def fails_each_of(trial, run):
+def fails_each_of(trial, title, run):
     trace = functools.partial(trace_run, trial, run)
-    return fails_each(run.title, Traced(TO_FILES, trace, (*run.ending, run.after()), functools.partial(want_failed, run)))
+    return fails_each(title, Traced(TO_FILES, trace, (*run.ending, run.after()), functools.partial(want_failed, run)))
 
 
 def fails_each_served(trial):
-    due = (OK, [b"listening"], b"", b"", WHOLE, SERVED_FILES)
+    due = (OK, [b"listening"], b"", b"", WHOLE, FULL_ROW)
     return fails_each("a served run", Traced(TO_FILES | TO_PEERS, functools.partial(trace_served, trial), due, want_failed_served))
 
 
@@ -202,9 +188,8 @@ def may_trace():
 
 def rows():
     yield "a served run", fails_each_served
-    for run in RUNS:
-        if run.title in TRACED:
-            yield run.title, fails_each_of, run
+    for title in TRACED:
+        yield title, fails_each_of, title, RUNS[title]
 
 
 if __name__ == "__main__":

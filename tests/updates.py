@@ -10,67 +10,43 @@ values are those of a plain array, and all files are the model's, byte by byte, 
 import dataclasses
 import itertools
 import os
-import pathlib
 import random
-import shutil
-import subprocess
-import tempfile
-import time
 
-from harness import (
-    DEVICE, FOLDER, LOOP, PIPE, Wrong, answers, main, open_closed_pipe, open_full, want, want_ending, want_files, want_front,
-)
+from harness import DEVICE, FOLDER, PIPE, answers, main, want, want_ending, want_files
 from model import (
-    SEGMENTED, Sharding, Values, Volume, along, box_in, bytes_of, damaged, head_of, infos_of, refused, stored, stream_of, verdict,
+    SEGMENTED, Sharding, Values, Volume, along, box_in, damaged, infos_of, line, refused, stored, stream_of, verdict,
     voxels_in,
 )
-from model.chance import damage_some, pick_chunks, pick_volume, pick_writes, with_numbers
+from model.chance import FORMS, damage_some, pick_stored, pick_volume, pick_writes, with_numbers
 from model.segments import bytes_of as chunk_of
-from model.segments import spell_loosely
 from model.shards import shard_of
-from model.small import FIRST, INFO_PATH, NO_FOLDER, changed, padded, shards, with_info
+from model.small import FIRST, NO_FOLDER, changed, padded, shards, with_info
+from runs import is_killed_often, leaves, rows_of_stops, update_run
 
 WORKERS = [1, 2, 16]
 
-
-# Scales at random.
-
-FORMS = {
-    "raw chunks in files": (True, False),
-    "raw chunks in shards": (True, True),
-    "segmentations in files": (False, False),
-    "segmentations in shards": (False, True),
-}
+# Scales at random
 
 
 def with_strays(chance, volume, files):
     """Shards with rows of other shards' or minishards' ids, or of no cell's; some of them empty."""
-    found = {}
+    found, stored_cells = {}, [cell for cell in volume.cells if volume.stored(files, cell) is not None]
     for shard in range(2**volume.sharding.shard_bits):
         path = volume.path(volume.sharding.file(shard))
-        rows = [
-            (volume.place(cell)[1], volume.number(cell), volume.stored(files, cell))
-            for cell in volume.cells if volume.path_of(cell) == path and volume.stored(files, cell) is not None
-        ]
-        taken = {row[:2] for row in rows}
+        own = [cell for cell in stored_cells if volume.path_of(cell) == path]
+        rows_of_shard = {(volume.place(cell)[1], volume.number(cell)): volume.stored(files, cell) for cell in own}
         for _ in range(chance.randint(0, 3)):
             stray = chance.randrange(2**volume.sharding.minishard_bits), chance.choice([chance.randrange(600), chance.getrandbits(64)])
-            if stray not in taken and (shard, stray[0]) != volume.sharding.place(stray[1]):
-                taken.add(stray)
-                rows.append((*stray, chance.randbytes(chance.choice([0, 1, 20]))))
-        if path in files or rows:
-            found[path] = shard_of(volume.sharding.minishard_bits, rows)
+            if (shard, stray[0]) != volume.sharding.place(stray[1]):
+                rows_of_shard[stray] = chance.randbytes(chance.choice([0, 1, 20]))
+        if path in files or rows_of_shard:
+            found[path] = shard_of(volume.sharding.minishard_bits, [(*row, chunk) for row, chunk in rows_of_shard.items()])
     return found
 
 
 def lay_foreign(trial, chance, volume):
     """Chunks as another program may have stored them, and perhaps rows that no cell reads. Gives the values."""
-
-    def spell_otherwise(cell, raw):
-        loose = raw if volume.block is None else spell_loosely(chance, volume.shape(cell), raw)
-        return loose if len(loose) <= volume.limit(cell) else volume.spell(cell, raw)
-
-    chunks = pick_chunks(chance, volume, spell_otherwise)
+    chunks = pick_stored(chance, volume, is_sound=True)
     files = trial.store(volume, chunks)
     if volume.sharding is not None and volume.sharding.shard_bits < 5 and chance.random() < 0.5:
         trial.lay_out(with_strays(chance, volume, files))
@@ -86,7 +62,7 @@ def lay_written(trial, chance, volume):
 def updates_random(trial, seed, form):
     """A scale that was written, or one in six of another program, is updated three times."""
     chance = random.Random(f"{seed} {form}")
-    volume = pick_volume(chance, *FORMS[form])
+    volume = pick_volume(chance, *form)
     values = (lay_foreign if chance.random() < 1 / 6 else lay_written)(trial, chance, volume)
     for workers in chance.sample(WORKERS, 3):
         writes = pick_writes(chance, volume, chance.choice([0, 1, 1, 2, 3]))
@@ -100,18 +76,14 @@ def updates_random(trial, seed, form):
 def updates_damaged(trial, seed, form):
     """Some files are others: the first fault is told, and what stands is what came before it, or there is none on the way."""
     chance = random.Random(f"damaged {seed} {form}")
-    volume = pick_volume(chance, *FORMS[form])
+    volume = pick_volume(chance, *form)
     files = trial.write(volume, pick_writes(chance, volume, chance.choice([1, 2, 3])))
     trial.lay_out(damage_some(chance, volume, files))
     writes = pick_writes(chance, volume, chance.choice([1, 1, 2]))
     trial.want_update(volume, writes, f"--workers={chance.choice(WORKERS)}")
 
 
-# Updates that are stated here.
-
-
-def line(length, chunk=1, **fields):
-    return Volume([length, 1, 1], [chunk, 1, 1], **fields)
+# Updates that are stated here
 
 
 def at(place, *values):
@@ -130,7 +102,6 @@ PAIR = line(2, sharding=Sharding(minishard_bits=1))
 JOINED = line(2, sharding=Sharding())
 TEN_ELEVEN = {(0, 0, 0): b"\n", (1, 0, 0): b"\v"}
 PAIR_SHARD = shard_of(1, [(0, 0, b"\n"), (1, 1, b"\v")])
-JOINED_SHARD = shard_of(0, [(0, 0, b"\n"), (0, 1, b"\v")])
 
 # Eight voxels, each a cell, in two shards of two minishards: 0 and 4, 1 and 5; 2 and 6, 3 and 7. The values count up from 1.
 EIGHT = line(8, sharding=Sharding(0, False, 1, 1))
@@ -147,8 +118,7 @@ STORED = [
     ("no boxes", SMALL, {"0-2_0-2_0-1": "01020304"}, [], {}, 0),
     ("no boxes over a damaged chunk", SMALL, {"0-2_0-2_0-1": "01"}, [], {}, 0),
     ("an offset below 0", SHIFTED, {"-3-1_0-1_0-1": "01020304"}, [at(-1, 9)], {"-3-1_0-1_0-1": "01020904"}, 1),
-    ("two channels", WIDE, {"0-2_0-1_0-1": "0100020003000400"}, [(along(1, 2), b"\t\0\b\0")],
-     {"0-2_0-1_0-1": "0100090003000800"}, 1),
+    ("two channels", WIDE, {"0-2_0-1_0-1": "0100020003000400"}, [(along(1, 2), b"\t\0\b\0")], {"0-2_0-1_0-1": "0100090003000800"}, 1),
     ("an edge chunk", EDGE, {"0-4_0-1_0-1": "01020304", "4-5_0-1_0-1": "05"}, [at(4, 9)], {"4-5_0-1_0-1": "09"}, 1),
     ("a box across two chunks", EDGE, {"0-4_0-1_0-1": "01020304"}, [at(3, 8, 9)], {"0-4_0-1_0-1": "01020308", "4-5_0-1_0-1": "09"}, 2),
     ("a damaged chunk that no box meets", ROW, {"0-1_0-1_0-1": "", "1-2_0-1_0-1": "02"}, [at(1, 9)], {"1-2_0-1_0-1": "09"}, 1),
@@ -190,11 +160,18 @@ def takes_other_spellings(trial):
 
 def keeps_many_rows(trial):
     """A minishard of more rows than a window of an index, some of which are missing; boxes at its ends and in the middle."""
-    volume = line(2500, sharding=Sharding(preshift=64))
-    trial.store(volume, {(number, 0, 0): bytes([number % 251]) for number in range(2500) if number % 7 != 3})
+    volume, held = line(2500, sharding=Sharding(preshift=64)), {number for number in range(2500) if number % 7 != 3}
+    trial.store(volume, {(number, 0, 0): bytes([number % 251]) for number in sorted(held)})
     update = trial.want_update(volume, [at(0, 9), at(1020, 9, 9, 9, 9, 9, 9, 9), at(2495, 9)], "--workers=2")
-    held = {number for number in range(2500) if number % 7 != 3}
     want(update.answer, stored(1, len(held | {0, 2495} | set(range(1020, 1027)))), "the model's answer")
+
+
+def leaves_scales_apart(trial):
+    """Another scale of the data set, whose folder is in this one's, stays."""
+    other = dataclasses.replace(SMALL, key="s/t")
+    trial.lay_out({**infos_of(SMALL, other), SMALL.path_of((0, 0, 0)): b"\1\2\3\4", other.path_of((0, 0, 0)): b"\1\2\3\4"})
+    trial.want_update(SMALL, [(box_in("0:1,0:1,0:1"), b"\t")])
+    trial.want_update(other, [(box_in("1:2,0:1,0:1"), b"\t")])
 
 
 # Damaged stores. Of a shard a few numbers of eight bytes are others, by their places, or its end is missing.
@@ -284,78 +261,34 @@ def tells_damaged_chunk(trial, volume, empty, box, told, may_stand, workers):
     want(len(update.files), may_stand, "the model's files")
 
 
-# Updates that stop.
+# Updates that stop. What is no object stays, and a pipe beside objects isn't noticed.
 
-THREE = {"d/s/0-1_0-1_0-1": b"\4", "d/s/1-2_0-1_0-1": b"\5", "d/s/2-3_0-1_0-1": b"\6"}
-NEW_THREE = {path: bytes([value[0] - 3]) for path, value in THREE.items()}
-ALL_THREE = at(0, 1, 2, 3)
+FOURS = {"d/s/0-1_0-1_0-1": b"\4", "d/s/1-2_0-1_0-1": b"\5", "d/s/2-3_0-1_0-1": b"\6"}
+THREE_RUN = update_run(ROW, FOURS, [at(0, 1, 2, 3)])
+THREE = {path: bytes([number]) for number, path in enumerate(FOURS, 1)}
+BESIDE = {"d/s/other": b"x", "d/s/pipe": PIPE, "d/s/0.shard": b"x"}
 
-# title, what stands instead of some files, what the output is, the line, and how many files are put
+# title, what stands instead of some files, the line, and how many files are put
 STOPPED = [
-    ("a folder in the first file's place", {"d/s/0-1_0-1_0-1": FOLDER}, subprocess.PIPE, "store fault", 0),
-    ("a folder in the third file's place", {"d/s/2-3_0-1_0-1": FOLDER}, subprocess.PIPE, "store fault", 2),
-    ("a pipe in the second file's place", {"d/s/1-2_0-1_0-1": PIPE}, subprocess.PIPE, "store fault", 0),
-    ("a device in the first file's place", {"d/s/0-1_0-1_0-1": DEVICE}, subprocess.PIPE, "store fault", 0),
-    ("the line to a full device", {}, open_full, "output fault", 3),
-    ("the line into a closed pipe", {}, open_closed_pipe, "output fault", 3),
+    ("a folder in the third file's place", {"d/s/2-3_0-1_0-1": FOLDER}, "store fault", 2),
+    ("a pipe in the second file's place", {"d/s/1-2_0-1_0-1": PIPE}, "store fault", 0),
+    ("a device in the first file's place", {"d/s/0-1_0-1_0-1": DEVICE}, "store fault", 0),
 ]
-
-
-def is_stopped(trial, instead, output, fault, count):
-    trial.lay_out({**infos_of(ROW), **{path: content for path, content in THREE.items() if path not in instead}, **instead})
-    trial.want("update d s", refused(fault), stream_of([ALL_THREE]), output=output)
-    found = {path: content for path, content in trial.files().items() if instead.get(path) != DEVICE}
-    wanted = {**THREE, **dict(list(NEW_THREE.items())[:count])}
-    want_files(found, {path: content for path, content in wanted.items() if path not in instead})
-
-
-def passes_over_others(trial):
-    """Files that are no objects stay, but what an earlier run left of an object that is put; a pipe beside them isn't noticed."""
-    trial.lay_out({**infos_of(ROW), **THREE, "d/s/0-1_0-1_0-1.part": bytes(9), "d/s/other.part": b"left", "d/s/other": b"x"})
-    trial.lay_out({"d/s/pipe": PIPE, "d/s/0.shard": b"x", "d/s/a/b": FOLDER})
-    trial.want("update d s", stored(3, 3), stream_of([ALL_THREE]))
-    want_files(trial.files(), {**NEW_THREE, "d/s/other.part": b"left", "d/s/other": b"x", "d/s/0.shard": b"x"})
-
 
 # Updates of the small data set that are refused; nothing is changed.
 
 UPDATE = ["update", "d", "s"]
-NO_COMMANDS = [
-    ["update"], ["update", "d"], [*UPDATE, "x"], ["UPDATE", "d", "s"], ["--workers=1", *UPDATE], [*UPDATE, "[0:4,0:2,0:1]"],
-    *(["update", dataset, "s"] for dataset in ("", "../d", "/d", "d/", "-d", "d" * 201, b"\xff")),
-    *(["update", "d", key] for key in ("", "..", "s s", "s" * 201, "é")),
-    *([*UPDATE, *options.split()] for options in ("--workers=0", "--workers=17", "--workers=01", "--workers", "--port=1", "--help")),
-    [*UPDATE, "--workers=1", "--workers=1"],
-]
-
 GOOD = stream_of([(box_in("1:2,1:2,0:1"), b"\t")])
 PADDED = "padded voxels 4194305 over 4194304"
 IN_SHARDS = {**with_info(**shards()), "d/s/0.shard": b"short"}
 
 # title, what is changed, the stream, the line
 REFUSED = [
-    ("no info, and no stream", {INFO_PATH: None}, b"", "info of d: absent"),
-    ("a broken info", {INFO_PATH: b"{"}, GOOD, "info of d: not json"),
     ("two chunk sizes", with_info(chunk_sizes=[[2, 2, 1], [4, 2, 1]]), GOOD, "several chunk sizes"),
-    ("an info that is a pipe", {INFO_PATH: PIPE}, GOOD, "store fault"),
     ("2^22 + 1 padded voxels, and no stream", padded(2**22 + 1), b"", PADDED),
-    ("no stream", {}, b"", "stream: bad magic"),
-    ("a stream of another format", {}, b"PVW2" + bytes(4), "stream: bad magic"),
-    ("too many writes", {}, head_of(65537), "stream: too many writes 65537"),
-    ("a stream that ends in a box", {}, GOOD[:40], "write 0: truncated"),
-    ("a stream that ends before the last value", {}, GOOD[:-1], "write 0: truncated"),
-    ("a byte behind the stream", {}, GOOD + b"\0", "stream: trailing bytes"),
-    ("a box of no voxels", {}, head_of(1) + bytes_of([0, 0, 0], [0, 1, 1]), "write 0: empty box"),
-    ("a box outside", {}, stream_of([(box_in("3:5,0:1,0:1"), b"\1\2")]), "write 0: outside scale"),
-    ("a second box outside", {}, stream_of([(box_in("0:1,0:1,0:1"), b"\1"), (box_in("-1:1,0:1,0:1"), b"\1\2")]), "write 1: outside scale"),
     ("a box outside over a damaged chunk", {FIRST: b""}, stream_of([(box_in("0:5,0:1,0:1"), bytes(5))]), "write 0: outside scale"),
     ("a box outside over a damaged shard", IN_SHARDS, stream_of([(box_in("0:5,0:1,0:1"), bytes(5))]), "write 0: outside scale"),
     ("a damaged shard", IN_SHARDS, GOOD, "shard 0 0: shard short index"),
-    ("a shard that is a pipe", {**IN_SHARDS, "d/s/0.shard": PIPE}, GOOD, "store fault"),
-    ("a damaged chunk", {FIRST: b"123"}, GOOD, "damaged 0,0,0: chunk length 3 wanted 4"),
-    ("a chunk of a byte more", {FIRST: b"12345"}, GOOD, "damaged 0,0,0: chunk length 5 wanted 4"),
-    ("a chunk that is a device", {FIRST: DEVICE}, GOOD, "store fault"),
-    ("a chunk that is a link to itself", {FIRST: LOOP}, GOOD, "store fault"),
     ("a chunks' folder that is a file", NO_FOLDER, GOOD, "store fault"),
     ("a raw chunk as a segmentation's", with_info({"data_type": "uint64"}, **SEGMENTED),
      stream_of([(box_in("1:2,1:2,0:1"), bytes(8))]), "damaged 0,0,0: seg channel 0"),
@@ -370,15 +303,7 @@ def refuses_folder_as_stream(trial):
         os.close(feed)
 
 
-def leaves_scales_apart(trial):
-    """Another scale of the data set, whose folder is in this one's, stays."""
-    other = dataclasses.replace(SMALL, key="s/t")
-    trial.lay_out({**infos_of(SMALL, other), SMALL.path_of((0, 0, 0)): b"\1\2\3\4", other.path_of((0, 0, 0)): b"\1\2\3\4"})
-    trial.want_update(SMALL, [(box_in("0:1,0:1,0:1"), b"\t")])
-    trial.want_update(other, [(box_in("1:2,0:1,0:1"), b"\t")])
-
-
-# Updates that are killed.
+# Updates that are killed
 
 KILLS = 8
 CUBES = {
@@ -388,7 +313,7 @@ CUBES = {
 }
 
 
-def pick_stream(chance, volume):
+def pick_cubes(chance, volume):
     """A box over most of a cube, and smaller ones of one value each over it."""
     inner = b"\1\2\3\4" * 62**3 if volume.block else chance.randbytes(62**3)
     begins = [[chance.randrange(44) for _ in range(3)] for _ in range(20)]
@@ -396,61 +321,22 @@ def pick_stream(chance, volume):
     return [([(1, 63)] * 3, inner), *cubes]
 
 
-def await_change(process, path):
-    """Waits until a file is replaced, or the process has ended."""
-    number = path.stat().st_ino
-    while process.poll() is None and path.stat().st_ino == number:
-        pass
-
-
-def is_killed(trial, before, update, stream, path, delay):
-    """An update that is killed some time after a file was replaced, and then run to its end. Gives how many files were put before."""
-    with tempfile.TemporaryDirectory(dir=trial.folder) as name:
-        own = dataclasses.replace(trial, folder=pathlib.Path(name))
-        shutil.copytree(before, own.folder / "d")
-        (own.folder / "stream").write_bytes(stream)
-        files = own.files()
-        with (own.folder / "stream").open("rb") as feed:
-            process = own.start("update d s", stdin=feed)
-            await_change(process, own.folder / path)
-            time.sleep(delay)
-            process.kill()
-            process.wait()
-        count = want_front(own.files(), files, update.files, parts_allowed=1)
-        own.want("update d s", update.answer, stream)
-        want_files(own.files(), {**files, **update.files}, "after a second run, file")
-    return count
-
-
-def is_killed_often(trial, volume):
-    """Each kill's title, and what is wrong or None; and whether some came in the middle of an update."""
+def rows_of_kills(trial, volume):
+    """Kills as each eighth of the files is replaced, every second one at once; on a busy machine they often come too late."""
     chance = random.Random(4)
-    base = dataclasses.replace(trial, folder=trial.folder / "base")
-    base.write(volume, pick_stream(chance, volume))
-    writes, before = pick_stream(chance, volume), base.folder / "before"
-    shutil.copytree(base.folder / "d", before)
-    update, stream, counts = base.want_update(volume, writes), stream_of(writes), []
+    held, _, _ = volume.files_after(pick_cubes(chance, volume))
+    run = update_run(volume, held, pick_cubes(chance, volume))
+    paths = list(run.put)
 
-    def is_between():
-        return any(0 < count < len(update.files) for count in counts)
+    def pick(number):
+        return paths[number % KILLS * len(paths) // KILLS], number % 2 * chance.uniform(0, 0.003)
 
-    # on a busy machine a kill often comes too late
-    for number in itertools.takewhile(lambda number: number < KILLS or number < 12 * KILLS and not is_between(), itertools.count()):
-        path = update.paths[number % KILLS * len(update.paths) // KILLS]
-        try:
-            # every second one at once
-            counts.append(is_killed(trial, before, update, stream, path, number % 2 * chance.uniform(0, 0.003)))
-            yield f"kill {number}", None
-        except Wrong as wrong:
-            yield f"kill {number}", str(wrong)
-    yield "a kill between the first file and the last", None if is_between() else f"there was none: {counts}"
+    return is_killed_often(trial, run, pick, KILLS, 12 * KILLS)
 
 
 def rows(count):
     for title, volume in CUBES.items():
-        yield f"kills, {title}", is_killed_often, volume
-    for command in NO_COMMANDS:
-        yield f"no command: {command!r:.120}", answers, changed(), command, refused("usage"), GOOD
+        yield f"kills, {title}", rows_of_kills, volume
     for title, change, feed, told in REFUSED:
         yield title, answers, changed(change), UPDATE, refused(told), feed
     yield "a folder as the stream", refuses_folder_as_stream
@@ -459,17 +345,21 @@ def rows(count):
     yield "other spellings", takes_other_spellings
     yield "a minishard of many rows", keeps_many_rows
     yield "two scales", leaves_scales_apart
-    yield "files beside objects", passes_over_others
-    for title, *case in STOPPED:
-        yield title, is_stopped, *case
+    yield "files beside objects", leaves, {**THREE_RUN.before, **BESIDE}, UPDATE, stored(3, 3), THREE, THREE_RUN.stream
+    for title, instead, fault, count_put in STOPPED:
+        put = dict(list(THREE.items())[:count_put])
+        before = {path: content for path, content in THREE_RUN.before.items() if path not in instead}
+        yield title, leaves, {**before, **instead}, UPDATE, refused(fault), put, THREE_RUN.stream
+    yield from rows_of_stops(THREE_RUN)
     for (title, *case), workers in itertools.product(DAMAGED_SHARDS, (1, 16)):
         yield f"damaged, {title}, {workers} workers", tells_damaged_shard, *case, workers
     for (title, *case), workers in itertools.product(DAMAGED_CHUNKS, WORKERS):
         yield f"damaged, {title}, {workers} workers", tells_damaged_chunk, *case, workers
-    for form, seed in itertools.product(FORMS, range(count)):
-        yield f"{form}, seed {seed}", updates_random, seed, form
-    for form, seed in itertools.product(FORMS, range(count // 3)):
-        yield f"{form}, damaged, seed {seed}", updates_damaged, seed, form
+    for (is_raw, in_shards), seed in itertools.product(FORMS, range(count)):
+        form = f"{'raw chunks' if is_raw else 'segmentations'} in {'shards' if in_shards else 'files'}, seed {seed}"
+        yield form, updates_random, seed, (is_raw, in_shards)
+        if seed < count // 3:
+            yield f"{form}, damaged", updates_damaged, seed, (is_raw, in_shards)
 
 
 if __name__ == "__main__":

@@ -13,14 +13,12 @@ import random
 import struct
 import sys
 
-from harness import DEVICE, FOLDER, LOOP, PIPE, answers, main, open_closed_pipe, open_full, want, want_ending
+from harness import FOLDER, PIPE, answers, main, open_closed_pipe, open_full, want, want_ending
 from model import (
-    OK, SEGMENTED, Sharding, Volume, along, box_in, breaks, damaged, info_of, infos_of, meets, printed, refused, rows_of, sound,
-    spell, verdict, voxels_in,
+    OK, SEGMENTED, Sharding, Volume, along, box_in, infos_of, line, meets, printed, refused, rows_of, sound, spell, verdict, voxels_in,
 )
-from model.breaks import DAMAGED_CELL, ascending
-from model.chance import damage_some, pick_box, pick_volume, pick_writes, with_numbers
-from model.small import FAR, FIRST, INFO_PATH, NO_CHUNKS, NO_FOLDER, SECOND, WHOLE, changed, padded, shards, wide_info, with_info
+from model.chance import FORMS, damage_some, pick_box, pick_volume, pick_writes, with_numbers
+from model.small import FIRST, NO_CHUNKS, NO_FOLDER, SECOND, WHOLE, changed, padded, shards, with_info
 
 SHARD = "0.shard"
 TOP = 2**64 - 1
@@ -36,23 +34,12 @@ def told(line):
     return printed(line) if line.startswith("cells ") else refused(line)
 
 
-def write_whole(trial, volume):
-    """Writes the values 1, 2, 3 and so on into the whole scale."""
-    count = voxels_in(volume.whole) * volume.channels
-    values = (bytes([number % 256]).ljust(volume.width, b"\0") for number in range(1, count + 1))
-    return trial.write(volume, [(volume.whole, b"".join(values))])
-
-
 # What is done to the files of a scale: each change is given the volume, and the bytes of each file by the last part of its name; it
 # gives the files that are others, or None where they are gone.
 
 
 def put(name, content):
     return lambda _volume, _files: {name: content}
-
-
-def gone(name):
-    return put(name, None)
 
 
 def cut_to(name, length):
@@ -63,13 +50,9 @@ def longer(name, more):
     return lambda _volume, files: {name: files[name] + more}
 
 
-def copied(name, other):
-    """The first file has the bytes of the second."""
-    return lambda _volume, files: {name: files[other]}
-
-
-def exchanged(name, other):
-    return lambda _volume, files: {name: files[other], other: files[name]}
+def copied(*names):
+    """Of each two names the first file has the bytes of the second."""
+    return lambda _volume, files: {name: files[other] for name, other in zip(names[::2], names[1::2])}
 
 
 def entry(minishard, start, end):
@@ -88,21 +71,17 @@ def row(minishard, number, name=SHARD, **stored):
     return change
 
 
-def change_files(trial, volume, files, changes):
-    """Changes the files of a scale on the disk; gives those that stand."""
+def is_told(trial, volume, changes, box, line, is_modelled=True):
+    """A scale of the values 1, 2, 3 and so on is written, and then its files are changed."""
+    count = voxels_in(volume.whole) * volume.channels
+    values = (bytes([number % 256]).ljust(volume.width, b"\0") for number in range(1, count + 1))
+    files = trial.write(volume, [(volume.whole, b"".join(values))])
     named = {path.removeprefix("d/s/"): content for path, content in files.items()}
     for change in changes:
         named.update(change(volume, named))
-    after = {volume.path(name): content for name, content in named.items()}
-    trial.lay_out(after)
-    return {path: content for path, content in after.items() if content is not None}
-
-
-def is_told(trial, volume, changes, box, line, is_modelled=True):
-    """A scale that was written, and then changed."""
-    files = change_files(trial, volume, write_whole(trial, volume), changes)
+    trial.lay_out({volume.path(name): content for name, content in named.items()})
     if is_modelled:
-        want_ending(verdict(volume, files, box), told(line), "the model")
+        want_ending(verdict(volume, trial.files(), box), told(line), "the model")
     trial.want_unchanged(call(box), told(line))
 
 
@@ -114,11 +93,10 @@ ALL = "cells 12 stored 12 absent 0"
 
 # title, changes, box, line
 IN_FILES = [
-    ("as it is", [], None, ALL),
-    ("a box of a voxel", [], box_in("2:3,2:3,8:9"), "cells 1 stored 1 absent 0"),
+    ("as it is", [], None, ALL), ("a box of a voxel", [], box_in("2:3,2:3,8:9"), "cells 1 stored 1 absent 0"),
     ("a box across cells", [], box_in("-1:1,1:3,7:8"), "cells 4 stored 4 absent 0"),
-    ("no chunk", [gone(P000), gone(P110)], None, "cells 12 stored 10 absent 2"),
-    ("no chunk in a box", [gone(P000)], box_in("-2:-1,0:1,7:8"), "cells 1 stored 0 absent 1"),
+    ("no chunk", [put(P000, None), put(P110, None)], None, "cells 12 stored 10 absent 2"),
+    ("no chunk in a box", [put(P000, None)], box_in("-2:-1,0:1,7:8"), "cells 1 stored 0 absent 1"),
     ("a byte less", [cut_to(P100, 15)], None, "damaged 1,0,0: chunk length 15 wanted 16"),
     ("a byte more", [longer(P100, b"x")], None, "damaged 1,0,0: chunk length 17 wanted 16"),
     ("many bytes more", [longer(P100, bytes(1000))], None, "damaged 1,0,0: chunk length 17 wanted 16"),
@@ -136,15 +114,13 @@ IN_FILES = [
 
 # A row of six cells of two bytes, the last of one, in two minishards of one shard: six bytes of chunks stand before the first index,
 # and five before the second. Behind its entries the shard has 155 bytes.
-SIX = Volume([11, 1, 1], [2, 1, 1], sharding=Sharding(minishard_bits=1))
+SIX = line(11, 2, sharding=Sharding(minishard_bits=1))
 SOUND = "cells 6 stored 6 absent 0"
 
 IN_A_SHARD = [
-    ("as it is", [], None, SOUND),
-    ("a box in one cell", [], along(10, 11), "cells 1 stored 1 absent 0"),
+    ("as it is", [], None, SOUND), ("a box in one cell", [], along(10, 11), "cells 1 stored 1 absent 0"),
     ("a box over two cells", [], along(3, 5), "cells 2 stored 2 absent 0"),
-    ("no shard", [gone(SHARD)], None, "cells 6 stored 0 absent 6"),
-    ("bytes behind the shard", [longer(SHARD, b"more")], None, SOUND),
+    ("no shard", [put(SHARD, None)], None, "cells 6 stored 0 absent 6"), ("bytes behind the shard", [longer(SHARD, b"more")], None, SOUND),
     # the way to an index
     ("an empty shard", [cut_to(SHARD, 0)], None, "damaged 0,0,0: shard short index"),
     ("a byte less than an entry", [cut_to(SHARD, 15)], None, "damaged 0,0,0: shard short index"),
@@ -192,8 +168,7 @@ IN_A_SHARD = [
     ("chunks behind the shard", [row(0, 0, start=1000)], None, "damaged 0,0,0: shard short chunk"),
     ("a chunk that ends with the shard", [row(1, 2, start=72)], None, SOUND),
     ("a chunk that ends a byte later", [row(1, 2, start=73)], None, "damaged 5,0,0: shard short chunk"),
-    ("chunks where others stand", [row(1, 0, start=0)], None, SOUND),
-    ("a chunk inside its own index", [row(0, 2, start=60)], None, SOUND),
+    ("chunks where others stand", [row(1, 0, start=0)], None, SOUND), ("a chunk inside its own index", [row(0, 2, start=60)], None, SOUND),
     # parts
     ("a fault of an index outside the box", [entry(1, 155, 83)], along(4, 6), "cells 1 stored 1 absent 0"),
     ("a fault of an index at a later cell", [entry(1, 155, 83)], along(5, 8), "damaged 3,0,0: shard bad range"),
@@ -218,12 +193,12 @@ IN_A_SHARD = [
 ]
 
 # Other ways from ids to shards and minishards, all with one voxel a cell.
-FOUR_SHARDS = Volume([8, 1, 1], [1, 1, 1], sharding=Sharding(shard_bits=2))
-IN_PAIRS = Volume([8, 1, 1], [1, 1, 1], sharding=Sharding(1, False, 1, 1))
-HASHED = Volume([2, 1, 1], [1, 1, 1], sharding=Sharding(0, True, 3, 4))
-MANY_SHARDS = Volume([12, 1, 1], [1, 1, 1], sharding=Sharding(shard_bits=5))
-ALL_IN_ONE = Volume([2, 1, 1], [1, 1, 1], sharding=Sharding(64, True))
-TWO_IN_ONE = Volume([2, 1, 1], [1, 1, 1], sharding=Sharding())
+FOUR_SHARDS = line(8, sharding=Sharding(shard_bits=2))
+IN_PAIRS = line(8, sharding=Sharding(1, False, 1, 1))
+HASHED = line(2, sharding=Sharding(0, True, 3, 4))
+MANY_SHARDS = line(12, sharding=Sharding(shard_bits=5))
+ALL_IN_ONE = line(2, sharding=Sharding(64, True))
+TWO_IN_ONE = line(2, sharding=Sharding())
 # The grid has 4 x 2 x 2 cells. Of the cells (3,0,0), (0,1,0), (1,1,0) and (0,0,1) the ids are 9, 2, 3 and 4.
 BLOCK = Volume([4, 2, 2], [1, 1, 1], sharding=Sharding())
 EIGHT = "cells 8 stored 8 absent 0"
@@ -231,8 +206,8 @@ EIGHT = "cells 8 stored 8 absent 0"
 # title, volume, changes, box, line
 IN_SHARDS = [
     ("four shards", FOUR_SHARDS, [], None, EIGHT),
-    ("a shard that is gone", FOUR_SHARDS, [gone("1.shard")], None, "cells 8 stored 6 absent 2"),
-    ("shards that are exchanged", FOUR_SHARDS, [exchanged("1.shard", "2.shard")], None, "misplaced 1 0 2"),
+    ("a shard that is gone", FOUR_SHARDS, [put("1.shard", None)], None, "cells 8 stored 6 absent 2"),
+    ("shards that are exchanged", FOUR_SHARDS, [copied("1.shard", "2.shard", "2.shard", "1.shard")], None, "misplaced 1 0 2"),
     ("a shard in another's place", FOUR_SHARDS, [copied("3.shard", SHARD)], None, "misplaced 3 0 0"),
     ("an id of another shard", FOUR_SHARDS, [row(0, 0, id=3)], None, "misplaced 0 0 3"),
     ("shards that no cell has", FOUR_SHARDS, [put("4.shard", b"x"), put("00.shard", b"x")], None, EIGHT),
@@ -258,64 +233,18 @@ IN_SHARDS = [
 ]
 
 
-# Segmentations: three cells in a row, of which the second is damaged.
-
-
-def tells_cell(trial, volume, chunk, line):
-    """The whole scale and the damaged cell are told, and the cell behind it is sound."""
-    files = trial.store(volume, {**ascending(volume), DAMAGED_CELL: chunk})
-    for box in (None, volume.box_of(DAMAGED_CELL)):
-        want_ending(verdict(volume, files, box), refused(damaged(DAMAGED_CELL, line)), "the model")
-        trial.want_unchanged(call(box), refused(damaged(DAMAGED_CELL, line)))
-    trial.want_unchanged(call(volume.box_of((2, 0, 0))), sound(1, 1))
-
-
-def takes_longest(trial, volume):
-    """A chunk with bytes behind it that nothing refers to, as long as a chunk may be, is sound."""
-    chunks = ascending(volume)
-    chunks[DAMAGED_CELL] = chunks[DAMAGED_CELL].ljust(volume.limit(DAMAGED_CELL), b"\xff")
-    trial.store(volume, chunks)
-    trial.want_unchanged(call(), sound(3, 3))
-
-
-# title, what breaks the chunk, each in a channel, in its last block or its first; the last one's line is told
-TWO_BREAKS = [
-    ("a lower channel first", [("3 bits", 1, False), ("a table behind the end", 0, True)]),
-    ("a lower block first", [("3 bits", 0, True), ("a table behind the end", 0, False)]),
-    ("bits before a table", [("a table behind the end", 0, False), ("3 bits", 0, False)]),
-    ("indices before a table", [("a table behind the end", 1, True), ("indices behind the end", 1, True)]),
-    ("headers before bits", [("3 bits", 0, False), ("headers behind the end", 0, False)]),
-    ("a channel's blocks before the next one's headers", [("headers behind the end", 1, False), ("3 bits", 0, True)]),
-]
-
-
-def rows_of_segmentations():
-    for form, volume in breaks.VOLUMES.items():
-        for title, chunk, line in breaks.every_break(volume):
-            yield f"{form}, {title}", tells_cell, volume, chunk, line
-        for title, two in TWO_BREAKS:
-            chunk, lines = breaks.broken(volume, *two)
-            yield f"{form}, {title}", tells_cell, volume, chunk, lines[-1]
-        yield f"{form}, the longest chunk", takes_longest, volume
-
-
 # Indexes of more rows than are read at once, and more indexes than are remembered; too many cells for the model.
-MANY_ROWS = Volume([2500, 1, 1], [1, 1, 1], sharding=Sharding(12, False, 1, 0))
-MANY_INDEXES = Volume([3000, 1, 1], [1, 1, 1], sharding=Sharding(minishard_bits=11))
+MANY_ROWS = line(2500, sharding=Sharding(12, False, 1, 0))
+MANY_INDEXES = line(3000, sharding=Sharding(minishard_bits=11))
 
 # title, volume, changes, box, line
 LARGE = [
     ("2,500 rows", MANY_ROWS, [], None, "cells 2500 stored 2500 absent 0"),
-    *(
-        (title, MANY_ROWS, [change], None, line)
-        for number in (1023, 1024, 2499)
-        for title, change, line in [
+    *((title, MANY_ROWS, [change], None, line) for number in (1023, 1024, 2499) for title, change, line in [
             (f"row {number} with an id twice", row(0, number, id=0), f"damaged 0,0,0: index id {number}"),
             (f"row {number} in another index", row(0, number, id=4096), f"misplaced 0 0 {number + 4095}"),
             (f"row {number} behind 64 bits", row(0, number, start=TOP - number), f"damaged 0,0,0: index start {number}"),
-            (f"a chunk of row {number}", row(0, number, size=0), f"damaged {number},0,0: chunk length 0 wanted 1"),
-        ]
-    ),
+            (f"a chunk of row {number}", row(0, number, size=0), f"damaged {number},0,0: chunk length 0 wanted 1")]),
     ("the last row at the first cell", MANY_ROWS, [row(0, 2499, id=0)], along(0, 1), "damaged 0,0,0: index id 2499"),
     ("the first row at the last cell", MANY_ROWS, [row(0, 0, id=4096)], along(2499, 2500), "misplaced 0 0 4096"),
     ("2,048 indexes", MANY_INDEXES, [], None, "cells 3000 stored 3000 absent 0"),
@@ -325,10 +254,12 @@ LARGE = [
     ("the last index", MANY_INDEXES, [entry(2047, 9, 8)], None, "damaged 2047,0,0: shard bad range"),
 ]
 
-# Files that are too large to be read whole.
-ONE = Volume([1, 1, 1], [1, 1, 1])
-ONE_IN_A_SHARD = Volume([1, 1, 1], [1, 1, 1], sharding=Sharding(preshift=64))
+# Files that are too large for the model: with holes, or with an index of 2^22 rows.
+ONE = line(1)
+ONE_IN_A_SHARD = line(1, sharding=Sharding(preshift=64))
+LONGEST = line(1, sharding=Sharding(63, False, 1, 0))
 FAR_BEHIND = 2**36
+LAST_ROW = 2**22 - 1
 
 
 def far_index(start):
@@ -336,28 +267,26 @@ def far_index(start):
     return {0: [FAR_BEHIND + 1, FAR_BEHIND + 25], 16 + FAR_BEHIND + 1: [0, start, 1]}
 
 
-def rows_of_a_hole(count):
-    """An index of so many rows that are a hole."""
-    return {0: [0, 24 * count], 24 * count: [0, 0]}
+def longest_index(numbers):
+    """An index of 2^22 rows, with other numbers by column and row. Its ids are 0, 1, 2 and so on; all chunks but the first are empty."""
+    columns = [array.array("Q", [1]) * 2**22, array.array("Q", bytes(2**25)), array.array("Q", bytes(2**25))]
+    for (column, number), value in {(0, 0): 0, (2, 0): 1, **numbers}.items():
+        columns[column][number] = value
+    for column in columns:
+        if sys.byteorder == "big":
+            column.byteswap()
+    return struct.pack("<4Q", 1, 1 + 24 * 2**22, 0, 0) + b"x" + b"".join(column.tobytes() for column in columns)
 
 
-# title, volume, the path of the one file, its numbers and where they stand behind holes, line
-WITH_HOLES = [
+# title, volume, numbers of its one file and where they stand behind holes, line
+ONE_FILE = [
     ("an index behind a hole", ONE_IN_A_SHARD, far_index(FAR_BEHIND), "cells 1 stored 1 absent 0"),
     ("a chunk behind its index", ONE_IN_A_SHARD, far_index(2 * FAR_BEHIND), "damaged 0,0,0: shard short chunk"),
-    ("2^22 rows of a hole", ONE_IN_A_SHARD, rows_of_a_hole(2**22), "damaged 0,0,0: index id 1"),
-    ("2^22 + 1 rows of a hole", ONE_IN_A_SHARD, rows_of_a_hole(2**22 + 1), "damaged 0,0,0: shard too many rows 4194305"),
+    ("2^22 rows of a hole", ONE_IN_A_SHARD, {0: [0, 24 * 2**22], 24 * 2**22: [0, 0]}, "damaged 0,0,0: index id 1"),
+    ("2^22 + 1 rows of a hole", ONE_IN_A_SHARD, {0: [0, 24 * (2**22 + 1)], 24 * (2**22 + 1): [0, 0]},
+     "damaged 0,0,0: shard too many rows 4194305"),
     ("a chunk of 64 GiB", ONE, {FAR_BEHIND: [0]}, "damaged 0,0,0: chunk length 2 wanted 1"),
 ]
-
-
-def is_told_of_holes(trial, volume, numbers, line):
-    content = {place: struct.pack(f"<{len(values)}Q", *values) for place, values in numbers.items()}
-    trial.lay_out({**infos_of(volume), volume.path_of((0, 0, 0)): content})
-    trial.want(call(), told(line))
-
-
-LAST_ROW = 2**22 - 1
 
 # title, numbers of an index of 2^22 rows by column and row, line
 LONGEST_INDEX = [
@@ -367,23 +296,20 @@ LONGEST_INDEX = [
 ]
 
 
-def is_told_of_longest_index(trial, numbers, line):
-    """The ids are 0, 1, 2 and so on, and all chunks but the first are empty."""
-    columns = [array.array("Q", [1]) * 2**22, array.array("Q", bytes(2**25)), array.array("Q", bytes(2**25))]
-    for (column, number), value in {(0, 0): 0, (2, 0): 1, **numbers}.items():
-        columns[column][number] = value
-    for column in columns:
-        if sys.byteorder == "big":
-            column.byteswap()
-    front = struct.pack("<4Q", 1, 1 + 24 * 2**22, 0, 0) + b"x"
-    volume = Volume([1, 1, 1], [1, 1, 1], sharding=Sharding(63, False, 1, 0))
-    trial.lay_out({**infos_of(volume), f"d/s/{SHARD}": front + b"".join(column.tobytes() for column in columns)})
-    trial.want(call(), told(line))
+def is_told_of_one_file(trial, volume, numbers, text):
+    content = {place: struct.pack(f"<{len(values)}Q", *values) for place, values in numbers.items()}
+    trial.lay_out({**infos_of(volume), volume.path_of((0, 0, 0)): content})
+    trial.want(call(), told(text))
+
+
+def is_told_of_longest_index(trial, numbers, text):
+    trial.lay_out({**infos_of(LONGEST), LONGEST.path(SHARD): longest_index(numbers)})
+    trial.want(call(), told(text))
 
 
 # Scales of every form.
 BLOCKS = {"raw": None, "segmentation": (2, 3, 1)}
-FORMS = [
+SHARDINGS = [
     None, Sharding(), Sharding(minishard_bits=1), Sharding(shard_bits=3), Sharding(1, True, 2, 3), Sharding(2, False, 2, 2),
     Sharding(3, True, 0, 6), Sharding(0, True, 6, 5), Sharding(63, True, 1, 1), Sharding(64, True, 3, 5), Sharding(64, False, 3, 61),
 ]
@@ -415,9 +341,8 @@ def judges_random(trial, seed, is_raw, in_shards):
     volume = pick_volume(chance, is_raw, in_shards)
     boxes = [pick_box(chance, volume) for _ in range(3)]
     files = is_sound(trial, volume, pick_writes(chance, volume, chance.randint(0, 4)), boxes[:1])
-    after = damage_some(chance, volume, files)
-    trial.lay_out(after)
-    files = {path: content for path, content in after.items() if content is not None}
+    trial.lay_out(damage_some(chance, volume, files))
+    files = trial.files()
     for box in (None, *boxes):
         trial.want_unchanged(call(box), verdict(volume, files, box))
     if verdict(volume, files)[0] == OK:
@@ -427,22 +352,6 @@ def judges_random(trial, seed, is_raw, in_shards):
 
 # Runs over the small data set.
 
-
-def words(*more, dataset="d", key="s"):
-    return ["verify", dataset, key, *more]
-
-
-# Command lines that are none.
-NO_COMMANDS = [
-    ["verify"], ["verify", "d"], ["VERIFY", "d", "s"], ["--workers=1", *words()],
-    *(words(dataset=dataset) for dataset in ("", "d/../d", "-d", b"\xff")),
-    *(words(key=key) for key in ("", "../s", "s" * 201)),
-    *(words(WHOLE, more) for more in ("x", WHOLE, "", "--workers=1")),
-    *(words(option) for option in ("--workers=1", f"--box={WHOLE}", "--help", "--")),
-    *(words(box) for box in ("", "0:4,0:2,0:1", "[0:1,0:1]", "[0:4, 0:2,0:1]", "[0:4,01:2,0:1]", "[0:4,1:1,0:1]")),
-    words("[0:2199023255553,0:2,0:1]"), words("[0:4,1:1,0:1]", dataset="e"),
-]
-
 TOO_LONG = with_info(size=[2**22 + 1, 1, 1], chunk=[1, 1, 1])
 LARGEST = with_info(size=[2**40] * 3, chunk=[1, 1, 1])
 OUTSIDE = f"[0:{2**40},0:{2**40},-1:1]"
@@ -451,70 +360,45 @@ CELLS = "too many cells 4194305"
 
 # title, what is changed, words, line. First come the words, then the info, the box, the number of cells, and then the cells.
 REFUSED = [
-    ("no info", {INFO_PATH: None}, words(), "info of d: absent"),
-    ("no info, with a box", {INFO_PATH: None}, words(FAR), "info of d: absent"),
-    ("no dataset", {}, words(dataset="e"), "info of e: absent"),
-    ("no such key", {}, words(key="t"), "info of d: scale absent"),
-    ("no such key, with a box", {}, words(FAR, key="t"), "info of d: scale absent"),
-    ("an info cut off", {INFO_PATH: info_of([4, 2, 1], [2, 2, 1])[:-1]}, words(), "info of d: not json"),
-    ("an encoding of pictures", with_info(encoding="jpeg"), words(), "info of d: unsupported encoding"),
-    ("2^24 + 1 padded voxels", padded(2**24 + 1), words(FAR), "info of d: limit padded"),
-    ("a sharded scale of 96 bits", {INFO_PATH: wide_info()}, words(FAR), "info of d: limit morton_bits"),
-    ("a box past the end", {}, words("[0:5,0:2,0:1]"), f"box [0:5,0:2,0:1] outside {WHOLE}"),
-    ("a box before the begin", {}, words("[-1:4,0:2,0:1]"), f"box [-1:4,0:2,0:1] outside {WHOLE}"),
-    ("a box with 2^41", {}, words(FAR), f"box {FAR} outside {WHOLE}"),
-    ("a box before an offset", with_info(voxel_offset=[-3, 5, 7]), words("[-4:1,5:7,7:8]"),
-     "box [-4:1,5:7,7:8] outside [-3:1,5:7,7:8]"),
-    ("a box outside, of a damaged scale", {FIRST: b""}, words("[0:4,0:3,0:1]"), f"box [0:4,0:3,0:1] outside {WHOLE}"),
-    ("a box outside, of too many cells", LARGEST, words(OUTSIDE), f"box {OUTSIDE} outside [0:{2**40},0:{2**40},0:{2**40}]"),
-    ("2^22 + 1 cells", TOO_LONG, words(), CELLS),
-    ("a box of 2^22 + 1 cells", LARGEST, words(f"[7:{2**22 + 8},3:4,9:10]"), CELLS),
-    ("2^120 cells", LARGEST, words(), f"too many cells {2**120}"),
-    ("2^64 cells in shards", with_info(size=[2**22, 2**21, 2**21], chunk=[1, 1, 1], **shards()), words(), f"too many cells {2**64}"),
-    ("a voxel of each of 2^23 cells", with_info(size=[2**24, 2, 1], chunk=[4, 1, 1]), words(f"[3:{2**24 - 3},0:2,0:1]"),
+    ("a box outside, of too many cells", LARGEST, [OUTSIDE], f"box {OUTSIDE} outside [0:{2**40},0:{2**40},0:{2**40}]"),
+    ("2^22 + 1 cells", TOO_LONG, [], CELLS), ("a box of 2^22 + 1 cells", LARGEST, [f"[7:{2**22 + 8},3:4,9:10]"], CELLS),
+    ("2^120 cells", LARGEST, [], f"too many cells {2**120}"),
+    ("2^64 cells in shards", with_info(size=[2**22, 2**21, 2**21], chunk=[1, 1, 1], **shards()), [], f"too many cells {2**64}"),
+    ("a voxel of each of 2^23 cells", with_info(size=[2**24, 2, 1], chunk=[4, 1, 1]), [f"[3:{2**24 - 3},0:2,0:1]"],
      f"too many cells {2**23}"),
-    ("too many cells, the first a pipe", {**TOO_LONG, "d/s/0-1_0-1_0-1": PIPE}, words(), CELLS),
-    ("too many cells, the first damaged", {**TOO_LONG, "d/s/0-1_0-1_0-1": b""}, words(), CELLS),
-    ("a damaged chunk", {SECOND: b"123"}, words(), "damaged 1,0,0: chunk length 3 wanted 4"),
-    ("a raw chunk as a segmentation's", with_info({"data_type": "uint64"}, **SEGMENTED), words(), "damaged 0,0,0: seg channel 0"),
-    ("a short shard", {**IN_ONE, "d/s/0.shard": b"short"}, words(), "damaged 0,0,0: shard short index"),
-    ("an info that is a pipe", {INFO_PATH: PIPE}, words(), "store fault"),
-    ("a chunk that is a pipe", {SECOND: PIPE}, words(), "store fault"),
-    ("a chunk that is a link to itself", {SECOND: LOOP}, words(), "store fault"),
-    ("a chunk that is a device", {FIRST: DEVICE}, words(), "store fault"),
-    ("a shard that is a pipe", {**IN_ONE, "d/s/0.shard": PIPE}, words(), "store fault"),
-    ("a pipe before a damaged chunk", {FIRST: PIPE, SECOND: b""}, words(), "store fault"),
-    ("a damaged chunk before a pipe", {FIRST: b"", SECOND: PIPE}, words(), "damaged 0,0,0: chunk length 0 wanted 4"),
+    ("too many cells, the first a pipe", {**TOO_LONG, "d/s/0-1_0-1_0-1": PIPE}, [], CELLS),
+    ("too many cells, the first damaged", {**TOO_LONG, "d/s/0-1_0-1_0-1": b""}, [], CELLS),
+    ("a damaged chunk", {SECOND: b"123"}, [], "damaged 1,0,0: chunk length 3 wanted 4"),
+    ("a raw chunk as a segmentation's", with_info({"data_type": "uint64"}, **SEGMENTED), [], "damaged 0,0,0: seg channel 0"),
+    ("a short shard", {**IN_ONE, "d/s/0.shard": b"short"}, [], "damaged 0,0,0: shard short index"),
+    ("a pipe before a damaged chunk", {FIRST: PIPE, SECOND: b""}, [], "store fault"),
+    ("a damaged chunk before a pipe", {FIRST: b"", SECOND: PIPE}, [], "damaged 0,0,0: chunk length 0 wanted 4"),
 ]
 
 # title, what is changed, words, line
 SERVED = [
-    ("a sound dataset", {}, words(), "cells 2 stored 2 absent 0"),
-    ("the whole scale as a box", {}, words(WHOLE), "cells 2 stored 2 absent 0"),
-    ("a voxel", {}, words("[2:3,1:2,0:1]"), "cells 1 stored 1 absent 0"),
-    ("a pipe outside the box", {SECOND: PIPE}, words("[0:2,0:2,0:1]"), "cells 1 stored 1 absent 0"),
-    ("a missing chunk", {FIRST: None}, words(), "cells 2 stored 1 absent 1"),
-    ("no chunks", NO_CHUNKS, words(), "cells 2 stored 0 absent 2"),
-    ("a folder in a chunk's place", {FIRST: FOLDER}, words(), "cells 2 stored 1 absent 1"),
-    ("a file in the place of the chunks' folder", NO_FOLDER, words(), "cells 2 stored 0 absent 2"),
-    ("a shard that is missing", IN_ONE, words(), "cells 2 stored 0 absent 2"),
-    ("a shard that is a folder", {**IN_ONE, "d/s/0.shard": FOLDER}, words(), "cells 2 stored 0 absent 2"),
-    ("a box in the largest scale", LARGEST, words(f"[{2**40 - 9}:{2**40},{2**39}:{2**39 + 1},7:8]"), "cells 9 stored 0 absent 9"),
-    ("more than 2^30 bytes", {**NO_CHUNKS, **with_info(size=[2048, 2048, 512], chunk=[128, 128, 128])}, words(),
+    ("a sound dataset", {}, [], "cells 2 stored 2 absent 0"), ("the whole scale as a box", {}, [WHOLE], "cells 2 stored 2 absent 0"),
+    ("a voxel", {}, ["[2:3,1:2,0:1]"], "cells 1 stored 1 absent 0"),
+    ("a pipe outside the box", {SECOND: PIPE}, ["[0:2,0:2,0:1]"], "cells 1 stored 1 absent 0"),
+    ("a missing chunk", {FIRST: None}, [], "cells 2 stored 1 absent 1"), ("no chunks", NO_CHUNKS, [], "cells 2 stored 0 absent 2"),
+    ("a folder in a chunk's place", {FIRST: FOLDER}, [], "cells 2 stored 1 absent 1"),
+    ("a file in the place of the chunks' folder", NO_FOLDER, [], "cells 2 stored 0 absent 2"),
+    ("a shard that is missing", IN_ONE, [], "cells 2 stored 0 absent 2"),
+    ("a shard that is a folder", {**IN_ONE, "d/s/0.shard": FOLDER}, [], "cells 2 stored 0 absent 2"),
+    ("a box in the largest scale", LARGEST, [f"[{2**40 - 9}:{2**40},{2**39}:{2**39 + 1},7:8]"], "cells 9 stored 0 absent 9"),
+    ("more than 2^30 bytes", {**NO_CHUNKS, **with_info(size=[2048, 2048, 512], chunk=[128, 128, 128])}, [],
      "cells 1024 stored 0 absent 1024"),
-    ("2^22 + 1 padded voxels", padded(2**22 + 1), words(), "cells 1 stored 0 absent 1"),
+    ("2^22 + 1 padded voxels", padded(2**22 + 1), [], "cells 1 stored 0 absent 1"),
 ]
 
 
 def puts_out(trial, change, opened, line):
-    answers(trial, changed(change), words(), refused(line), output=opened)
+    answers(trial, changed(change), call(), refused(line), output=opened)
 
 
 def rows(count):
-    for command in NO_COMMANDS:
-        yield f"no command: {command!r:.120}", answers, changed(), command, refused("usage")
-    for title, change, command, line in REFUSED + SERVED:
-        yield title, answers, changed(change), command, told(line)
+    for title, change, more, line in REFUSED + SERVED:
+        yield title, answers, changed(change), [*call(), *more], told(line)
     for title, opened in (("a full device", open_full), ("a closed pipe", open_closed_pipe)):
         yield f"the line to {title}", puts_out, {}, opened, "output fault"
         yield f"no line to {title}", puts_out, {FIRST: b""}, opened, "damaged 0,0,0: chunk length 0 wanted 4"
@@ -524,16 +408,15 @@ def rows(count):
         yield f"in a shard, {title}", is_told, SIX, *case
     for title, *case in IN_SHARDS:
         yield f"in shards, {title}", is_told, *case
-    yield from rows_of_segmentations()
     for title, *case in LARGE:
         yield title, is_told, *case, False
-    for title, *case in WITH_HOLES:
-        yield title, is_told_of_holes, *case
+    for title, *case in ONE_FILE:
+        yield title, is_told_of_one_file, *case
     for title, *case in LONGEST_INDEX:
         yield title, is_told_of_longest_index, *case
-    for (encoding, block), sharding in itertools.product(BLOCKS.items(), FORMS):
+    for (encoding, block), sharding in itertools.product(BLOCKS.items(), SHARDINGS):
         yield f"{encoding}, {sharding}", judges_form, block, sharding
-    for seed, is_raw, in_shards in itertools.product(range(count), (True, False), (True, False)):
+    for seed, (is_raw, in_shards) in itertools.product(range(count), FORMS):
         form = f"{'raw' if is_raw else 'segmentation'}, {'in shards' if in_shards else 'in files'}"
         yield f"at random, {form}, seed {seed}", judges_random, seed, is_raw, in_shards
 

@@ -6,29 +6,28 @@
 What is due is stated here, and worked out voxel by voxel. A cutout of a large scale gets by with the memory of one layer of its
 chunks.
 """
-import dataclasses
 import itertools
 import os
 import random
 import subprocess
 import tempfile
 
-from harness import FOLDER, LIMIT, file_limit, main, memory_limit, open_closed_pipe, open_full, want, want_ending, want_files
-from model import MEMORY, OK, Values, Volume, box_in, infos_of, refused, stored, stream_of, voxels_in
+from harness import FOLDER, LIMIT, file_limit, main, memory_limit, want, want_ending, want_files
+from model import MEMORY, OK, Values, Volume, box_in, infos_of, line, refused, stored, stream_of, voxels_in
 from model.chance import pick_box
+from runs import leaves, rows_of_stops, write_run
 
 SMALL = Volume([2, 2, 1], [2, 2, 1])
-EDGE = Volume([5, 1, 1], [4, 1, 1])
-SHIFTED = Volume([4, 1, 1], [4, 1, 1], offset=(-3, 0, 0))
-WIDE = Volume([2, 1, 1], [2, 1, 1], channels=2, width=2)
-ROW = Volume([3, 1, 1], [1, 1, 1])
+EDGE = line(5, 4)
+SHIFTED = line(4, 4, offset=(-3, 0, 0))
+WIDE = line(2, 2, channels=2, width=2)
+ROW = line(3)
 
 ALL_FOUR = (SMALL.whole, bytes([1, 2, 3, 4]))
 LAST = (box_in("1:2,1:2,0:1"), bytes([9]))
 ACROSS = (box_in("3:5,0:1,0:1"), bytes([7, 8]))
 ALL_FIVE = (EDGE.whole, bytes([1, 2, 3, 4, 5]))
 ALL_THREE = (ROW.whole, bytes([1, 2, 3]))
-CHUNK = "d/s/0-2_0-2_0-1"
 
 # title, scale, writes, the objects afterwards
 STORED = [
@@ -54,40 +53,15 @@ def leaves_objects(trial, volume, writes, objects, *options):
     trial.want_values(volume, Values(volume, writes), [volume.whole])
 
 
-def refuses_a_second(trial):
-    trial.write(SMALL, [ALL_FOUR])
-    trial.want("write d s", refused("folder not empty"), stream_of([LAST]))
-    want_files(trial.files(), {CHUNK: bytes([1, 2, 3, 4])})
+# A small data set, and one whose second scale has a slash in its key.
+FOUR = {**infos_of(SMALL), "d/s/0-2_0-2_0-1": bytes([1, 2, 3, 4])}
+TWO_SCALES = {**FOUR, **infos_of(SMALL, Volume([2, 2, 1], [2, 2, 1], key="t/u"))}
+WRITE = "write d s"
 
 
-def writes_scales_apart(trial):
-    """Two scales of one data set; the second's key has a slash, and no folder stands yet."""
-    other = dataclasses.replace(SMALL, key="t/u")
-    trial.write(SMALL, [ALL_FOUR])
-    trial.lay_out(infos_of(SMALL, other))
-    trial.want("write d t/u", stored(1, 1), stream_of([LAST]))
-    want_files(trial.files(), {CHUNK: bytes([1, 2, 3, 4]), "d/t/u/0-2_0-2_0-1": bytes([0, 0, 0, 9])})
-
-
-def passes_over_leftovers(trial):
-    """Files that end in .part and empty folders are no objects; a leftover of the object's own is replaced."""
-    trial.lay_out({**infos_of(SMALL), "d/s/a/b": FOLDER, f"{CHUNK}.part": bytes(100), "d/s/other.part": b"left"})
-    trial.want("write d s", stored(1, 1), stream_of([ALL_FOUR]))
-    want_files(trial.files(), {CHUNK: bytes([1, 2, 3, 4]), "d/s/other.part": b"left"})
-
-
-def keeps_a_front(trial):
-    """The store fails at the second of three objects: the first stands."""
-    trial.lay_out({**infos_of(ROW), "d/s/1-2_0-1_0-1": FOLDER})
-    trial.want("write d s", refused("store fault"), stream_of([ALL_THREE]))
-    want_files(trial.files(), {"d/s/0-1_0-1_0-1": b"\1"})
-
-
-def leaves_no_half(trial):
+def leaves_no_half(trial, stream):
     """The system takes a part of an object alone: nothing is left of it."""
-    trial.lay_out(infos_of(SMALL))
-    trial.want("write d s", refused("store fault"), stream_of([ALL_FOUR]), prepare=file_limit(1))
-    want_files(trial.files(), {})
+    leaves(trial, infos_of(SMALL), WRITE, refused("store fault"), {}, stream, prepare=file_limit(1))
 
 
 def may_not_write(trial):
@@ -95,28 +69,19 @@ def may_not_write(trial):
     trial.lay_out({**infos_of(SMALL), "d/s": FOLDER})
     (trial.folder / "d/s").chmod(0o555)
     if not os.access(trial.folder / "d/s", os.W_OK):
-        trial.want("write d s", refused("store fault"), stream_of([ALL_FOUR]))
-        want_files(trial.files(), {})
-
-
-def stands_without_a_line(trial, opened):
-    """The output takes no line: all objects stand."""
-    trial.lay_out(infos_of(ROW))
-    trial.want("write d s", refused("output fault"), stream_of([ALL_THREE]), output=opened)
-    want_files(trial.files(), ROW.files(ROW.chunks_after([ALL_THREE])))
+        leaves(trial, {}, WRITE, refused("store fault"), {}, stream_of([ALL_FOUR]))
 
 
 def takes_pieces(trial, length):
     """A stream that comes in pieces is the same stream."""
-    writes = [ALL_FIVE, ACROSS]
-    trial.lay_out(infos_of(EDGE))
-    stream, pipe = stream_of(writes), subprocess.PIPE
-    process = trial.start("write d s", stdin=pipe, stdout=pipe, stderr=pipe, bufsize=0)
-    for at in range(0, len(stream), length):
-        process.stdin.write(stream[at : at + length])
+    run, pipe = write_run(EDGE, [ALL_FIVE, ACROSS]), subprocess.PIPE
+    trial.lay_out(run.before)
+    process = trial.start(run.words, stdin=pipe, stdout=pipe, stderr=pipe, bufsize=0)
+    for at in range(0, len(run.stream), length):
+        process.stdin.write(run.stream[at : at + length])
     output, errors = process.communicate(timeout=LIMIT)
     want_ending((process.returncode, output, errors), stored(2, 2))
-    want_files(trial.files(), EDGE.files(EDGE.chunks_after(writes)))
+    want_files(trial.files(), run.put)
 
 
 # A scale of 512 x 512 x 512 bytes in eight layers of chunks, each a file that is a hole; and what its cutout may take besides one
@@ -163,14 +128,12 @@ def rows():
     _, *three = STORED[-1]
     for count in (1, 2, 3, 16):
         yield f"{count} workers", leaves_objects, *three, f"--workers={count}"
-    yield "a second write", refuses_a_second
-    yield "a second scale", writes_scales_apart
-    yield "leftovers", passes_over_leftovers
-    yield "a folder in an object's place", keeps_a_front
-    yield "a file that can't grow", leaves_no_half
+    last, four = stream_of([LAST]), stream_of([ALL_FOUR])
+    yield "a second write", leaves, FOUR, WRITE, refused("folder not empty"), {}, last
+    yield "a second scale", leaves, TWO_SCALES, "write d t/u", stored(1, 1), {"d/t/u/0-2_0-2_0-1": bytes([0, 0, 0, 9])}, last
+    yield "a file that can't grow", leaves_no_half, four
     yield "a folder that can't be written", may_not_write
-    yield "a write's line to a full device", stands_without_a_line, open_full
-    yield "a write's line into a closed pipe", stands_without_a_line, open_closed_pipe
+    yield from rows_of_stops(write_run(ROW, [ALL_THREE]))
     for length in (1, 7, 48):
         yield f"pieces of {length}", takes_pieces, length
     yield "a large cutout in the memory of a layer", cuts_in_memory, LAYER_BYTES + MORE_BYTES, OK, 512**3, b""

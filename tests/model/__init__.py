@@ -9,4 +9,4 @@ from .faults import DAMAGED, DOOR, FEED, INFO, MEMORY, OK, OUTPUT, REQUEST, STOR
 from .lists import answer, draw_boxes, generated, sum_of
 from .shards import Sharding, files_of, rows_of, shard_of
 from .updates import update_of
-from .volumes import SEGMENTED, SHARDING, Values, Volume, info_of, infos_of
+from .volumes import SEGMENTED, SHARDING, Values, Volume, info_of, infos_of, line

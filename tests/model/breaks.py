@@ -26,49 +26,32 @@ def ascending(volume):
     return chunks
 
 
-# What is done to the words of a chunk, and the line of its fault. `head` is the first word of the block's header.
-
-
-def break_channel(shape, words, channel, _block, _head):
-    words[channel] = len(words) - 2 * len(shape.blocks()) + 1
-    return f"seg channel {channel}"
-
-
-def break_bits(bits):
-    def change(_shape, words, channel, block, head):
-        words[head] = words[head] % 2**24 | bits << 24
-        return f"seg bits {channel} {block} {bits}"
-
-    return change
-
-
-def break_values(shape, words, channel, block, head):
-    """The indices end one word behind the chunk."""
-    count = packed_words(shape.block_voxels(), words[head] >> 24)
-    words[head + 1] = len(words) - words[channel] - count + 1
-    return f"seg values {channel} {block}"
-
-
-def break_table(voxel):
-    """The last word of this voxel's entry lies behind the chunk."""
-
-    def change(shape, words, channel, block, head):
-        entry = len(words) - words[channel] - (voxel + 1) * (shape.width // 4) + 1
-        words[head] = entry | words[head] >> 24 << 24
-        return f"seg table {channel} {block} {voxel}"
-
-    return change
-
-
+# What is done to the words of a chunk, and with which number.
 BREAKS = {
-    "headers behind the end": break_channel,
-    "3 bits": break_bits(3),
-    "33 bits": break_bits(33),
-    "255 bits": break_bits(255),
-    "indices behind the end": break_values,
-    "a table behind the end": break_table(0),
-    "a table's second entry behind the end": break_table(1),
+    "headers behind the end": ("channel", 0),
+    "3 bits": ("bits", 3),
+    "33 bits": ("bits", 33),
+    "255 bits": ("bits", 255),
+    "indices behind the end": ("values", 0),
+    "a table behind the end": ("table", 0),
+    "a table's second entry behind the end": ("table", 1),
 }
+
+
+def break_words(title, shape, words, channel, block):
+    """Changes a word of a channel, or of a block of it, so that it leads one word behind the chunk, or says a number. Gives the line."""
+    (part, number), head, left = BREAKS[title], words[channel] + 2 * block, len(words) - words[channel]
+    if part == "channel":
+        words[channel] = len(words) - 2 * len(shape.blocks()) + 1
+        return f"seg channel {channel}"
+    if part == "bits":
+        words[head] = words[head] % 2**24 | number << 24
+    elif part == "values":
+        words[head + 1] = left - packed_words(shape.block_voxels(), words[head] >> 24) + 1
+        return f"seg values {channel} {block}"
+    else:
+        words[head] = left - (number + 1) * (shape.width // 4) + 1 | words[head] >> 24 << 24
+    return f"seg {part} {channel} {block} {number}"
 
 
 def broken(volume, *breaks):
@@ -77,10 +60,8 @@ def broken(volume, *breaks):
     line of each.
     """
     shape, words = volume.shape(DAMAGED_CELL), words_of(ascending(volume)[DAMAGED_CELL])
-    lines = []
-    for title, channel, last in breaks:
-        block = len(shape.blocks()) - 1 if last else 0
-        lines.append(BREAKS[title](shape, words, channel, block, words[channel] + 2 * block))
+    last_block = len(shape.blocks()) - 1
+    lines = [break_words(title, shape, words, channel, last_block if last else 0) for title, channel, last in breaks]
     return bytes_of(words), lines
 
 

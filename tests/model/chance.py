@@ -118,7 +118,22 @@ def pick_chunks(chance, volume, spell, like=None):
     return {cell: spell(cell, pick_values(chance, like or volume, volume.box_of(cell))) for cell in cells}
 
 
+def choose(chance, usual, odd, seldom):
+    """The usual one, or an odd one once in so many times."""
+    return chance.choice(odd) if chance.randrange(seldom) == 0 else usual
+
+
 # Damages
+
+
+def damage_bytes(chance, content):
+    """Bytes of which some are others, gone, doubled or more."""
+    content = bytearray(content)
+    for _ in range(chance.choice([1, 1, 1, 2, 3])):
+        at, length = chance.randrange(len(content) + 1), chance.choice([0, 1, 1, 2, chance.randint(0, 40)])
+        put = chance.choice([b"", chance.randbytes(chance.randint(1, 3)), bytes(content[at : at + length]) * 2, b'"', b"\0", b"\xff"])
+        content[at : at + length] = put
+    return bytes(content) if chance.random() < 0.8 else bytes(content[: chance.randrange(len(content) + 1)])
 
 
 def with_numbers(content, numbers):
@@ -142,19 +157,12 @@ def damage_chunk(chance, shape, chunk):
     return bytes_of(words)[:length] + bytes(chance.choice([0] * 9 + [chance.randint(1, 40)]))
 
 
-def numbers_in(volume, shard):
-    """The places of the numbers of all entries and rows of a shard."""
-    bits = volume.sharding.minishard_bits
-    places = list(range(0, 16 << bits, 8))
-    for minishard in range(2**bits):
-        begin, rows = rows_of(bits, minishard, shard)
-        places += range(begin, begin + 24 * rows, 8)
-    return places
-
-
 def damage_shard(chance, volume, shard):
     """Some numbers of entries and rows are others, or some bytes at any place."""
-    places = numbers_in(volume, shard)
+    bits = volume.sharding.minishard_bits
+    places = list(range(0, 16 << bits, 8))
+    for begin, count in (rows_of(bits, minishard, shard) for minishard in range(2**bits)):
+        places += range(begin, begin + 24 * count, 8)
     if volume.block is not None and chance.random() < 0.5:
         places = range(len(shard) - 8)
     numbers = {}
@@ -191,14 +199,16 @@ def damage_some(chance, volume, files):
     return after
 
 
-def pick_stored(chance, volume):
-    """Chunks of a scale, of which some are absent, and those of segmentations spelled as another program may."""
+def pick_stored(chance, volume, like=None, is_sound=False):
+    """Chunks of some of the cells, those of segmentations also as another program spells them, and too long ones, if not all are sound."""
 
     def spell_some(cell, raw):
-        is_own = volume.block is None or chance.random() < 0.3
-        return volume.spell(cell, raw) if is_own else spell_loosely(chance, volume.shape(cell), raw)
+        if volume.block is None or chance.random() < 0.3:
+            return volume.spell(cell, raw)
+        loose = spell_loosely(chance, volume.shape(cell), raw)
+        return volume.spell(cell, raw) if is_sound and len(loose) > volume.limit(cell) else loose
 
-    return pick_chunks(chance, volume, spell_some)
+    return pick_chunks(chance, volume, spell_some, like)
 
 
 def some_chunks(volume):

@@ -1,18 +1,14 @@
 """
 A plain model of a client that reads objects over HTTP: which bytes are the reply to what was asked of an object, and what they say (RFC
-9110, sections 8.4, 8.6, 14.4 and 15; RFC 9112, sections 2 to 6). Limits, and what isn't read, are this project's own. What a head is, is
-one expression here, as `httparse` accepts it; nothing but the bytes of a whole reply is looked at.
+9110, sections 8.4, 8.6, 14.4 and 15; RFC 9112, sections 2 to 6). Limits, and what isn't read, are this project's own. Nothing but the bytes
+of a whole reply is looked at.
 """
 import re
 import typing
 
-from .heads import TOKEN, number_of
+from .heads import REPLY, number_of, read_head
 from .replies import MOST_HEAD
 
-HEAD = re.compile(
-    rb"(?:\r?\n)*HTTP/1\.(?P<minor>[01]) (?P<status>[0-9]{3})(?: [\t\x20-\x7e\x80-\xff]*)?\r?\n"
-    rb"(?P<fields>(?:" + TOKEN + rb":[\t\x20-\x7e\x80-\xff]*\r?\n)*)\r?\n"
-)
 DIGITS = re.compile(rb"[0-9]+")
 PART = re.compile(rb"bytes ([0-9]+)-([0-9]+)/([0-9]+)")
 
@@ -30,35 +26,11 @@ class Asked(typing.NamedTuple):
 LENGTH = None
 
 
-class Head(typing.NamedTuple):
-    """The head of a reply: its status, whether it is HTTP/1.0, its fields' values by their names in lower case, and how long it is."""
-
-    status: int
-    is_old: bool
-    fields: dict
-    length: int
-
-    def values(self, name):
-        return self.fields.get(name, [])
-
-
 class Reply(typing.NamedTuple):
     """What a reply says, a length or bytes, or None where there is no object; and whether the connection ends behind it."""
 
     says: object
     closes: bool
-
-
-def read_head(received):
-    """The head that bytes begin with, or None."""
-    found = HEAD.match(received)
-    if found is None or found.end() > MOST_HEAD:
-        return None
-    fields = {}
-    for line in found["fields"].split(b"\n")[:-1]:
-        name, value = line.removesuffix(b"\r").split(b":", 1)
-        fields.setdefault(name.lower().decode(), []).append(value.strip(b" \t"))
-    return Head(int(found["status"]), found["minor"] == b"0", fields, found.end())
 
 
 def length_told(head):
@@ -70,11 +42,6 @@ def length_told(head):
         return None
     length = number_of(lengths[0])
     return length if length < 2**64 else None
-
-
-def following(asked, length):
-    """How many bytes follow a head."""
-    return 0 if asked is LENGTH else length
 
 
 def is_part(head, asked, length):
@@ -90,32 +57,30 @@ def is_part(head, asked, length):
 
 def said(head, asked, length, body):
     """What a reply says, in a list of one; none where it doesn't fit what was asked."""
+    status = head.first["status"]
     if asked is LENGTH:
-        return {200: [length], 404: [None]}.get(head.status, [])
-    if head.status == 206:
+        return {b"200": [length], b"404": [None]}.get(status, [])
+    if status == b"206":
         return [body] if is_part(head, asked, length) else []
     if length > MOST_UNASKED:
         return []
-    return {200: [body[asked.first : asked.first + asked.count]], 404: [None], 416: [b""]}.get(head.status, [])
+    return {b"200": [body[asked.first : asked.first + asked.count]], b"404": [None], b"416": [b""]}.get(status, [])
 
 
-def closes(head):
-    members = (member for value in head.values("connection") for member in value.split(b","))
-    return head.is_old or any(member.strip(b" \t").lower() == b"close" for member in members)
+def ends_of(asked, received):
+    """The head that bytes begin with, the length that it says, and where the reply ends; or three times None."""
+    head = read_head(received, REPLY)
+    length = None if head is None else length_told(head)
+    return (None, None, None) if length is None else (head, length, head.length + (0 if asked is LENGTH else length))
 
 
 def fitting(asked, received):
     """The reply that these bytes are to what was asked, with nothing in front and nothing behind; or None."""
-    head = read_head(received)
-    length = None if head is None else length_told(head)
-    if length is None:
+    head, length, end = ends_of(asked, received)
+    if end != len(received):
         return None
-    body = received[head.length :]
-    if len(body) != following(asked, length):
-        return None
-    for says in said(head, asked, length, body):
-        return Reply(says, closes(head))
-    return None
+    says = said(head, asked, length, received[head.length :])
+    return Reply(says[0], head.closes()) if says else None
 
 
 def taken(asked, stream):
@@ -123,6 +88,5 @@ def taken(asked, stream):
     What a client receives of a stream that comes at once: at most the longest head's length before it knows the reply's, and then no
     more than the reply has.
     """
-    head = read_head(stream)
-    length = None if head is None else length_told(head)
-    return stream[: max(MOST_HEAD, 0 if length is None else head.length + following(asked, length))]
+    _, _, end = ends_of(asked, stream)
+    return stream[: max(MOST_HEAD, end or 0)]

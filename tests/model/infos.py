@@ -5,7 +5,6 @@ A JSON text is read as `serde_json` reads it: of a member that is repeated the l
 without a fraction and an exponent, isn't `-0` and has 64 bits; and there is no reading of a text that is nested too deep, that has a number
 too large for floating point, or half of a surrogate pair.
 """
-import itertools
 import json
 import math
 import re
@@ -34,8 +33,9 @@ class Refused(Exception):
 
 
 def finite(text):
+    """The number of a text that is none of the words for what isn't finite, nor too large."""
     number = float(text)
-    if math.isinf(number):
+    if not math.isfinite(number):
         raise ValueError(text)
     return number
 
@@ -47,22 +47,10 @@ def number_of(text):
     return int(text)
 
 
-def texts_in(value):
-    if isinstance(value, str):
-        yield value
-    elif isinstance(value, list):
-        yield from itertools.chain.from_iterable(map(texts_in, value))
-
-
 def keep_last(pairs):
     """A JSON object; also what is repeated may have no half of a surrogate pair."""
-    for text in itertools.chain.from_iterable(texts_in([key, value]) for key, value in pairs):
-        text.encode()
+    json.dumps(pairs, ensure_ascii=False).encode()
     return dict(pairs)
-
-
-def no_constant(text):
-    raise ValueError(text)
 
 
 def depth_of(text):
@@ -80,8 +68,7 @@ def read_json(content):
         text = content.decode()
         if depth_of(text) > MOST_DEEP:
             raise ValueError("too deep")
-        reader = {"parse_int": number_of, "parse_float": finite, "parse_constant": no_constant, "object_pairs_hook": keep_last}
-        value = json.loads(text, **reader)
+        value = json.loads(text, parse_int=number_of, parse_float=finite, parse_constant=finite, object_pairs_hook=keep_last)
         keep_last([("", value)])
     except ValueError as fault:
         raise Refused("not json") from fault
@@ -90,33 +77,24 @@ def read_json(content):
 
 # Kinds of values
 
-
-def is_text(value):
-    return isinstance(value, str)
-
-
-def is_whole(value):
-    return type(value) is int and value >= 0
-
-
-def is_signed(value):
-    return type(value) is int and value < 2**63
+KINDS = {
+    "text": lambda value: isinstance(value, str),
+    "object": lambda value: isinstance(value, dict),
+    "array": lambda value: isinstance(value, list),
+    "whole": lambda value: type(value) is int and value >= 0,
+    "signed": lambda value: type(value) is int and value < 2**63,
+    "number": lambda value: type(value) in (int, float),
+}
 
 
-def is_number(value):
-    return type(value) in (int, float)
-
-
-def is_array(value):
-    return isinstance(value, list)
-
-
-def three(kind):
-    return lambda value: is_array(value) and len(value) == 3 and all(map(kind, value))
-
-
-def is_array_of_threes(value):
-    return is_array(value) and all(map(three(is_whole), value))
+def is_kind(value, kind):
+    """Whether a value is of a kind, where this has `threes of ` in front an array of arrays of three, and after `three ` one of these."""
+    of, _, one = kind.rpartition(" ")
+    if of == "threes of":
+        return isinstance(value, list) and all(is_kind(three, f"three {one}") for three in value)
+    if of == "three":
+        return isinstance(value, list) and len(value) == 3 and all(map(KINDS[one], value))
+    return KINDS[one](value)
 
 
 ABSENT = object()
@@ -129,7 +107,7 @@ def member(holder, name, kind, told=None, default=ABSENT):
         if default is ABSENT:
             raise Refused(f"{told} missing")
         return default
-    if not kind(holder[name]):
+    if not is_kind(holder[name], kind):
         raise Refused(f"{told} wrong kind")
     return holder[name]
 
@@ -139,9 +117,9 @@ def want(is_right, fault):
         raise Refused(fault)
 
 
-def lowered(text):
-    """A text with its ASCII letters in lower case."""
-    return "".join(letter.lower() if letter.isascii() else letter for letter in text)
+def lowered(holder, name):
+    """A member that is a text, with its ASCII letters in lower case."""
+    return "".join(letter.lower() if letter.isascii() else letter for letter in member(holder, name, "text"))
 
 
 # The rows of the table
@@ -149,34 +127,33 @@ def lowered(text):
 
 def volume_of(info):
     """The bytes of a value, how many channels there are, and the scales."""
-    at_type = member(info, "@type", is_text, default=None)
+    at_type = member(info, "@type", "text", default=None)
     want(at_type in (None, "neuroglancer_multiscale_volume"), "@type bad value")
-    kind = member(info, "type", is_text)
+    kind = member(info, "type", "text")
     want(kind in ("image", "segmentation"), "type bad value")
-    data_type = lowered(member(info, "data_type", is_text))
+    data_type = lowered(info, "data_type")
     want(data_type not in NOT_READ, "unsupported data_type")
     want(data_type in WIDTHS, "data_type bad value")
-    channels = member(info, "num_channels", is_whole)
+    channels = member(info, "num_channels", "whole")
     want(channels == 1 if kind == "segmentation" else channels > 0, "num_channels bad value")
     want(channels <= MOST_CHANNELS, "limit num_channels")
-    return WIDTHS[data_type], channels, member(info, "scales", is_array)
+    return WIDTHS[data_type], channels, member(info, "scales", "array")
 
 
 def pick_scale(scales, key):
-    for scale in scales:
-        if isinstance(scale, dict) and scale.get("key") == key:
-            return scale
-    raise Refused("scale absent")
+    found = [scale for scale in scales if isinstance(scale, dict) and scale.get("key") == key]
+    want(found, "scale absent")
+    return found[0]
 
 
 def sizes_of(scale):
     """The size, the offset and the chunk sizes."""
-    size = member(scale, "size", three(is_whole))
+    size = member(scale, "size", "three whole")
     want(0 not in size, "size bad value")
     want(max(size) <= MOST_SIZE, "limit size")
-    offset = member(scale, "voxel_offset", three(is_signed), default=[0, 0, 0])
+    offset = member(scale, "voxel_offset", "three signed", default=[0, 0, 0])
     want(max(map(abs, offset)) <= MOST_OFFSET, "limit voxel_offset")
-    chunks = member(scale, "chunk_sizes", is_array_of_threes)
+    chunks = member(scale, "chunk_sizes", "threes of whole")
     want(chunks and all(0 not in chunk for chunk in chunks), "chunk_sizes bad value")
     want(all(max(chunk) <= MOST_SIZE for chunk in chunks) and len(chunks) <= MOST_VIEWS, "limit chunk_sizes")
     want(len(chunks) == 1 or scale.get("sharding") is None, "unsupported chunk_sizes")
@@ -185,13 +162,13 @@ def sizes_of(scale):
 
 def block_of(scale, width):
     """The size of the blocks of a segmentation, or None of raw chunks."""
-    member(scale, "resolution", three(is_number))
-    encoding, name = lowered(member(scale, "encoding", is_text)), "compressed_segmentation_block_size"
+    member(scale, "resolution", "three number")
+    encoding, name = lowered(scale, "encoding"), "compressed_segmentation_block_size"
     want(encoding in ("raw", "compressed_segmentation"), "unsupported encoding")
     if encoding == "raw":
         return None
     want(width >= 4, "encoding bad value")
-    block = member(scale, name, three(is_whole))
+    block = member(scale, name, "three whole")
     want(0 not in block, f"{name} bad value")
     want(max(block) <= MOST_BLOCK, f"limit {name}")
     return tuple(block)
@@ -201,44 +178,36 @@ def sharding_of(scale):
     """The sharding, or None where there is none."""
     if scale.get("sharding") is None:
         return None
-    found = member(scale, "sharding", lambda value: isinstance(value, dict))
-    at_type = member(found, "@type", is_text, "sharding @type")
+    found = member(scale, "sharding", "object")
+    at_type = member(found, "@type", "text", "sharding @type")
     want(at_type == "neuroglancer_uint64_sharded_v1", "sharding @type bad value")
-    preshift = member(found, "preshift_bits", is_whole)
+    preshift = member(found, "preshift_bits", "whole")
     want(preshift <= 64, "preshift_bits bad value")
-    name = member(found, "hash", is_text)
+    name = member(found, "hash", "text")
     want(name in ("identity", "murmurhash3_x86_128"), "hash bad value")
-    minishard_bits = member(found, "minishard_bits", is_whole)
+    minishard_bits = member(found, "minishard_bits", "whole")
     want(minishard_bits <= 24, "limit minishard_bits")
-    shard_bits = member(found, "shard_bits", is_whole)
+    shard_bits = member(found, "shard_bits", "whole")
     want(minishard_bits + shard_bits <= 64, "shard_bits bad value")
     for encoding in ("minishard_index_encoding", "data_encoding"):
-        told = member(found, encoding, is_text, default="raw")
+        told = member(found, encoding, "text", default="raw")
         want(told != "gzip", f"unsupported {encoding}")
         want(told == "raw", f"{encoding} bad value")
     return Sharding(preshift, name != "identity", minishard_bits, shard_bits)
-
-
-def first_sizes(volume):
-    """The size of the first cell."""
-    return [min(chunk, size) for chunk, size in zip(volume.chunk, volume.size)]
 
 
 def padded_voxels(volume):
     """How many voxels the first cell of a segmentation has in whole blocks, times channels; and 0 of raw chunks."""
     if volume.block is None:
         return 0
-    return math.prod(-(-size // block) * block for size, block in zip(first_sizes(volume), volume.block)) * volume.channels
-
-
-def first_bytes(volume):
-    """How many bytes the values of the first cell have."""
-    return math.prod(first_sizes(volume)) * volume.channels * volume.width
+    first = map(min, volume.chunk, volume.size)
+    return math.prod(-(-size // block) * block for size, block in zip(first, volume.block)) * volume.channels
 
 
 def judge_limits(volume):
     """What the first cell of each view and the grid have at most."""
-    want(all(first_bytes(view) <= MOST_CHUNK for view in volume.views), "limit chunk_bytes")
+    lengths = (math.prod(map(min, view.chunk, view.size)) * view.channels * view.width for view in volume.views)
+    want(max(lengths) <= MOST_CHUNK, "limit chunk_bytes")
     if volume.sharding is not None:
         want(sum((count - 1).bit_length() for count in volume.grid) <= 64, "limit morton_bits")
     want(all(padded_voxels(view) <= MOST_PADDED for view in volume.views), "limit padded")

@@ -4,26 +4,25 @@ from .faults import printed
 from .volumes import Values
 
 
-class Draws:
-    """Numbers that are drawn from a state."""
+def draws(state):
+    """Gives what draws a number below a bound from the state."""
 
-    def __init__(self, state):
-        self.state = state
+    def below(bound):
+        nonlocal state
+        state = (1103515245 * state + 12345) % 2**31
+        return (state >> 8) % bound
 
-    def below(self, bound):
-        self.state = (1103515245 * self.state + 12345) % 2**31
-        return (self.state >> 8) % bound
+    return below
 
 
 def draw_boxes(volume, number, count):
     """The boxes of the list of a number."""
-    draws, boxes = Draws(number), []
+    below, boxes = draws(number), []
     for _ in range(count):
         box = []
         for offset, size in zip(volume.offset, volume.size):
-            begin = draws.below(size)
-            length = 1 + draws.below(min(64, size - begin))
-            box.append((offset + begin, offset + begin + length))
+            begin = below(size)
+            box.append((offset + begin, offset + begin + 1 + below(min(64, size - begin))))
         boxes.append(box)
     return boxes
 

@@ -1,27 +1,15 @@
-"""
-Info documents, streams of writes, requests and replies at random: right ones, ones that are wrong in one or two places, and damaged bytes.
-"""
+"""Info documents, streams of writes and replies at random: right ones, ones that are wrong in one or two places, and damaged bytes."""
 import copy
 import itertools
 import json
 
 from .boxes import bytes_of, head_of, stream_of
-from .chance import pick_volume, pick_writes
-from .fitting import LENGTH, following, length_told, read_head
+from .chance import choose, damage_bytes, pick_volume, pick_writes
+from .fitting import LENGTH, ends_of
+from .heads import REPLY, read_head
 from .replies import MOST_HEAD
+from .requests import FIELDS, TOP, pick_end
 from .streams import MOST_WRITES
-
-TOP = 2**64 - 1
-
-
-def damage_bytes(chance, content):
-    """Bytes of which some are others, gone, doubled or more."""
-    content = bytearray(content)
-    for _ in range(chance.choice([1, 1, 1, 2, 3])):
-        at, length = chance.randrange(len(content) + 1), chance.choice([0, 1, 1, 2, chance.randint(0, 40)])
-        put = chance.choice([b"", chance.randbytes(chance.randint(1, 3)), bytes(content[at : at + length]) * 2, b'"', b"\0", b"\xff"])
-        content[at : at + length] = put
-    return bytes(content) if chance.random() < 0.8 else bytes(content[: chance.randrange(len(content) + 1)])
 
 
 # Documents
@@ -211,79 +199,6 @@ def pick_stream(chance, volume):
     return damage_bytes(chance, stream) if form < 0.9 else stream + chance.randbytes(chance.choice([1, 48, 100]))
 
 
-# Requests
-
-METHODS = ["HEAD", "HEAD", "HEAD", "POST", "get", "G\tET", "GE(T", "", "M-SEARCH", "GET ", " GET"]
-TARGETS = [
-    "/s/y", "/s/empty", "/s/long", "/s/long", "/info", "/", "/../x", "//s/x", "s/x", "*", "/s/x?y", "/s/%78", "/s/x/", "/s/\u00e9",
-    "/s/./x",
-    "/s", "/s/x.part", "http://a/s/x", "/s/" + "x" * 600, "/s/\x7f", "/s/ x", "", "/s/.../x", "/..", "/.", "/s/x\t",
-]
-VERSIONS = ["HTTP/1.0", "HTTP/1.0", "HTTP/2.0", "HTTP/1.1 ", "HTTP/1.", "http/1.1", "HTTP/1.2", "", "HTTP/1.10"]
-FIELDS = [
-    "If-Range: x", "if-RANGE:", "Connection: close", "Connection: Keep-Alive, CLOSE", "connection: keep-alive, closed",
-    "Connection: ,close,",
-    "Connection:\tclose \t", "Connection: clo se", "Transfer-Encoding: chunked", "transfer-encoding:", "Content-Length: 5",
-    "content-length:  0\t", "Content-Length: 00", "Content-Length: 0", "Content-Length:", "X-Empty:", "Bad name: x", " folded", "X : 1",
-    ": x",
-    "X", "X: \u00e9", "X: \x01", "X: a\tb", "X: \x7f", "X:\x00", "Host: b", "X-" + "y" * 300 + ": z",
-]
-UNITS = ["BYTES=", "\t bytes=00", "items=", "bytes= ", "bytes", "bytes =", "=", "bytes=-", "bytes=1,"]
-
-
-def choose(chance, usual, odd, seldom):
-    """The usual one, or an odd one once in so many times."""
-    return chance.choice(odd) if chance.randrange(seldom) == 0 else usual
-
-
-def pick_end(chance):
-    return choose(chance, "\r\n", ["\n"] * 9 + ["\r", "\r\r\n", "\n\r"], 8)
-
-
-def pick_digits(chance):
-    small = str(chance.randrange(16))
-    large = [str(chance.randrange(200_000)), str(TOP + chance.randint(-2, 2)), "9" * chance.randint(1, 60)]
-    return chance.choice(["", "0", small, small, "0" * 30 + small, *large])
-
-
-def pick_range(chance):
-    tail = choose(chance, "", [",0-1", " \t", "-", "a", ".0"], 10)
-    name, unit = choose(chance, "Range", ["range", "RANGE", "Range "], 8), choose(chance, "bytes=", UNITS, 6)
-    return f"{name}:{unit}{pick_digits(chance)}-{pick_digits(chance)}{tail}"
-
-
-def pick_head(chance):
-    """The bytes of a head, which may be none."""
-    line = f"{choose(chance, 'GET', METHODS, 6)} {choose(chance, '/s/x', TARGETS, 3)} {choose(chance, 'HTTP/1.1', VERSIONS, 6)}"
-    fields = [pick_range(chance) if chance.random() < 0.5 else choose(chance, "Host: a", FIELDS, 4) for _ in range(chance.randint(0, 4))]
-    blank = choose(chance, "", ["\r\n", "\n", "\r\n\n\r\n", "\r", " "], 10)
-    head = blank + "".join(text + pick_end(chance) for text in [line, *fields, ""])
-    return head.encode("utf-8" if chance.random() < 0.9 else "latin-1")
-
-
-def pick_requests(chance):
-    """A stream of up to three requests, some damaged, cut off, or as long as a head may be."""
-    stream = b"".join(pick_head(chance) for _ in range(chance.randint(0, 3)))
-    form = chance.random()
-    if form < 0.15:
-        stream = damage_bytes(chance, stream)
-    elif form < 0.2:
-        length = MOST_HEAD + chance.choice([-1, 0, 1, 100])
-        begin = b"GET /s/x HTTP/1.1\r\nX: "
-        stream = begin + b"a" * (length - len(begin) - 4) + b"\r\n\r\n" + stream
-    elif form < 0.25:
-        stream = chance.randbytes(chance.randint(1, 40)) + stream
-    return stream
-
-
-def pick_pieces(chance, stream):
-    """A stream in pieces: of one byte each, or cut at some places."""
-    if len(stream) < 60 and chance.random() < 0.1:
-        return [stream[at : at + 1] for at in range(len(stream))]
-    cuts = sorted({0, len(stream), *(chance.randint(0, len(stream)) for _ in range(chance.randint(0, 4)))})
-    return [stream[begin:end] for begin, end in itertools.pairwise(cuts)]
-
-
 # Replies
 
 STATUSES = {True: ["200"] * 9 + ["404"] * 2, False: ["206"] * 9 + ["200"] * 5 + ["404"] * 2 + ["416"] * 2}
@@ -349,7 +264,7 @@ def damage_reply(chance, stream):
         return chance.randbytes(chance.randint(1, 40)) + stream
     if form < 0.17 and b"\n" in stream:
         line, rest = stream.split(b"\n", 1)
-        found = read_head(stream)
+        found = read_head(stream, REPLY)
         head = MOST_HEAD if found is None else found.length
         return line + b"\nX:" + b"a" * max(0, MOST_HEAD - head - 4 + chance.choice([-1, 0, 1, 100])) + b"\r\n" + rest
     return stream
@@ -357,12 +272,12 @@ def damage_reply(chance, stream):
 
 def pick_reply_pieces(chance, asked, stream):
     """A reply in pieces; where bytes come behind it the last piece has them, and the end of the head."""
-    head = read_head(stream)
-    length = None if head is None else length_told(head)
-    end = len(stream) if length is None else head.length + following(asked, length)
-    if end < len(stream):
+    head, _, end = ends_of(asked, stream)
+    if end is None or end > len(stream):
+        end = len(stream)
+    elif end < len(stream):
         end = head.length
     if chance.random() < 0.5 or len(stream) < 2:
         return [stream]
-    cuts = sorted({0, len(stream), *(chance.randrange(1, min(end, len(stream))) for _ in range(chance.randint(1, 4)))})
+    cuts = sorted({0, len(stream), *(chance.randrange(1, end) for _ in range(chance.randint(1, 4)))})
     return [stream[begin:finish] for begin, finish in itertools.pairwise(cuts)]

@@ -1,6 +1,7 @@
 """A plain model of segmentation chunks, after docs/format.md: voxel by voxel, and word by word."""
 import dataclasses
 import itertools
+import math
 
 from .faults import Damaged
 
@@ -22,8 +23,7 @@ class Shape:
         return [(i, j, k) for k in z for j in y for i in x]
 
     def block_voxels(self):
-        x, y, z = self.block
-        return x * y * z
+        return math.prod(self.block)
 
     def voxels_of(self, channel, begin):
         """The voxels of a block: the number of each one's value in the chunk, and in the block."""
@@ -33,8 +33,7 @@ class Shape:
             yield place, i - begin[0] + self.block[0] * (j - begin[1] + self.block[1] * (k - begin[2]))
 
     def count(self):
-        x, y, z = self.size
-        return x * y * z * self.channels
+        return math.prod(self.size) * self.channels
 
 
 def words_of(chunk):

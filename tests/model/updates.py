@@ -24,10 +24,6 @@ class Update:
     files: dict
 
 
-class BadShard(Exception):
-    """A fault of a shard that is written anew, as it is told."""
-
-
 def kept_in(volume, shard, content):
     """The cells that a shard keeps, by its number and its bytes."""
     cells, bits = {volume.number(cell): cell for cell in volume.cells}, volume.sharding.minishard_bits
@@ -35,7 +31,7 @@ def kept_in(volume, shard, content):
         try:
             numbers = [number for number, _, _ in walk_rows(content, *rows_of(bits, minishard, content))]
         except Damaged as fault:
-            raise BadShard(f"shard {shard} {minishard}: {fault}") from fault
+            raise Damaged(f"shard {shard} {minishard}: {fault}") from fault
         yield from (cells[own] for own in numbers if own in cells and volume.sharding.place(own) == (shard, minishard))
 
 
@@ -68,7 +64,7 @@ def update_of(volume, files, writes):
     met = {cell for box, _ in writes for cell in volume.cells_in(box)}
     try:
         cells = cells_after(volume, files, met)
-    except BadShard as fault:
+    except Damaged as fault:
         return Update(refused(str(fault)), [], {})
     held, stopped, fault = read_front(volume, files, cells)
     values, chunks = Values(volume, [*held, *writes]), {}

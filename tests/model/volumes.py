@@ -8,7 +8,6 @@ import math
 from . import segments
 from .boxes import name_of, voxels_in
 from .faults import Damaged
-from .ids import cells_of, code_of, grid_of
 from .shards import Sharding, files_of, stored_in
 
 SHARDING = Sharding().member()
@@ -68,12 +67,13 @@ class Volume:
 
     @functools.cached_property
     def grid(self):
-        return grid_of(self.size, self.chunk)
+        """How many cells there are on each axis."""
+        return [-(-size // chunk) for size, chunk in zip(self.size, self.chunk)]
 
     @functools.cached_property
     def cells(self):
         """All cells, x fastest."""
-        return cells_of(self.grid)
+        return [cell[::-1] for cell in itertools.product(*map(range, reversed(self.grid)))]
 
     def cells_in(self, box):
         """The cells that a box meets, x fastest."""
@@ -90,8 +90,9 @@ class Volume:
         return name_of(self.box_of(cell))
 
     def number(self, cell):
-        """A cell's chunk id."""
-        return code_of(self.grid, cell)
+        """A cell's chunk id, the compressed Morton code: bits of x, y and z in turn, each as long as the grid has numbers that use it."""
+        used = [at >> bit & 1 for bit in range(64) for count, at in zip(self.grid, cell) if 2**bit < count]
+        return sum(bit << place for place, bit in enumerate(used))
 
     def place(self, cell):
         """The shard and the minishard of a cell."""
@@ -178,6 +179,12 @@ class Volume:
             put += new.values()
             cells += len(chunks)
         return files, put, cells
+
+
+def line(length, *chunks, **fields):
+    """A scale that is a line along x, in chunks of these lengths, or of one voxel."""
+    first, *more = ([chunk, 1, 1] for chunk in chunks or (1,))
+    return Volume([length, 1, 1], first, more=tuple(more), **fields)
 
 
 def infos_of(*volumes):
