@@ -355,3 +355,16 @@ fn tells_failing_outputs(rt: HostRuntime) -> Result<(), Fail> {
     }
     Ok(())
 }
+
+// The front of the document, and of each of three cells its chunk and a byte more.
+#[test]
+fn asks_for_each_chunk_once(rt: HostRuntime) -> Result<(), Fail> {
+    let alloc = rt.alloc();
+    let info = raw_info(alloc, "[3,1,1]", "[1,1,1]")?;
+    let mut store = store_of(alloc, &info, &[])?;
+    let line = b"writes 3 objects 3 bytes 3 sum 168\n".as_slice();
+    let status = Status::Ok;
+    check(&rt, alloc, &mut store, 4, 3, 1, &NO_FAULTS, status, line)?;
+    assert_eq!(rt; store.asked(), 65_536 + 3 * 2);
+    Ok(())
+}

@@ -1,6 +1,7 @@
 //! Writes over stand-ins in memory. What each stores and answers was worked out by hand, what is in shards by the plain
 //! reader in `tests/model/shards.py`.
 
+mod deep;
 mod failing;
 
 use command_base::{Crew, Status};
@@ -351,9 +352,11 @@ fn stores_what_is_encoded(rt: HostRuntime) -> Result<(), Fail> {
 }
 
 // A scale, the objects under its folder, the stream, and the line of the refusal.
-const STREAMS: [([&str; 2], &[(&str, &[u8])], &[u8], &str); 6] = [
+const STREAMS: [([&str; 2], &[(&str, &[u8])], &[u8], &str); 7] = [
     (PLANE, &[("d/s/x/y", &[1])], b"PVW1", "folder not empty\n"),
     (PLANE, &[("d/t/x", &[1])], b"", "stream: bad magic\n"),
+    // a folder whose name begins with the scale's isn't the scale's
+    (PLANE, &[("d/sx/x", &[1])], b"", "stream: bad magic\n"),
     (PLANE, &[], b"PVW2\x00\x00\x00\x00", "stream: bad magic\n"),
     (
         PLANE,
