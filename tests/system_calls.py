@@ -22,7 +22,7 @@ import typing
 
 from disturbed import DEEP_RUNS, FULL_ROW, RUNS, SIZES_RUNS, in_store, want_front_of
 from harness import LIMIT, Wrong, main, want, want_true, words_in
-from model import DOOR, FEED, OK, OUTPUT, STORE, Sharding, along, line
+from model import DOOR, FEED, OK, OUTPUT, STORE, Sharding, Volume, along
 from peers import PEERS, SERVE, WHOLE, failed_of, fronts_of, is_answered, serve_peers
 from runs import cutout_run, wrong_with
 
@@ -182,7 +182,7 @@ def fails_each_served(trial):
 
 
 # A line of 5,000 voxels, each a row of one index, of which 1,024 rows are read at a time.
-MANY = line(5000, sharding=Sharding())
+MANY = Volume([5000, 1, 1], [1, 1, 1], sharding=Sharding())
 MANY_FILES = MANY.files({cell: bytes([cell[0] % 251]) for cell in MANY.cells})
 
 # title, a run, and how many bytes of its objects it reads
