@@ -5,10 +5,10 @@
 
 It takes minutes, so it is run by hand and isn't a part of the gate. A write is killed at a random moment, 50 times and until one of
 them came amid its objects; cutouts and judgements run while another process writes; and a write meets a full disk, a small tmpfs, which
-is passed over with a word where none can be mounted. All of it is done with writes, lists that are made from a number, updates and
-copies, into scales of raw chunks and of segmentations, in files and in eight shards. What stands is judged sound by `verify`, with as
-many chunks as stand. An update that was killed is run again, and then leaves what one does that wasn't. Runs that only read are killed
-too, and leave the folder as it is.
+is passed over with a word where none can be mounted. All of it is done with writes, lists that are made from a number, updates, copies
+and next scales, into scales of raw chunks and of segmentations, in files and in eight shards; and with writes and lists into one of two
+chunk sizes, which aren't watched. What stands is judged by `verify` as is due. An update that was killed is run again, and then leaves
+what one does that wasn't. Runs that only read are killed too, and leave the folder as it is.
 """
 import dataclasses
 import functools
@@ -19,19 +19,26 @@ import tempfile
 import time
 
 from harness import LIMIT, main, snapshot, want, want_files, want_front, want_true
-from model import OK, Sharding, Values, Volume, cutout, generated, refused, spell, verdict, voxels_in
+from model import OK, Sharding, Values, Volume, cutout, refused, spell, verdict, voxels_in
+from model.copies import read_cells, values_of
+from model.pyramids import upper_of
 from runs import apart, is_killed_often, list_run, made_run, objects_in, started, update_run, wrong_with, write_run
 
 SHARDS = Sharding(3, False, 2, 3)
-PLAIN = Volume([256] * 3, [32] * 3)
 
-# Segmentations, of fewer voxels: the model spells and reads them.
-LABELS = Volume([48] * 3, [8] * 3, width=4, block=(8, 8, 8))
 
-FORMS = {
-    "chunks": PLAIN, "shards": dataclasses.replace(PLAIN, sharding=SHARDS),
-    "labels": LABELS, "labels in shards": dataclasses.replace(LABELS, sharding=SHARDS),
-}
+def in_forms(chunks, labels):
+    """Both in files and in shards, by their titles."""
+    shards, labels_in_shards = (dataclasses.replace(volume, sharding=SHARDS) for volume in (chunks, labels))
+    return {"chunks": chunks, "shards": shards, "labels": labels, "labels in shards": labels_in_shards}
+
+
+# Segmentations have fewer voxels, which the model spells and reads; and so have next scales, which it reduces voxel by voxel.
+FORMS = in_forms(Volume([256] * 3, [32] * 3), Volume([48] * 3, [8] * 3, width=4, block=(8, 8, 8)))
+NEXT_FORMS = in_forms(Volume([32] * 3, [4] * 3), Volume([32] * 3, [4] * 3, width=4, block=(2, 2, 2)))
+
+# Chunks of two sizes, of which no box is the other's too.
+WITH_SIZES = {**FORMS, "two sizes": Volume([32] * 3, [4] * 3, more=([8] * 3,))}
 
 KILLS = 50
 MOST_KILLS = 1000
@@ -50,46 +57,43 @@ def all_voxels(volume):
     return at_random(volume, 1, volume.whole)
 
 
-def some_voxels(volume):
-    """The list that is made."""
-    return generated(volume, 5, 200)
-
-
-def voxels_over(volume):
-    """All voxels but the outermost, so that the outer chunks keep some of the old ones, or zeros."""
-    return at_random(volume, 3, [(1, volume.size[0] - 1)] * 3)
-
-
-def old_voxels(volume):
-    """What an update has over: a part of the scale, in chunks of all shards or of some."""
+def over_some(volume):
+    """
+    An update of all voxels but the outermost, so that the outer chunks keep some of the old ones, or zeros: over a part of the scale, in
+    chunks of all shards or of some.
+    """
     side = volume.size[0]
-    return at_random(volume, 2, [(0, side // 2), (0, side // 2), (0, 5 * side // 32)])
+    held, _, _ = volume.files_after(at_random(volume, 2, [(0, side // 2), (0, side // 2), (0, 5 * side // 32)]))
+    return update_run(volume, held, at_random(volume, 3, [(1, side - 1)] * 3))
+
+
+def made_of(method, source, volume):
+    return made_run(method, source, volume, source.files_after(all_voxels(source))[0])
 
 
 def copied(volume):
     """A copy of raw, larger chunks."""
     source = dataclasses.replace(volume, chunk=[2 * chunk for chunk in volume.chunk], block=None, sharding=None, dataset="f")
-    return made_run(None, source, volume, source.files_after(all_voxels(volume))[0])
+    return made_of(None, source, volume)
 
 
-# title, what makes the run for a scale, and what is written
+# title, the scales by their forms, and what makes the run for one
 WORKS = {
-    "a write": (lambda volume: write_run(volume, all_voxels(volume)), all_voxels),
-    "a list": (lambda volume: list_run(volume, 5, 200), some_voxels),
-    "an update": (lambda volume: update_run(volume, volume.files_after(old_voxels(volume))[0], voxels_over(volume)), voxels_over),
-    "a copy": (copied, all_voxels),
+    "a write": (WITH_SIZES, lambda volume: write_run(volume, all_voxels(volume))),
+    "a list": (WITH_SIZES, lambda volume: list_run(volume, 5, 200)),
+    "an update": (FORMS, over_some),
+    "a copy": (FORMS, copied),
+    "a next scale": (NEXT_FORMS, lambda volume: made_of("mean", upper_of(volume), volume)),
 }
 
 
 @functools.lru_cache(maxsize=1)
 def run_of(form, work):
-    """A run into a scale of a form, whose labels two workers write; and of the scale the values before and after."""
-    volume, (make_run, writes) = FORMS[form], WORKS[work]
+    """A scale of a form and a run into it; two workers write its labels."""
+    scales, make_run = WORKS[work]
+    volume = scales[form]
     run = make_run(volume)
-    if volume.block is not None:
-        run = dataclasses.replace(run, words=[*run.words, "--workers=2"])
-    before = old_voxels(volume) if work == "an update" else []
-    return run, Values(volume, before), Values(volume, [*before, *writes(volume)])
+    return volume, run if volume.block is None else dataclasses.replace(run, words=[*run.words, "--workers=2"])
 
 
 def cut_of(volume):
@@ -115,7 +119,7 @@ def measure(trial, run):
 
 def rows_of_kills(trial, form, work):
     """Kills from the begin or from the first object on; where none came amid the objects more come as soon as the first is there."""
-    run, _, _ = run_of(form, work)
+    volume, run = run_of(form, work)
     first, chance, longest = next(iter(run.put)), random.Random(2), 1.2 * measure(trial, run)
 
     def pick(number):
@@ -123,7 +127,7 @@ def rows_of_kills(trial, form, work):
             return first, 0
         return (first, chance.uniform(0, longest / 20)) if number % 2 else (None, chance.uniform(0, longest))
 
-    judge = functools.partial(want_standing, volume=FORMS[form], run=run, parts_allowed=1)
+    judge = functools.partial(want_standing, volume=volume, run=run, parts_allowed=1)
     return is_killed_often(trial, run, pick, KILLS, MOST_KILLS, judge)
 
 
@@ -146,13 +150,13 @@ def want_whole_chunks(found, volume, *scales):
         want_true(cut.of(box) in [values.of(box) for values in scales], f"cutout: {box} is torn")
 
 
-def watch(trial, form, work):
+def watch(trial, volume, run, *scales):
     """Cutouts and judgements while a write runs. Gives how many there were."""
-    volume, (run, old, new), count, last = FORMS[form], run_of(form, work), 0, 0
+    count = last = 0
     with started(trial, run) as (own, process):
         while process.poll() is None:
             last = want_sound(own.run("verify d s"), last, len(volume.cells))
-            want_whole_chunks(own.run(cut_of(volume)), volume, old, new)
+            want_whole_chunks(own.run(cut_of(volume)), volume, *scales)
             count += 1
         want(process.wait(), OK, "the write's status")
         want_files(own.files(), {**objects_in(run.before), **run.put})
@@ -161,9 +165,10 @@ def watch(trial, form, work):
 
 
 def is_watched(trial, form, work):
-    counts = []
+    (volume, run), counts = run_of(form, work), []
+    scales = [values_of(volume, read_cells(volume, files)) for files in (run.before, run.after())]
     for number in range(WRITES_WATCHED):
-        yield f"watched write {number}", wrong_with(lambda: counts.append(watch(trial, form, work)))
+        yield f"watched write {number}", wrong_with(lambda: counts.append(watch(trial, volume, run, *scales)))
     yield "cutouts and judgements while a write runs", None if any(counts) else "there were none"
 
 
@@ -173,7 +178,7 @@ def pages_of(files):
 
 def meets_full_disk(trial, form, work):
     """The disk is full in the middle of a write: whole objects stand, and nothing else."""
-    (run, _, _), own = run_of(form, work), apart(trial, "disk")
+    (volume, run), own = run_of(form, work), apart(trial, "disk")
     own.folder.mkdir()
     # the files before, and half of what comes beside them
     size = PAGE * ((pages_of(run.before) + pages_of(run.after())) // 2)
@@ -188,7 +193,7 @@ def meets_full_disk(trial, form, work):
     try:
         own.lay_out(run.before)
         own.want(run.words, refused("store fault"), run.stream)
-        count = want_standing(own, FORMS[form], run, 0)
+        count = want_standing(own, volume, run, 0)
         want_true(0 < count < len(run.put), f"{count} objects stand")
     finally:
         subprocess.run(["umount", own.folder], check=True, timeout=LIMIT)
@@ -225,13 +230,15 @@ def reads_are_killed(trial, form):
 
 
 def rows():
-    for form in FORMS:
-        for work in WORKS:
+    for work, (scales, _) in WORKS.items():
+        for form, volume in scales.items():
             yield f"{work} of {form}, kills", rows_of_kills, form, work
-            # a reader of a shard that is replaced meanwhile may get the old one's index and the new one's bytes
-            if not (work == "an update" and FORMS[form].sharding):
+            # a reader of a shard that is replaced meanwhile may get the old one's index and the new one's bytes; and the second of two
+            # sizes differs from the first until it stands
+            if not (work == "an update" and volume.sharding or volume.more):
                 yield f"{work} of {form}, watched", is_watched, form, work
             yield f"{work} of {form}, a full disk", meets_full_disk, form, work
+    for form in FORMS:
         yield f"kills of runs that read {form}", reads_are_killed, form
 
 

@@ -9,6 +9,7 @@ from model import (
     SEGMENTED, Sharding, Volume, along, answer, files_of, generated, info_of, line, printed, refused, sound, stored, stream_of, sum_of,
     voxels_in,
 )
+from model.pyramids import upper_of
 from runs import Run, cutout_run, list_run, made_run, update_run, verify_run, write_run
 
 
@@ -130,10 +131,13 @@ def counting(volume, box, first):
 
 
 def deep_runs(title, volume):
-    """Runs of each command over a deep scale."""
+    """Runs of each command over a deep scale, and of one that makes it of the scale above."""
     writes, over = [counting(volume, volume.whole, 1)], [counting(volume, [volume.whole[0], (0, 1), (1, 3)], 101)]
     chunks, workers = volume.chunks_after(writes), "--workers=2"
     files, torn = volume.files(chunks), volume.files({**chunks, volume.cells[-1]: chunks[volume.cells[-1]][:-1]})
+    upper = upper_of(volume)
+    uppers = upper.files_after([counting(upper, upper.whole, 1)])[0]
+    torn_uppers = {**uppers, upper.path_of(upper.cells[-1]): b""}
     target = dataclasses.replace(volume, dataset="e", chunk=[*volume.chunk[:2], 2])
     return {
         f"a write into {title}": write_run(volume, writes),
@@ -147,8 +151,11 @@ def deep_runs(title, volume):
         f"a judgement of damaged {title}": verify_run(volume, torn),
         f"a copy of {title}": made_run(None, volume, target, files),
         f"a copy of {title} with workers": made_run(None, volume, target, files, workers),
-        # all its cells are prepared before the first one is stored
+        f"a next scale into {title}": made_run("mode", upper, volume, uppers),
+        f"a next scale into {title} with workers": made_run("mode", upper, volume, uppers, workers),
+        # all cells are prepared before the first one is stored
         f"a copy of damaged {title}": dataclasses.replace(made_run(None, volume, target, torn), put={}),
+        f"a next scale into {title} of a damaged object": dataclasses.replace(made_run("mode", upper, volume, torn_uppers), put={}),
     }
 
 

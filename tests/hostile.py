@@ -3,10 +3,10 @@
 
     tests/hostile.py [PROGRAM [COUNT]]
 
-What is due is worked out by plain models (model/infos.py, streams.py, answers.py, copies.py, updates.py and heads.py). COUNT is how many of
-each kind there are: documents; streams, of which each is written into an empty scale and then put over what it left; stores of every form,
-of which some files are damaged, and which every command reads; and streams of requests, which come in pieces. Runs that are refused change
-nothing, and the others leave the files of the models.
+What is due is worked out by plain models (model/infos.py, streams.py, answers.py, copies.py, updates.py, pyramids.py and heads.py).
+COUNT is how many of each kind there are: documents; streams, of which each is written into an empty scale and then put over what it left;
+stores of every form, of which some files are damaged, and which every command reads, those with a next scale apart; and streams of
+requests, which come in pieces. Runs that are refused change nothing, and the others leave the files of the models.
 """
 import contextlib
 import dataclasses
@@ -17,11 +17,12 @@ import time
 
 from harness import main, want, want_files
 from model import cutout, infos_of, printed, refused, sound, spell, stored, stream_of, verdict
-from model.chance import FORMS, damage_some, form_of, pick_box, pick_layouts, pick_sizes, pick_stored, pick_writes
+from model.chance import FORMS, damage_some, form_of, pick_box, pick_layouts, pick_scales, pick_sizes, pick_stored, pick_writes
 from model.heads import replies_to
 from model.infos import Refused as BadInfo
 from model.infos import padded_voxels, scale_in
 from model.odd import pick_info, pick_stream
+from model.pyramids import METHODS
 from model.requests import cut_at_random, pick_requests
 from model.streams import Refused as BadStream
 from model.streams import writes_in
@@ -129,6 +130,16 @@ def judges_stores(trial, seed):
     trial.want_update(volume, pick_writes(chance, volume, chance.randint(1, 3)), *pick_workers(chance))
 
 
+def judges_next_scales(trial, seed):
+    """The next scale of one of which some files are damaged."""
+    chance = random.Random(f"next scales {seed}")
+    source, target = pick_scales(chance, [form_of(seed), form_of(seed, len(FORMS))])
+    target = dataclasses.replace(target, key="t")
+    files = source.files(pick_stored(chance, source))
+    trial.lay_out({**infos_of(source, target), **damage_some(chance, source, files)})
+    want_made(trial, chance.choice(list(METHODS)), source, target, *pick_workers(chance))
+
+
 # Requests
 
 OBJECTS = {"d/s/x": b"0123456789", "d/s/empty": b"", "d/s/long": b"long" * 40_000, "d/s/...": b"dots", "d/info": b"{}"}
@@ -173,6 +184,7 @@ def rows(count):
         yield f"an info {seed}", judges_info, seed
         yield f"streams {seed}", judges_streams, seed
         yield f"a store {seed}", judges_stores, seed
+        yield f"a next scale {seed}", judges_next_scales, seed
 
 
 if __name__ == "__main__":

@@ -7,19 +7,22 @@ It wants a C compiler, `cc`, for the library that refuses (refuse_memory.c), so 
 the store is asked, an allocation for a path, for a folder's entries or of the system's own library may end as a store fault instead.
 Each refused run has a folder of its own; afterwards whole objects stand there, the first ones that are due, and no half of one, but
 that a copy into shards, or an update of some, may leave one file whose name ends in .part. A cutout may have printed the layers
-before. Peers of a served run get whole replies, the first ones that are due, and behind them nothing, or that the store failed. A
-fetched box has nothing printed.
+before. Peers of a served run get whole replies, the first ones that are due, and behind them nothing, or that the store failed; where
+one says nothing, the run doesn't wait for it. A fetched box has nothing printed.
 """
 import collections
+import contextlib
 import dataclasses
 import pathlib
 import subprocess
+import time
 
 from disturbed import FULL_ROW, RUNS, in_store, want_front_of
 from harness import LIMIT, Wrong, built, main, want, want_true, words_in
 from model import DOOR, MEMORY, OK, STORE, USAGE, Sharding, Volume, cutout, infos_of
 from model.chance import some_chunks
-from peers import PEERS, SERVE, WHOLE, failed_of, fronts_of, is_answered, serve_peers
+from model.replies import SILENCE
+from peers import PEERS, SERVE, WHOLE, connect, failed_of, fronts_of, is_answered, receive, serve_peers
 from servers import fetch_words, python
 
 # More allocations than a run of these has.
@@ -100,6 +103,34 @@ def is_refused_each_served(trial):
     refuse_each(trial, "a served run", FULL_ROW, run_with, want_refused)
 
 
+def got_in_silence(port, _peer):
+    """What a peer gets that says nothing."""
+    with contextlib.suppress(OSError), connect(port) as peer:
+        return receive(peer)
+    return b""
+
+
+def is_refused_each_beside_a_silent_peer(trial):
+    """What a connection takes it takes before it waits for a byte of its peer."""
+    listening = []
+
+    def run_with(folder, variables):
+        command, begin = [trial.program, "serve", "d", "--port=0", "--connections=1"], time.monotonic()
+        found = serve_peers(command, folder, variables, got_in_silence, ["silent"])
+        return (*found, time.monotonic() - begin < SILENCE / 2)
+
+    def want_refused(found, whole):
+        want(whole, (OK, [b"listening"], b"", b"", [b""], False, FULL_ROW), "with memory")
+        if found != whole:
+            status, line, output, errors, got, is_soon, files = found
+            want_true((status, errors) in [NO_MEMORY, (DOOR, b"door fault\n")] and is_soon, f"status {status}, {errors!r}, soon {is_soon}")
+            want((output, b"".join(got), files), (b"", b"", FULL_ROW))
+            listening.append(bool(line))
+
+    refuse_each(trial, "a silent peer", FULL_ROW, run_with, want_refused)
+    want_true(sum(listening) > 1, f"{sum(listening)} allocations behind the first line")
+
+
 def is_refused_each_fetched(trial, volume):
     chunks = some_chunks(volume)
     ending = cutout(volume, volume.files(chunks))
@@ -121,6 +152,7 @@ def is_refused_each_fetched(trial, volume):
 
 def rows():
     yield "a served run", is_refused_each_served
+    yield "a silent peer", is_refused_each_beside_a_silent_peer
     for volume in FETCHED:
         yield f"a fetched box of {len(volume.cells)} cells", is_refused_each_fetched, volume
     for title, run in RUNS.items():

@@ -163,16 +163,16 @@ def got_by(port, peer):
         return b""
 
 
-def serve_peers(command, folder, variables=None):
+def serve_peers(command, folder, variables=None, get=got_by, peers=PEERS):
     """
     What a served run ends with: its status, the first word that it prints, all behind its first line, its standard error, and what
-    each peer got.
+    each peer got, which `get` gives for the port and the peer.
     """
     pipes = {"stdin": subprocess.DEVNULL, "stdout": subprocess.PIPE, "stderr": subprocess.PIPE}
     with subprocess.Popen(command, cwd=folder, env=variables, start_new_session=True, **pipes) as child:
         try:
             line = child.stdout.readline().split()
-            got = [got_by(int(line[1]), peer) for peer in PEERS] if line else []
+            got = [get(int(line[1]), peer) for peer in peers] if line else []
             output, errors = child.communicate(timeout=LIMIT)
         finally:
             if child.poll() is None:

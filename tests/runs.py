@@ -98,8 +98,10 @@ def made_run(method, source, target, held, *options):
     return Run({**infos_of(source, target), **held}, [*words, *options], b"", made.answer(), made.files, parts)
 
 
-def cutout_run(volume, files):
-    return Run({**infos_of(volume), **files}, volume.words("cutout", spell(volume.whole)), b"", cutout(volume, files))
+def cutout_run(volume, files, box=None):
+    """A cutout of a box, or of all."""
+    box = box or volume.whole
+    return Run({**infos_of(volume), **files}, volume.words("cutout", spell(box)), b"", cutout(volume, files, box))
 
 
 def verify_run(volume, files):

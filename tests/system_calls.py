@@ -9,7 +9,8 @@ on fails: with an error of the device, with a full disk, and with a signal, whic
 then on, as on a device that is lost. Each run has a folder of its own; afterwards whole objects stand there, the first ones that are
 due, and no half of one, but that a device that is lost, a copy or a next scale into shards, and an update of some may leave one file whose
 name ends in .part. A cutout may have printed a front of its values. Of a served run the calls to peers fail too: each peer gets a front of
-the replies that are due, or that the store failed in place of one.
+the replies that are due, or that the store failed in place of one. And of some runs it is counted how many bytes of their objects they
+read.
 """
 import collections
 import functools
@@ -21,9 +22,9 @@ import typing
 
 from disturbed import DEEP_RUNS, FULL_ROW, RUNS, SIZES_RUNS, in_store, want_front_of
 from harness import LIMIT, Wrong, main, want, want_true, words_in
-from model import DOOR, FEED, OK, OUTPUT, STORE
+from model import DOOR, FEED, OK, OUTPUT, STORE, Sharding, Volume, along
 from peers import PEERS, SERVE, WHOLE, failed_of, fronts_of, is_answered, serve_peers
-from runs import wrong_with
+from runs import cutout_run, wrong_with
 
 # The calls to files, folders and streams; those to peers; and those that have to do with memory, time, threads and the process alone.
 TO_FILES = set(
@@ -180,6 +181,26 @@ def fails_each_served(trial):
     return fails_each("a served run", Traced(TO_FILES | TO_PEERS, functools.partial(trace_served, trial), due, want_failed_served))
 
 
+# A line of 5,000 voxels, each a row of one index, of which 1,024 rows are read at a time.
+MANY = Volume([5000, 1, 1], [1, 1, 1], sharding=Sharding())
+MANY_FILES = MANY.files({cell: bytes([cell[0] % 251]) for cell in MANY.cells})
+
+# title, a run, and how many bytes of its objects it reads
+READ = {
+    "a cutout of the last of 5,000 rows": (cutout_run(MANY, MANY_FILES, along(4999, 5000)), 16 + 24 * 5000 + 1),
+    "a cutout of the first of 5,000 rows": (cutout_run(MANY, MANY_FILES, along(0, 1)), 16 + 24 * 1024 + 1),
+    **{title: (RUNS[title], 3) for title in ("a cutout", "a judgement", "a list", "a copy")},
+}
+
+
+def reads_once(trial, run, count):
+    """A run reads so many bytes of its objects, beside the documents: none twice, and none that it doesn't need."""
+    found, lines = trace_run(trial, run, ["-y", "-s", "0", "-e", "trace=read,readv,pread64,preadv,preadv2"])
+    want(found, (*run.ending, run.after()))
+    calls = re.findall(r"\(\d+<[^>]*/store/([^>]+)>.* = (\d+)$", "\n".join(lines), re.MULTILINE)
+    want(sum(int(length) for path, length in calls if not path.endswith("/info")), count, "how many bytes are read")
+
+
 def may_trace():
     """Whether strace is there, and may make a call fail."""
     command = ["strace", "-qq", "-o", "/dev/null", "-e", "inject=close:error=EIO:when=1000", "true"]
@@ -187,6 +208,8 @@ def may_trace():
 
 
 def rows():
+    for title, case in READ.items():
+        yield f"what is read by {title}", reads_once, *case
     yield "a served run", fails_each_served
     for title in TRACED:
         yield title, fails_each_of, title, RUNS[title]

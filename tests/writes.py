@@ -3,8 +3,8 @@
 
     tests/writes.py [PROGRAM]
 
-What is due is stated here, and worked out voxel by voxel. A cutout of a large scale gets by with the memory of one layer of its
-chunks.
+What is due is stated here, and worked out voxel by voxel. A stream is read no further than its fault, and a cutout of a large scale gets
+by with the memory of one layer of its chunks.
 """
 import itertools
 import os
@@ -12,8 +12,8 @@ import random
 import subprocess
 import tempfile
 
-from harness import FOLDER, LIMIT, file_limit, main, memory_limit, want, want_ending, want_files
-from model import MEMORY, OK, Values, Volume, box_in, infos_of, line, refused, stored, stream_of, voxels_in
+from harness import FOLDER, LIMIT, answers, file_limit, main, memory_limit, want, want_ending, want_files
+from model import MEMORY, OK, Values, Volume, box_in, bytes_of, head_of, infos_of, line, refused, stored, stream_of, voxels_in
 from model.chance import pick_box
 from runs import leaves, rows_of_stops, write_run
 
@@ -84,6 +84,25 @@ def takes_pieces(trial, length):
     want_files(trial.files(), run.put)
 
 
+# title, a faulty stream behind which more stands, how many of its bytes are read, the line
+FAULTY = [
+    ("a wrong magic", b"PVW2", 4, "stream: bad magic"),
+    ("too many writes", head_of(65537), 8, "stream: too many writes 65537"),
+    ("an empty box", head_of(1) + bytes_of([0, 0, 0], [0, 1, 1]), 56, "write 0: empty box"),
+    ("a box outside", head_of(1) + bytes_of([0, 0, 0], [3, 1, 1]), 56, "write 0: outside scale"),
+    ("a byte behind", stream_of([ALL_FOUR]), 61, "stream: trailing bytes"),
+]
+
+
+def reads_no_further(trial, files, words, stream, count, line):
+    """A stream is read up to its fault, and one that isn't judged not at all."""
+    with tempfile.TemporaryFile() as feed:
+        feed.write(stream + bytes(1000))
+        feed.seek(0)
+        answers(trial, files, words, refused(line), feed)
+        want(os.lseek(feed.fileno(), 0, os.SEEK_CUR), count, "how many bytes are read")
+
+
 # A scale of 512 x 512 x 512 bytes in eight layers of chunks, each a file that is a hole; and what its cutout may take besides one
 # layer.
 LARGE = Volume([512] * 3, [64] * 3)
@@ -136,6 +155,9 @@ def rows():
     yield from rows_of_stops(write_run(ROW, [ALL_THREE]))
     for length in (1, 7, 48):
         yield f"pieces of {length}", takes_pieces, length
+    yield "a second write reads nothing", reads_no_further, FOUR, WRITE, last, 0, "folder not empty"
+    for words, (title, *case) in itertools.product((WRITE, "update d s"), FAULTY):
+        yield f"{words} reads no further than {title}", reads_no_further, infos_of(SMALL), words, *case
     yield "a large cutout in the memory of a layer", cuts_in_memory, LAYER_BYTES + MORE_BYTES, OK, 512**3, b""
     yield "a large cutout in less", cuts_in_memory, LAYER_BYTES - 1, MEMORY, 0, b"out of memory\n"
     for seed, (title, *case) in itertools.product(SEEDS, RANDOM):

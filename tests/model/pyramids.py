@@ -37,6 +37,13 @@ def next_of(source, **fields):
     return dataclasses.replace(source, **{"size": size, "offset": offset, **fields})
 
 
+def upper_of(target):
+    """The scale u whose next one it is: raw chunks in files, twice as long on each axis."""
+    size, chunk = ([2 * side for side in sides] for sides in (target.size, target.chunk))
+    offset = tuple(2 * at for at in target.offset)
+    return dataclasses.replace(target, size=size, chunk=chunk, offset=offset, block=None, sharding=None, key="u")
+
+
 def under(source, voxel):
     """The voxels of the source that lie under one of the target."""
     axes = [[at for at in (2 * place, 2 * place + 1) if begin <= at < end] for place, (begin, end) in zip(voxel, source.whole)]
