@@ -49,6 +49,14 @@ const BOTH: Row = Row {
     cut: &[],
 };
 
+// Each call of each store fails.
+const WITHOUT_STORE: Row = Row {
+    store: &[0, 1, 2, 3, 4, 5, 6, 7],
+    whole: 0,
+    cut: FAILED_REPLY,
+    ..BOTH
+};
+
 // Calls of the entrance: 0 binds the port, 1 and 2 accept. Calls of a link, each of at most 64 bytes: 0 receives the
 // request, and those behind it send the reply.
 const ROWS: &[Row] = &[
@@ -90,12 +98,7 @@ const ROWS: &[Row] = &[
         cut: FRONT,
         ..BOTH
     },
-    Row {
-        store: &[0, 1, 2, 3, 4, 5, 6, 7],
-        whole: 0,
-        cut: FAILED_REPLY,
-        ..BOTH
-    },
+    WITHOUT_STORE,
 ];
 
 // A peer's end.
@@ -141,13 +144,15 @@ fn stores_of(alloc: Global, failing: &[u64]) -> Result<Vec<MemoryStore>, Fail>
     Ok(stores)
 }
 
+type Served = Finish<Doorway<MemoryDoor>, MemoryExit, MemoryStore>;
+
 // Two peers are served by so many workers.
 fn serve<R: Threads + Wait + Sync>(
     rt: &R,
     alloc: Global,
     row: &Row,
     workers: u32,
-) -> Result<Finish<Doorway<MemoryDoor>, MemoryExit, MemoryStore>, Fail>
+) -> Result<Served, Fail>
     requires some { 0 < workers }
     requires few { workers ≤ 16 }
 {
@@ -162,28 +167,44 @@ fn serve<R: Threads + Wait + Sync>(
     ))
 }
 
+// What was sent to the peer with a number.
+fn sent_to(exit: &MemoryExit, number: u64) -> Option<&[u8]> {
+    for end in exit.served() {
+        if end.0 == number {
+            return Some(end.1.sent());
+        }
+    }
+    None
+}
+
 // So many ends were closed, each of the first numbers once.
 fn check_closed(rt: &impl Abort, exit: &MemoryExit, closed: usize) {
-    let served = exit.served();
-    assert_eq!(rt; served.len(), closed);
+    assert_eq!(rt; exit.served().len(), closed);
     for number in 0..closed as u64 {
-        assert!(rt; served.iter().any(|end| end.0 == number));
+        assert!(rt; sent_to(exit, number).is_some());
     }
 }
 
 // So many of them got the whole reply, and each other one what a cut one gets.
 fn check_sent(rt: &impl Abort, exit: &MemoryExit, whole: usize, cut: &[u8]) {
-    let served = exit.served();
-    assert_eq!(rt;
-        served
-            .iter()
-            .filter(|end| end.1.sent() == PART_REPLY)
-            .count(),
-        whole
-    );
-    for end in served {
-        assert!(rt; end.1.sent() == PART_REPLY || end.1.sent() == cut);
+    let mut count = 0usize;
+    for end in exit.served() {
+        let sent = end.1.sent();
+        if sent == PART_REPLY {
+            count = count.saturating_add(1);
+        } else {
+            assert!(rt; sent == cut);
+        }
     }
+    assert_eq!(rt; count, whole);
+}
+
+// Serving ends as the row says.
+fn check_finish(rt: &impl Abort, finish: &Served, row: &Row) {
+    assert!(rt; finish.end == row.end);
+    assert_eq!(rt; finish.stores.len(), 16);
+    check_closed(rt, &finish.exit, row.closed);
+    check_sent(rt, &finish.exit, row.whole, row.cut);
 }
 
 fn check<R: Threads + Wait + Sync + Abort>(
@@ -196,10 +217,7 @@ fn check<R: Threads + Wait + Sync + Abort>(
     requires few { workers ≤ 16 }
 {
     let finish = serve(rt, alloc, row, workers)?;
-    assert!(rt; finish.end == row.end);
-    assert_eq!(rt; finish.stores.len(), 16);
-    check_closed(rt, &finish.exit, row.closed);
-    check_sent(rt, &finish.exit, row.whole, row.cut);
+    check_finish(rt, &finish, row);
     Ok(())
 }
 
@@ -209,9 +227,9 @@ fn check_all<R: Threads + Wait + Sync + Abort>(
     rows: &[Row],
 ) -> Result<(), Fail> {
     for row in rows {
-        check(rt, alloc, row, 1)?;
-        check(rt, alloc, row, 2)?;
-        check(rt, alloc, row, 3)?;
+        for workers in 1..4u32 {
+            check(rt, alloc, row, workers)?;
+        }
     }
     Ok(())
 }
@@ -219,16 +237,6 @@ fn check_all<R: Threads + Wait + Sync + Abort>(
 #[test]
 fn serves_two_peers(rt: HostRuntime) -> Result<(), Fail> {
     check_all(&rt, rt.alloc(), ROWS)
-}
-
-// What was sent to the peer with a number.
-fn sent_to(exit: &MemoryExit, number: u64) -> Option<&[u8]> {
-    for end in exit.served() {
-        if end.0 == number {
-            return Some(end.1.sent());
-        }
-    }
-    None
 }
 
 // More than the calls that are made of an entrance, of a link, or of a store by all peers.
@@ -240,7 +248,27 @@ fn front_of(bytes: &'static [u8], k: u64) -> &'static [u8] {
     &bytes[..len.min(bytes.len() as u64) as usize]
 }
 
-// The k-th call of one peer's link fails: it gets a front of its reply, and the other one the whole.
+// Both peers are served, and these are sent to them.
+fn check_both<R: Threads + Wait + Sync + Abort>(
+    rt: &R,
+    alloc: Global,
+    row: &Row,
+    workers: u32,
+    first: &[u8],
+    second: &[u8],
+) -> Result<(), Fail>
+    requires some { 0 < workers }
+    requires few { workers ≤ 16 }
+{
+    let finish = serve(rt, alloc, row, workers)?;
+    assert!(rt; finish.end == HallEnd::All);
+    assert_eq!(rt; sent_to(&finish.exit, 0), Some(first));
+    assert_eq!(rt; sent_to(&finish.exit, 1), Some(second));
+    Ok(())
+}
+
+// The k-th call of one peer's link fails: it gets a front of its reply, and the other one the whole. So it is where the stores
+// fail too, with the reply that says so.
 fn check_link<R: Threads + Wait + Sync + Abort>(
     rt: &R,
     alloc: Global,
@@ -250,53 +278,24 @@ fn check_link<R: Threads + Wait + Sync + Abort>(
     requires some { 0 < workers }
     requires few { workers ≤ 16 }
 {
-    let first = serve(
-        rt,
-        alloc,
-        &Row {
-            first: &[k],
-            ..BOTH
-        },
-        workers,
-    )?;
-    assert!(rt; first.end == HallEnd::All);
-    assert_eq!(rt; sent_to(&first.exit, 0), Some(front_of(PART_REPLY, k)));
-    assert_eq!(rt; sent_to(&first.exit, 1), Some(PART_REPLY));
-    let second = serve(
-        rt,
-        alloc,
-        &Row {
-            second: &[k],
-            ..BOTH
-        },
-        workers,
-    )?;
-    assert!(rt; second.end == HallEnd::All);
-    assert_eq!(rt; sent_to(&second.exit, 0), Some(PART_REPLY));
-    assert_eq!(rt; sent_to(&second.exit, 1), Some(front_of(PART_REPLY, k)));
-    Ok(())
-}
-
-// The same where the stores fail too: the peer gets a front of the reply that says so.
-fn check_link_of_a_failed_store<R: Threads + Wait + Sync + Abort>(
-    rt: &R,
-    alloc: Global,
-    k: u64,
-    workers: u32,
-) -> Result<(), Fail>
-    requires some { 0 < workers }
-    requires few { workers ≤ 16 }
-{
-    let row = Row {
-        first: &[k],
-        store: &[0, 1, 2, 3, 4, 5, 6, 7],
+    let failing = &[k];
+    let first = Row {
+        first: failing,
         ..BOTH
     };
-    let finish = serve(rt, alloc, &row, workers)?;
-    assert!(rt; finish.end == HallEnd::All);
-    assert_eq!(rt; sent_to(&finish.exit, 0), Some(front_of(FAILED_REPLY, k)));
-    assert_eq!(rt; sent_to(&finish.exit, 1), Some(FAILED_REPLY));
-    Ok(())
+    let second = Row {
+        second: failing,
+        ..BOTH
+    };
+    let no_store = Row {
+        first: failing,
+        ..WITHOUT_STORE
+    };
+    let front = front_of(PART_REPLY, k);
+    let failed = front_of(FAILED_REPLY, k);
+    check_both(rt, alloc, &first, workers, front, PART_REPLY)?;
+    check_both(rt, alloc, &second, workers, PART_REPLY, front)?;
+    check_both(rt, alloc, &no_store, workers, failed, FAILED_REPLY)
 }
 
 // The k-th call of the entrance fails: the first binds its port, and each other one accepts.
@@ -309,15 +308,38 @@ fn check_entrance<R: Threads + Wait + Sync + Abort>(
     requires some { 0 < workers }
     requires few { workers ≤ 16 }
 {
-    let finish = serve(rt, alloc, &Row { door: &[k], ..BOTH }, workers)?;
-    assert_eq!(rt; finish.end == HallEnd::All, k > 2);
-    assert_eq!(rt; finish.end == HallEnd::DoorFault, k <= 2);
-    check_closed(rt, &finish.exit, k.saturating_sub(1).min(2) as usize);
-    check_sent(rt, &finish.exit, k.saturating_sub(1).min(2) as usize, &[]);
-    Ok(())
+    let closed = k.saturating_sub(1).min(2) as usize;
+    let row = Row {
+        door: &[k],
+        end: if k > 2 {
+            HallEnd::All
+        } else {
+            HallEnd::DoorFault
+        },
+        closed,
+        whole: closed,
+        ..BOTH
+    };
+    check(rt, alloc, &row, workers)
 }
 
-// The k-th call of each store fails, of which each request makes two: a peer gets the whole reply, or that the store failed.
+// Whether the peer with a number was told that the store failed; else it got the whole reply.
+fn was_failed(rt: &impl Abort, exit: &MemoryExit, number: u64) -> bool {
+    let sent = sent_to(exit, number);
+    assert!(rt; sent == Some(PART_REPLY) || sent == Some(FAILED_REPLY));
+    sent == Some(FAILED_REPLY)
+}
+
+// Which of both peers are told that the store failed, where the k-th call of each store fails. Each request makes two.
+fn check_failed(rt: &impl Abort, k: u64, workers: u32, failed: (bool, bool)) {
+    if workers == 1 {
+        assert_eq!(rt; failed, (k < 2, k == 2 || k == 3));
+    } else {
+        assert!(rt; k < 4 || failed == (false, false));
+    }
+}
+
+// The k-th call of each store fails: a peer gets the whole reply, or that the store failed.
 fn check_store<R: Threads + Wait + Sync + Abort>(
     rt: &R,
     alloc: Global,
@@ -327,27 +349,16 @@ fn check_store<R: Threads + Wait + Sync + Abort>(
     requires some { 0 < workers }
     requires few { workers ≤ 16 }
 {
-    let finish = serve(
-        rt,
-        alloc,
-        &Row {
-            store: &[k],
-            ..BOTH
-        },
-        workers,
-    )?;
+    let row = Row {
+        store: &[k],
+        ..BOTH
+    };
+    let finish = serve(rt, alloc, &row, workers)?;
     assert!(rt; finish.end == HallEnd::All);
     check_closed(rt, &finish.exit, 2);
-    let first = sent_to(&finish.exit, 0);
-    let second = sent_to(&finish.exit, 1);
-    assert!(rt; first == Some(PART_REPLY) || first == Some(FAILED_REPLY));
-    assert!(rt; second == Some(PART_REPLY) || second == Some(FAILED_REPLY));
-    let failed = (first == Some(FAILED_REPLY), second == Some(FAILED_REPLY));
-    if workers == 1 {
-        assert_eq!(rt; failed, (k < 2, k == 2 || k == 3));
-    } else {
-        assert!(rt; k < 4 || failed == (false, false));
-    }
+    let first = was_failed(rt, &finish.exit, 0);
+    let second = was_failed(rt, &finish.exit, 1);
+    check_failed(rt, k, workers, (first, second));
     Ok(())
 }
 
@@ -356,7 +367,6 @@ fn goes_on_behind_each_failing_call(rt: HostRuntime) -> Result<(), Fail> {
     for k in 0..MOST_CALLS {
         for workers in 1..4u32 {
             check_link(&rt, rt.alloc(), k, workers)?;
-            check_link_of_a_failed_store(&rt, rt.alloc(), k, workers)?;
             check_store(&rt, rt.alloc(), k, workers)?;
         }
     }

@@ -5,11 +5,15 @@
 #[cfg(test)]
 mod hall_rows;
 #[cfg(test)]
+mod local_store;
+#[cfg(test)]
 mod peer_dial_rows;
 #[cfg(test)]
 mod plain_client_rows;
 #[cfg(test)]
 mod plain_server_rows;
+#[cfg(test)]
+mod random;
 #[cfg(test)]
 mod range_server_rows;
 #[cfg(test)]

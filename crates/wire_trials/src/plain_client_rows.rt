@@ -4,17 +4,15 @@ mod pieces;
 mod random;
 mod rows;
 
+use crate::local_store::local_store;
+use memory_rows::name_of;
 use pieces::PieceDial;
 use plain_client::{PlainReply, plain_reply};
-use remote_store::{Remote, ScriptDial, Wanted, is_host};
-use std::alloc::Global;
+use remote_store::{Remote, ScriptDial, Wanted};
+use std::alloc::{AllocError, Global};
 use std::process::Abort;
 use std::test::Fail;
-use vol_base::{Got, Name, Source};
-
-fn name_of(text: &[u8]) -> Result<Name, Fail> {
-    Ok(Name::new(text).ok_or("a name")?)
-}
+use vol_base::{Got, Source};
 
 // What is asked of an object: so many bytes from a place on, or its length where there are none.
 #[derive(Clone, Copy)]
@@ -57,22 +55,23 @@ struct Heard {
     came: usize,
 }
 
-// A store over the peer.
-fn store_of(alloc: Global, peer: &Peer<'_>) -> Result<Remote<PieceDial<ScriptDial>>, Fail> {
-    let host = String::from_str(alloc, "localhost")?;
-    if !is_host(host.as_str().as_bytes()) {
-        return Err(Fail::from("no host"));
-    }
+// What the peer says.
+fn said_by(alloc: Global, peer: &Peer<'_>) -> Result<Vec<u8>, AllocError> {
     let mut said = Vec::from_slice(alloc, peer.reply)?;
     said.extend_from_slice(peer.behind)?;
+    Ok(said)
+}
+
+// A store over the peer.
+fn store_of(alloc: Global, peer: &Peer<'_>) -> Result<Remote<PieceDial<ScriptDial>>, Fail> {
+    let script = ScriptDial::new(said_by(alloc, peer)?);
     let sizes = Vec::from_slice(alloc, peer.sizes)?;
-    let dial = PieceDial::new(ScriptDial::new(said), sizes);
-    Ok(Remote::new(alloc, dial, host, 8080, &name_of(b"d")?)?)
+    local_store(alloc, PieceDial::new(script, sizes))
 }
 
 fn hear(alloc: Global, asked: Asked, peer: &Peer<'_>) -> Result<Heard, Fail> {
     let mut store = store_of(alloc, peer)?;
-    let name = name_of(b"d/s/x")?;
+    let name = name_of("d/s/x")?;
     let mut heard = Heard {
         size: None,
         got: None,
@@ -127,8 +126,7 @@ fn compare(
     peer: &Peer<'_>,
 ) -> Result<Option<PlainReply>, Fail> {
     let heard = hear(alloc, asked, peer)?;
-    let mut said = Vec::from_slice(alloc, peer.reply)?;
-    said.extend_from_slice(peer.behind)?;
+    let said = said_by(alloc, peer)?;
     let came = &said[..heard.came.min(said.len())];
     let found = plain_reply(alloc, asked.wanted(), came)?;
     match &found {

@@ -5,27 +5,22 @@ mod random;
 mod rows;
 
 use cuts::CutLink;
+use memory_rows::{name_of, put};
 use plain_server::plain_replies;
 use range_server::{ServeFault, serve_conn};
 use std::alloc::Global;
 use std::process::Abort;
 use std::test::Fail;
-use vol_base::{MemoryLink, MemoryStore, Name};
+use vol_base::{MemoryLink, MemoryStore};
 
-fn name(text: &[u8]) -> Result<Name, Fail> {
-    Ok(Name::new(text).ok_or("a name")?)
-}
+const OBJECTS: &[(&str, &[u8])] = &[("d/s/x", b"0123456789"), ("d/s/empty", b"")];
 
 // A store with an object of ten bytes, one of none, and one that is longer than what is sent at once. Some of its
 // calls fail.
 fn store_of(alloc: Global, failing: &[u64]) -> Result<MemoryStore, Fail> {
-    let mut store = MemoryStore::new(alloc, Vec::from_slice(alloc, failing)?);
-    store.put(
-        &name(b"d/s/x")?,
-        Vec::from_slice(alloc, b"0123456789".as_slice())?,
-    )?;
-    store.put(&name(b"d/s/empty")?, Vec::new(alloc))?;
-    store.put(&name(b"d/s/long")?, Vec::from_elem(alloc, b'l', 150_000)?)?;
+    let long = Vec::from_elem(alloc, b'l', 150_000)?;
+    let mut store = memory_rows::store_of(alloc, OBJECTS, failing)?;
+    put(alloc, &mut store, "d/s/long", &long)?;
     Ok(store)
 }
 
@@ -53,6 +48,17 @@ fn link_of(alloc: Global, peer: &Peer<'_>, failing: &[u64]) -> Result<CutLink, F
     Ok(CutLink::new(link, sizes))
 }
 
+// How serving a link ends, while calls of the store fail.
+fn serve_link(
+    alloc: Global,
+    link: &mut CutLink,
+    failing: &[u64],
+) -> Result<Result<(), ServeFault>, Fail> {
+    let mut store = store_of(alloc, failing)?;
+    let dataset = name_of("d")?;
+    Ok(serve_conn(alloc, link, &mut store, &dataset))
+}
+
 // What is sent to a peer, and how serving ends.
 fn serve(
     alloc: Global,
@@ -60,15 +66,15 @@ fn serve(
     faults: &Faults<'_>,
 ) -> Result<(Vec<u8>, Result<(), ServeFault>), Fail> {
     let mut link = link_of(alloc, peer, faults.link)?;
-    let mut store = store_of(alloc, faults.store)?;
-    let served = serve_conn(alloc, &mut link, &mut store, &name(b"d")?);
+    let served = serve_link(alloc, &mut link, faults.store)?;
     Ok((Vec::from_slice(alloc, link.sent())?, served))
 }
 
 // The replies to a stream, made the plain way.
 fn plain(alloc: Global, stream: &[u8]) -> Result<Vec<u8>, Fail> {
     let mut store = store_of(alloc, &[])?;
-    Ok(plain_replies(alloc, stream, &mut store, &name(b"d")?)?)
+    let dataset = name_of("d")?;
+    Ok(plain_replies(alloc, stream, &mut store, &dataset)?)
 }
 
 // A peer whose calls don't fail is sent these.

@@ -4,15 +4,18 @@ ghost use Rattle.vol_base.specs.Peers.{IsFresh};
 
 mod receives;
 
+use memory_rows::{name_of, store_of};
 use range_server::{
     DoorRefusal, Ending, RangeAnswer, ServeFault, range_of, serve_ends, serve_to_end,
 };
-use std::alloc::Global;
+use std::alloc::{AllocError, Global};
 use std::process::Abort;
 use std::test::Fail;
-use vol_base::{Door, MemoryDoor, MemoryLink, MemoryStore, Name};
+use vol_base::{Door, MemoryDoor, MemoryLink};
 
-const OBJECT: &[u8] = b"0123456789";
+const OBJECTS: &[(&str, &[u8])] = &[("d/s/x", b"0123456789")];
+
+type Ended = Result<Ending, ServeFault>;
 
 const PART: &[u8] = b"GET /s/x HTTP/1.1\r\nHost: a\r\nRange: bytes=2-4\r\n\r\n";
 
@@ -24,13 +27,6 @@ const BAD_REPLY: &[u8] =
 
 const FAILED_REPLY: &[u8] =
     b"HTTP/1.1 500 Internal Server Error\r\nContent-Length: 0\r\nContent-Type: application/octet-stream\r\nAccept-Ranges: bytes\r\nAccess-Control-Allow-Origin: *\r\nConnection: close\r\n\r\n";
-
-fn name(text: &[u8]) -> Result<Name, Fail> {
-    match Name::new(text) {
-        Some(name) => Ok(name),
-        None => Err("a name".into()),
-    }
-}
 
 // A link whose calls move at most so many bytes, with some calls that fail.
 fn link_of(alloc: Global, bytes: &[u8], piece: usize, failing: &[u64]) -> Result<MemoryLink, Fail>
@@ -44,14 +40,11 @@ fn link_of(alloc: Global, bytes: &[u8], piece: usize, failing: &[u64]) -> Result
     }
 }
 
-// A store with one object, some of whose calls fail.
-fn store_of(alloc: Global, failing: &[u64]) -> Result<MemoryStore, Fail> {
-    let mut store = MemoryStore::new(alloc, Vec::from_slice(alloc, failing)?);
-    let put = store.put(&name(b"d/s/x")?, Vec::from_slice(alloc, OBJECT)?);
-    if put.is_err() {
-        return Err("memory".into());
-    }
-    Ok(store)
+// How serving a link ends, while calls of the store fail.
+fn serve_link(alloc: Global, link: &mut MemoryLink, failing: &[u64]) -> Result<Ended, Fail> {
+    let mut store = store_of(alloc, OBJECTS, failing)?;
+    let dataset = name_of("d")?;
+    Ok(serve_to_end(alloc, link, &mut store, &dataset).ended)
 }
 
 // What is sent to a peer whose bytes come in pieces, and how serving ends.
@@ -61,10 +54,9 @@ fn serve(
     piece: usize,
     link_failing: &[u64],
     store_failing: &[u64],
-) -> Result<(Vec<u8>, Result<Ending, ServeFault>), Fail> {
+) -> Result<(Vec<u8>, Ended), Fail> {
     let mut link = link_of(alloc, bytes, piece, link_failing)?;
-    let mut store = store_of(alloc, store_failing)?;
-    let served = serve_to_end(alloc, &mut link, &mut store, &name(b"d")?).ended;
+    let served = serve_link(alloc, &mut link, store_failing)?;
     Ok((Vec::from_slice(alloc, link.sent())?, served))
 }
 
@@ -78,133 +70,142 @@ fn replies_are(rt: &impl Abort, alloc: Global, request: &[u8], replies: &[u8]) -
     Ok(())
 }
 
-#[test]
-fn answers_ranges(rt: HostRuntime) -> Result<(), Fail> {
-    let whole = RangeAnswer::Whole;
-    let none = RangeAnswer::Unsatisfiable;
-    for (value, wanted) in [
-        (
-            b"bytes=2-4".as_slice(),
-            RangeAnswer::Part { first: 2, last: 4 },
-        ),
-        (
-            b"bytes=-3".as_slice(),
-            RangeAnswer::Part { first: 7, last: 9 },
-        ),
-        (
-            b"bytes=-30".as_slice(),
-            RangeAnswer::Part { first: 0, last: 9 },
-        ),
-        (
-            b" \tBYTES=5- ".as_slice(),
-            RangeAnswer::Part { first: 5, last: 9 },
-        ),
-        (b"bytes=10-".as_slice(), none),
-        (b"bytes=-0".as_slice(), none),
-        (b"bytes=4-2".as_slice(), whole),
-        (b"bytes=1-2,4-5".as_slice(), whole),
-        (b"bytes=".as_slice(), whole),
-        (b"bytes=-".as_slice(), whole),
-        (b"byte=1-2".as_slice(), whole),
-        (
-            b"bytes=20000000000000000001-20000000000000000000".as_slice(),
-            whole,
-        ),
-        (
-            b"bytes=20000000000000000000-00000000000000000000020000000000000000001".as_slice(),
-            none,
-        ),
-        (
-            b"bytes=3-20000000000000000000".as_slice(),
-            RangeAnswer::Part { first: 3, last: 9 },
-        ),
-    ] {
-        assert_eq!(rt; range_of(value, 10), wanted);
+// A value of the field Range, and what it asks of an object.
+type Asked = (&'static [u8], RangeAnswer);
+
+const RANGES: &[Asked] = &[
+    (b"bytes=2-4", RangeAnswer::Part { first: 2, last: 4 }),
+    (b"bytes=-3", RangeAnswer::Part { first: 7, last: 9 }),
+    (b"bytes=-30", RangeAnswer::Part { first: 0, last: 9 }),
+    (b" \tBYTES=5- ", RangeAnswer::Part { first: 5, last: 9 }),
+    (b"bytes=10-", RangeAnswer::Unsatisfiable),
+    (b"bytes=-0", RangeAnswer::Unsatisfiable),
+    (b"bytes=4-2", RangeAnswer::Whole),
+    (b"bytes=1-2,4-5", RangeAnswer::Whole),
+    (b"bytes=", RangeAnswer::Whole),
+    (b"bytes=-", RangeAnswer::Whole),
+    (b"byte=1-2", RangeAnswer::Whole),
+    (
+        b"bytes=20000000000000000001-20000000000000000000",
+        RangeAnswer::Whole,
+    ),
+    (
+        b"bytes=20000000000000000000-00000000000000000000020000000000000000001",
+        RangeAnswer::Unsatisfiable,
+    ),
+    (
+        b"bytes=3-20000000000000000000",
+        RangeAnswer::Part { first: 3, last: 9 },
+    ),
+];
+
+// What these ask of an object of so many bytes.
+fn check_ranges(rt: &impl Abort, size: u64, rows: &[Asked]) {
+    for (value, wanted) in rows {
+        assert_eq!(rt; range_of(value, size), *wanted);
     }
-    assert_eq!(rt; range_of(b"bytes=-5", 0), whole);
+}
+
+#[test]
+fn answers_ranges(rt: HostRuntime) {
+    check_ranges(&rt, 10, RANGES);
+    check_ranges(&rt, 0, &[(b"bytes=-5", RangeAnswer::Whole)]);
+}
+
+// Requests, and the replies to them.
+type Exchange = (&'static [u8], &'static [u8]);
+
+const EXCHANGES: &[Exchange] = &[
+    (PART, PART_REPLY),
+    (
+        b"HEAD /s/x HTTP/1.1\r\nHost: a\r\n\r\n",
+        b"HTTP/1.1 200 OK\r\nContent-Length: 10\r\nContent-Type: application/octet-stream\r\nAccept-Ranges: bytes\r\nAccess-Control-Allow-Origin: *\r\n\r\n",
+    ),
+    (
+        b"GET /s/y HTTP/1.1\r\nHost: a\r\n\r\n",
+        b"HTTP/1.1 404 Not Found\r\nContent-Length: 0\r\nContent-Type: application/octet-stream\r\nAccept-Ranges: bytes\r\nAccess-Control-Allow-Origin: *\r\n\r\n",
+    ),
+    (
+        b"POST /s/x HTTP/1.1\r\nHost: a\r\n\r\n",
+        b"HTTP/1.1 405 Method Not Allowed\r\nContent-Length: 0\r\nContent-Type: application/octet-stream\r\nAccept-Ranges: bytes\r\nAccess-Control-Allow-Origin: *\r\nAllow: GET, HEAD\r\n\r\n",
+    ),
+    (
+        b"POST /s/x HTTP/1.1\r\nHost: a\r\nContent-Length: 5\r\n\r\n12345",
+        BAD_REPLY,
+    ),
+    (
+        b"GET /s/x HTTP/1.0\r\nHost: a\r\n\r\n",
+        b"HTTP/1.1 200 OK\r\nContent-Length: 10\r\nContent-Type: application/octet-stream\r\nAccept-Ranges: bytes\r\nAccess-Control-Allow-Origin: *\r\nConnection: close\r\n\r\n0123456789",
+    ),
+    (
+        b"GET /s/x HTTP/1.1\r\nRange: bytes=10-\r\n\r\n",
+        b"HTTP/1.1 416 Range Not Satisfiable\r\nContent-Length: 0\r\nContent-Type: application/octet-stream\r\nAccept-Ranges: bytes\r\nAccess-Control-Allow-Origin: *\r\nContent-Range: bytes */10\r\n\r\n",
+    ),
+    (b"\x00", BAD_REPLY),
+    (b"GET /s/x HTTP/1.1\r\nHost", BAD_REPLY),
+    (b"", b""),
+];
+
+fn check_exchanges(rt: &impl Abort, alloc: Global, rows: &[Exchange]) -> Result<(), Fail> {
+    for (request, replies) in rows {
+        replies_are(rt, alloc, request, replies)?;
+    }
     Ok(())
 }
 
 #[test]
 fn serves_in_every_piece(rt: HostRuntime) -> Result<(), Fail> {
-    replies_are(&rt, rt.alloc(), PART, PART_REPLY)?;
-    replies_are(
-        &rt,
-        rt.alloc(),
-        b"HEAD /s/x HTTP/1.1\r\nHost: a\r\n\r\n",
-        b"HTTP/1.1 200 OK\r\nContent-Length: 10\r\nContent-Type: application/octet-stream\r\nAccept-Ranges: bytes\r\nAccess-Control-Allow-Origin: *\r\n\r\n",
-    )?;
-    replies_are(
-        &rt,
-        rt.alloc(),
-        b"GET /s/y HTTP/1.1\r\nHost: a\r\n\r\n",
-        b"HTTP/1.1 404 Not Found\r\nContent-Length: 0\r\nContent-Type: application/octet-stream\r\nAccept-Ranges: bytes\r\nAccess-Control-Allow-Origin: *\r\n\r\n",
-    )?;
-    replies_are(
-        &rt,
-        rt.alloc(),
-        b"POST /s/x HTTP/1.1\r\nHost: a\r\n\r\n",
-        b"HTTP/1.1 405 Method Not Allowed\r\nContent-Length: 0\r\nContent-Type: application/octet-stream\r\nAccept-Ranges: bytes\r\nAccess-Control-Allow-Origin: *\r\nAllow: GET, HEAD\r\n\r\n",
-    )?;
-    replies_are(
-        &rt,
-        rt.alloc(),
-        b"POST /s/x HTTP/1.1\r\nHost: a\r\nContent-Length: 5\r\n\r\n12345",
-        BAD_REPLY,
-    )?;
-    replies_are(
-        &rt,
-        rt.alloc(),
-        b"GET /s/x HTTP/1.0\r\nHost: a\r\n\r\n",
-        b"HTTP/1.1 200 OK\r\nContent-Length: 10\r\nContent-Type: application/octet-stream\r\nAccept-Ranges: bytes\r\nAccess-Control-Allow-Origin: *\r\nConnection: close\r\n\r\n0123456789",
-    )?;
-    replies_are(
-        &rt,
-        rt.alloc(),
-        b"GET /s/x HTTP/1.1\r\nRange: bytes=10-\r\n\r\n",
-        b"HTTP/1.1 416 Range Not Satisfiable\r\nContent-Length: 0\r\nContent-Type: application/octet-stream\r\nAccept-Ranges: bytes\r\nAccess-Control-Allow-Origin: *\r\nContent-Range: bytes */10\r\n\r\n",
-    )?;
-    replies_are(&rt, rt.alloc(), b"\x00", BAD_REPLY)?;
-    replies_are(&rt, rt.alloc(), b"GET /s/x HTTP/1.1\r\nHost", BAD_REPLY)?;
-    replies_are(&rt, rt.alloc(), b"", b"")
+    check_exchanges(&rt, rt.alloc(), EXCHANGES)
 }
+
+// Two streams, one behind the other.
+fn joined(alloc: Global, first: &[u8], second: &[u8]) -> Result<Vec<u8>, AllocError> {
+    let mut bytes = Vec::from_slice(alloc, first)?;
+    bytes.extend_from_slice(second)?;
+    Ok(bytes)
+}
+
+const CLOSING: &[u8] =
+    b"GET /s/x HTTP/1.1\r\nRange: bytes=2-4\r\nConnection: Keep-Alive, CLOSE\r\n\r\n";
+
+const CLOSING_REPLY: &[u8] =
+    b"HTTP/1.1 206 Partial Content\r\nContent-Length: 3\r\nContent-Type: application/octet-stream\r\nAccept-Ranges: bytes\r\nAccess-Control-Allow-Origin: *\r\nContent-Range: bytes 2-4/10\r\nConnection: close\r\n\r\n234";
 
 #[test]
 fn answers_piped_requests(rt: HostRuntime) -> Result<(), Fail> {
-    let mut request = Vec::from_slice(rt.alloc(), PART)?;
-    request.extend_from_slice(PART)?;
-    let mut replies = Vec::from_slice(rt.alloc(), PART_REPLY)?;
-    replies.extend_from_slice(PART_REPLY)?;
-    replies_are(&rt, rt.alloc(), &request, &replies)?;
-    let closing =
-        b"GET /s/x HTTP/1.1\r\nRange: bytes=2-4\r\nConnection: Keep-Alive, CLOSE\r\n\r\n".as_slice();
-    let mut last = Vec::from_slice(rt.alloc(), closing)?;
-    last.extend_from_slice(PART)?;
-    replies_are(
-        &rt,
-        rt.alloc(),
-        &last,
-        b"HTTP/1.1 206 Partial Content\r\nContent-Length: 3\r\nContent-Type: application/octet-stream\r\nAccept-Ranges: bytes\r\nAccess-Control-Allow-Origin: *\r\nContent-Range: bytes 2-4/10\r\nConnection: close\r\n\r\n234",
-    )
+    let alloc = rt.alloc();
+    let twice = joined(alloc, PART, PART)?;
+    replies_are(&rt, alloc, &twice, &joined(alloc, PART_REPLY, PART_REPLY)?)?;
+    replies_are(&rt, alloc, &joined(alloc, CLOSING, PART)?, CLOSING_REPLY)
+}
+
+// Where this call of the link fails, a front of the reply is sent.
+fn check_link_call(rt: &impl Abort, alloc: Global, call: u64) -> Result<(), Fail> {
+    let (sent, served) = serve(alloc, PART, 5, &[call], &[])?;
+    if served == Ok(Ending::Whole) {
+        assert_eq!(rt; sent.as_slice(), PART_REPLY);
+    } else {
+        assert_eq!(rt; served, Err(ServeFault::LinkFault));
+        assert!(rt; PART_REPLY.starts_with(&sent));
+    }
+    Ok(())
+}
+
+// Where this call of the store fails, the reply says so.
+fn check_store_call(rt: &impl Abort, alloc: Global, call: u64) -> Result<(), Fail> {
+    let (sent, served) = serve(alloc, PART, 5, &[], &[call])?;
+    assert_eq!(rt; served, Ok(Ending::Failed));
+    assert_eq!(rt; sent.as_slice(), FAILED_REPLY);
+    Ok(())
 }
 
 #[test]
 fn stops_at_each_failing_call(rt: HostRuntime) -> Result<(), Fail> {
     for call in 0..200u64 {
-        let (sent, served) = serve(rt.alloc(), PART, 5, &[call], &[])?;
-        if served == Ok(Ending::Whole) {
-            assert_eq!(rt; sent.as_slice(), PART_REPLY);
-        } else {
-            assert_eq!(rt; served, Err(ServeFault::LinkFault));
-            assert!(rt; PART_REPLY.starts_with(&sent));
-        }
+        check_link_call(&rt, rt.alloc(), call)?;
     }
-    for call in 0..2u64 {
-        let (sent, served) = serve(rt.alloc(), PART, 5, &[], &[call])?;
-        assert_eq!(rt; served, Ok(Ending::Failed));
-        assert_eq!(rt; sent.as_slice(), FAILED_REPLY);
-    }
-    Ok(())
+    check_store_call(&rt, rt.alloc(), 0)?;
+    check_store_call(&rt, rt.alloc(), 1)
 }
 
 // A door where two peers come, some of whose calls fail.
@@ -237,25 +238,36 @@ fn serve_two(
         Ok(_) => {}
         Err(_) => return Err("no port".into()),
     }
-    let mut store = store_of(alloc, &[])?;
-    let served = serve_ends(alloc, &mut door, &mut store, &name(b"d")?, connections);
+    let mut store = store_of(alloc, OBJECTS, &[])?;
+    let dataset = name_of("d")?;
+    let served = serve_ends(alloc, &mut door, &mut store, &dataset, connections);
     Ok((door, served))
+}
+
+// Serving so many peers ends so, and this is sent to each end that was served.
+fn check_ends(
+    rt: &impl Abort,
+    alloc: Global,
+    failing: &[u64],
+    connections: u64,
+    wanted: Result<(), DoorRefusal>,
+    sent: &[&[u8]],
+) -> Result<(), Fail> {
+    let (door, served) = serve_two(alloc, failing, connections)?;
+    assert_eq!(rt; served, wanted);
+    let ends = door.served();
+    assert_eq!(rt; ends.len(), sent.len());
+    for i in 0..ends.len().min(sent.len()) {
+        assert_eq!(rt; ends[i].sent(), sent[i]);
+    }
+    Ok(())
 }
 
 #[test]
 fn serves_the_ends_of_a_door(rt: HostRuntime) -> Result<(), Fail> {
-    let (door, served) = serve_two(rt.alloc(), &[], 2)?;
-    assert_eq!(rt; served, Ok(()));
-    let [first, second] = door.served() else {
-        return Err("two ends".into());
-    };
-    assert_eq!(rt; first.sent(), b"".as_slice());
-    assert_eq!(rt; second.sent(), PART_REPLY);
-    let (door, served) = serve_two(rt.alloc(), &[3], 2)?;
-    assert_eq!(rt; served, Err(DoorRefusal::DoorFault));
-    assert_eq!(rt; door.served().len(), 1);
-    let (door, served) = serve_two(rt.alloc(), &[], 3)?;
-    assert_eq!(rt; served, Err(DoorRefusal::DoorFault));
-    assert_eq!(rt; door.served().len(), 2);
-    Ok(())
+    let alloc = rt.alloc();
+    let fault = Err(DoorRefusal::DoorFault);
+    check_ends(&rt, alloc, &[], 2, Ok(()), &[b"", PART_REPLY])?;
+    check_ends(&rt, alloc, &[3], 2, fault, &[b""])?;
+    check_ends(&rt, alloc, &[], 3, fault, &[b"", PART_REPLY])
 }

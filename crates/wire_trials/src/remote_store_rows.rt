@@ -2,8 +2,9 @@
 
 mod random;
 
+use crate::local_store::local_store;
 use memory_rows::name_of;
-use remote_store::{Remote, ScriptDial, is_host};
+use remote_store::{Remote, ScriptDial};
 use std::alloc::Global;
 use std::process::Abort;
 use std::test::Fail;
@@ -17,7 +18,9 @@ const CUT: &str =
 
 // A reply, and what a read of 3 bytes from the third on answers: how many, or that there is no object, or that it failed;
 // and the bytes of the buffer where it didn't fail.
-const READS: [(&str, Option<Got>, &[u8]); 16] = [
+type Read = (&'static str, Option<Got>, &'static [u8]);
+
+const READS: &[Read] = &[
     (PART, Some(Got::Bytes(3)), b"234"),
     (CUT, None, b""),
     // The object ends behind its fourth byte.
@@ -91,46 +94,53 @@ const READS: [(&str, Option<Got>, &[u8]); 16] = [
 
 // A store over a peer that says these bytes, whatever it is asked.
 fn store_of(alloc: Global, reply: &[u8]) -> Result<Remote<ScriptDial>, Fail> {
-    let host = String::from_str(alloc, "localhost")?;
-    if !is_host(host.as_str().as_bytes()) {
-        return Err(Fail::from("no host"));
-    }
-    let dial = ScriptDial::new(reply.to_vec(alloc)?);
-    match Remote::new(alloc, dial, host, 8080, &name_of("d")?) {
-        Ok(store) => Ok(store),
-        Err(_) => Err(Fail::from("no memory")),
-    }
+    local_store(alloc, ScriptDial::new(reply.to_vec(alloc)?))
 }
 
-#[test]
-fn reads_what_fits(rt: HostRuntime) -> Result<(), Fail> {
+// A read from the third byte on: how many bytes came, or that there is no object, where it didn't fail.
+fn read(store: &mut Remote<ScriptDial>, buffer: &mut [u8; 3]) -> Result<Option<Got>, Fail> {
     let name = name_of("d/s/x")?;
-    for (reply, answer, bytes) in READS {
-        let mut store = store_of(rt.alloc(), reply.as_bytes())?;
-        let mut buffer = [b'.'; 3];
-        let got = store.read_at(&name, 2, &mut buffer).ok();
-        assert_eq!(rt; got, answer, "at {reply}");
-        if got.is_some() {
-            assert_eq!(rt; buffer.as_slice(), bytes, "at {reply}");
-        }
-        let kept = reply.len().min(8192);
-        assert!(rt; store.last().len() <= kept, "at {reply}");
+    Ok(store.read_at(&name, 2, buffer).ok())
+}
+
+// A read answers this, and leaves these bytes in the buffer.
+fn check_read(rt: &impl Abort, alloc: Global, row: &Read) -> Result<(), Fail> {
+    let (reply, answer, bytes) = row;
+    let mut store = store_of(alloc, reply.as_bytes())?;
+    let mut buffer = [b'.'; 3];
+    let got = read(&mut store, &mut buffer)?;
+    assert_eq!(rt; got, *answer, "at {reply}");
+    assert!(rt; got.is_none() || buffer.as_slice() == *bytes, "at {reply}");
+    assert!(rt; store.last().len() <= reply.len().min(8192), "at {reply}");
+    Ok(())
+}
+
+fn check_reads(rt: &impl Abort, alloc: Global, rows: &[Read]) -> Result<(), Fail> {
+    for row in rows {
+        check_read(rt, alloc, row)?;
     }
     Ok(())
 }
 
 #[test]
+fn reads_what_fits(rt: HostRuntime) -> Result<(), Fail> {
+    check_reads(&rt, rt.alloc(), READS)
+}
+
+#[test]
 fn shows_what_came(rt: HostRuntime) -> Result<(), Fail> {
     let mut store = store_of(rt.alloc(), CUT.as_bytes())?;
-    let mut buffer = [0; 3];
-    assert!(rt; store.read_at(&name_of("d/s/x")?, 2, &mut buffer).is_err());
+    let got = read(&mut store, &mut [0; 3])?;
+    assert!(rt; got.is_none());
     assert_eq!(rt; store.last(), CUT.as_bytes());
     assert_eq!(rt; store.body(), 2);
     Ok(())
 }
 
 // A reply, and the length that it says, or that there is no object; or that it doesn't fit.
-const SIZES: [(&str, Option<Option<u64>>); 4] = [
+type Size = (&'static str, Option<Option<u64>>);
+
+const SIZES: &[Size] = &[
     (
         "HTTP/1.1 200 OK\r\nContent-Length: 10\r\n\r\n",
         Some(Some(10)),
@@ -143,15 +153,31 @@ const SIZES: [(&str, Option<Option<u64>>); 4] = [
     ("HTTP/1.1 200 OK\r\nContent-Length: 10\r\n\r\n0", None),
 ];
 
-#[test]
-fn says_lengths(rt: HostRuntime) -> Result<(), Fail> {
-    for (reply, answer) in SIZES {
-        let mut store = store_of(rt.alloc(), reply.as_bytes())?;
-        assert_eq!(rt; store.size(&name_of("d/s/x")?).ok(), answer, "at {reply}");
-        // A name of another data set, and nothing is sent.
-        assert_eq!(rt; store.size(&name_of("e/s/x")?).ok(), Some(None));
-        assert!(rt; store.last().is_empty());
-        assert_eq!(rt; store.body(), 0);
+// The length of an object, or that there is none, where the call doesn't fail.
+fn size_of(store: &mut Remote<ScriptDial>, name: &str) -> Result<Option<Option<u64>>, Fail> {
+    let name = name_of(name)?;
+    Ok(store.size(&name).ok())
+}
+
+// A reply says this length. At a name of another data set nothing is sent.
+fn check_size(rt: &impl Abort, alloc: Global, row: &Size) -> Result<(), Fail> {
+    let (reply, answer) = row;
+    let mut store = store_of(alloc, reply.as_bytes())?;
+    assert_eq!(rt; size_of(&mut store, "d/s/x")?, *answer, "at {reply}");
+    assert_eq!(rt; size_of(&mut store, "e/s/x")?, Some(None));
+    assert!(rt; store.last().is_empty());
+    assert_eq!(rt; store.body(), 0);
+    Ok(())
+}
+
+fn check_sizes(rt: &impl Abort, alloc: Global, rows: &[Size]) -> Result<(), Fail> {
+    for row in rows {
+        check_size(rt, alloc, row)?;
     }
     Ok(())
+}
+
+#[test]
+fn says_lengths(rt: HostRuntime) -> Result<(), Fail> {
+    check_sizes(&rt, rt.alloc(), SIZES)
 }

@@ -1,19 +1,19 @@
 //! Replies at random: well-formed, odd, cut and hostile.
-ghost use Rattle.std.specs.Prelude.{◌<◌};
 
 use super::{Asked, Peer, ROOM, compare};
+use crate::random::{Least, Random, check_counts};
 use plain_client::PlainReply;
 use remote_store::Kind;
 use std::alloc::{AllocError, Global};
 use std::process::Abort;
 use std::test::Fail;
 
-const STATUSES: [&str; 16] = [
+const STATUSES: &[&str] = &[
     "206", "206", "206", "206", "206", "206", "206", "200", "200", "200", "404", "404", "416",
     "416", "500", "2006",
 ];
 
-const VERSIONS: [&str; 5] = [
+const VERSIONS: &[&str] = &[
     "HTTP/1.0",
     "HTTP/1.0",
     "\r\nHTTP/1.1",
@@ -21,9 +21,9 @@ const VERSIONS: [&str; 5] = [
     "http/1.1",
 ];
 
-const PHRASES: [&str; 4] = ["", " ", " \u{e9}", " \u{1}"];
+const PHRASES: &[&str] = &["", " ", " \u{e9}", " \u{1}"];
 
-const NAMES: [&str; 5] = [
+const NAMES: &[&str] = &[
     "content-length",
     "CONTENT-Length",
     "Content-Length ",
@@ -31,7 +31,7 @@ const NAMES: [&str; 5] = [
     "Length",
 ];
 
-const UNITS: [&str; 6] = [
+const UNITS: &[&str] = &[
     "bytes",
     "Bytes ",
     "bytes  ",
@@ -40,9 +40,9 @@ const UNITS: [&str; 6] = [
     "bytes=",
 ];
 
-const TAILS: [&str; 6] = [" \t", " ", ",3", "a", " 3", "\u{b}"];
+const TAILS: &[&str] = &[" \t", " ", ",3", "a", " 3", "\u{b}"];
 
-const FIELDS: [&str; 20] = [
+const FIELDS: &[&str] = &[
     "X: y",
     "X:",
     "Connection: close",
@@ -65,49 +65,17 @@ const FIELDS: [&str; 20] = [
     "X: \u{1}",
 ];
 
-// Numbers by a linear congruence.
-#[derive(Drop)]
-struct Random {
-    state: u64,
+// The end of a line.
+fn line_end(random: &mut Random) -> &'static str {
+    random.line_end(400)
 }
 
-impl Random {
-    // A number below another.
-    fn below(&mut self, bound: u64) -> u64
-        requires { 0 < bound }
-        ensures { result < bound }
-    {
-        self.state = self
-            .state
-            .wrapping_mul(6364136223846793005)
-            .wrapping_add(1442695040888963407);
-        (self.state >> 33) % bound
-    }
-
-    // One of the odd texts, each once in so many draws, or else the usual one.
-    fn choose(&mut self, of: u64, odd: &[&'static str], usual: &'static str) -> &'static str
-        requires { 0 < of }
-    {
-        match odd.get(self.below(of) as usize) {
-            Some(text) => text,
-            None => usual,
-        }
-    }
-
-    fn line_end(&mut self) -> &'static str {
-        if self.below(5) == 0 {
-            return "\n";
-        }
-        self.choose(400, &["\r"], "\r\n")
-    }
-
-    // A number, or now and then the next or the one before.
-    fn about(&mut self, number: u64) -> u64 {
-        match self.below(80) {
-            0 => number.wrapping_add(1),
-            1 => number.wrapping_sub(1),
-            _ => number,
-        }
+// A number, or now and then the next or the one before.
+fn about(random: &mut Random, number: u64) -> u64 {
+    match random.below(80) {
+        0 => number.wrapping_add(1),
+        1 => number.wrapping_sub(1),
+        _ => number,
     }
 }
 
@@ -123,29 +91,48 @@ fn draw_asked(random: &mut Random) -> Asked {
     }
 }
 
+// What stands in front of a number, by a draw.
+fn front_of(draw: u64) -> &'static str {
+    match draw {
+        0 => "+",
+        1 => "0x",
+        6 => "-",
+        7..20 => "000000000000000000000000000000000000000000",
+        _ => "",
+    }
+}
+
 // A number, spelled plainly or oddly, or so great that 64 or 128 bits have no room for it.
 fn draw_number(alloc: Global, random: &mut Random, number: u64) -> Result<String, AllocError> {
-    let wide = number as u128 + (1 << 64);
-    match random.below(240) {
-        0 => format!(in alloc; "+{number}"),
-        1 => format!(in alloc; "0x{number}"),
-        2 => format!(in alloc; "{wide}"),
+    let draw = random.below(240);
+    let front = front_of(draw);
+    match draw {
+        2 => format!(in alloc; "{}", number as u128 + (1 << 64)),
         3 => String::from_str(alloc, "340282366920938463463374607431768211459"),
         4 => String::from_str(alloc, "99999999999999999999999999999999999999999999999"),
         5 => Ok(String::new(alloc)),
-        6 => format!(in alloc; "-{number}"),
-        7..20 => format!(in alloc; "000000000000000000000000000000000000000000{number}"),
-        _ => format!(in alloc; "{number}"),
+        _ => format!(in alloc; "{front}{number}"),
     }
 }
 
 fn draw_length(alloc: Global, random: &mut Random, length: u64) -> Result<String, AllocError> {
-    let name = random.choose(60, &NAMES, "Content-Length");
+    let name = random.choose(60, NAMES, "Content-Length");
     let colon = random.choose(20, &[":", ":\t "], ": ");
     let number = draw_number(alloc, random, length)?;
-    let tail = random.choose(80, &TAILS, "");
-    let end = random.line_end();
+    let tail = random.choose(80, TAILS, "");
+    let end = line_end(random);
     format!(in alloc; "{name}{colon}{number}{tail}{end}")
+}
+
+// The end of the part that is asked for, of an object of so many bytes.
+fn end_of(asked: Asked, total: u64) -> u64 {
+    asked.from.saturating_add(asked.count as u64).min(total)
+}
+
+// A number, or now and then another, spelled plainly or oddly.
+fn draw_about(alloc: Global, random: &mut Random, number: u64) -> Result<String, AllocError> {
+    let number = about(random, number);
+    draw_number(alloc, random, number)
 }
 
 // The part of an object of so many bytes that is asked for, or now and then another.
@@ -155,28 +142,19 @@ fn draw_range(
     asked: Asked,
     total: u64,
 ) -> Result<String, AllocError> {
-    let unit = random.choose(80, &UNITS, "bytes ");
-    let last = asked
-        .from
-        .saturating_add(asked.count as u64)
-        .min(total)
-        .wrapping_sub(1);
-    let number = random.about(asked.from);
-    let first = draw_number(alloc, random, number)?;
-    let number = random.about(last);
-    let last = draw_number(alloc, random, number)?;
-    let number = random.about(total);
-    let total = draw_number(alloc, random, number)?;
-    let tail = random.choose(160, &TAILS, "");
-    let end = random.line_end();
+    let unit = random.choose(80, UNITS, "bytes ");
+    let first = draw_about(alloc, random, asked.from)?;
+    let last = draw_about(alloc, random, end_of(asked, total).wrapping_sub(1))?;
+    let total = draw_about(alloc, random, total)?;
+    let tail = random.choose(160, TAILS, "");
+    let end = line_end(random);
     format!(in alloc; "Content-Range: {unit}{first}-{last}/{total}{tail}{end}")
 }
 
 // How many bytes of an object a reply has.
 fn count_body(asked: Asked, status: &str, total: u64) -> u64 {
     if status == "206" {
-        let end = asked.from.saturating_add(asked.count as u64).min(total);
-        end.saturating_sub(asked.from)
+        end_of(asked, total).saturating_sub(asked.from)
     } else {
         total
     }
@@ -192,16 +170,13 @@ fn add_long(bytes: &mut Vec<u8>, random: &mut Random) -> Result<(), AllocError> 
     bytes.extend_from_slice(b"\r\n")
 }
 
-fn add_fields(
+// The length once, or now and then twice or never.
+fn add_lengths(
     alloc: Global,
     bytes: &mut Vec<u8>,
     random: &mut Random,
-    asked: Asked,
-    status: &str,
-    total: u64,
+    length: u64,
 ) -> Result<(), AllocError> {
-    let number = count_body(asked, status, total);
-    let length = random.about(number);
     let times = match random.below(40) {
         0 => 0,
         1 => 2,
@@ -210,18 +185,37 @@ fn add_fields(
     for _ in 0..times {
         bytes.extend_from_slice(draw_length(alloc, random, length)?.as_bytes())?;
     }
-    if status == "206" {
-        bytes.extend_from_slice(draw_range(alloc, random, asked, total)?.as_bytes())?;
-    }
+    Ok(())
+}
+
+// Up to two fields that say nothing of the length.
+fn add_others(bytes: &mut Vec<u8>, random: &mut Random) -> Result<(), AllocError> {
     for _ in 0..random.below(3) {
-        let field = random.choose(120, &FIELDS, "X-Y: z");
+        let field = random.choose(120, FIELDS, "X-Y: z");
         bytes.extend_from_slice(field.as_bytes())?;
-        bytes.extend_from_slice(random.line_end().as_bytes())?;
+        bytes.extend_from_slice(line_end(random).as_bytes())?;
     }
     if random.below(40) == 0 {
         add_long(bytes, random)?;
     }
-    bytes.extend_from_slice(random.line_end().as_bytes())
+    Ok(())
+}
+
+fn add_fields(
+    alloc: Global,
+    bytes: &mut Vec<u8>,
+    random: &mut Random,
+    asked: Asked,
+    status: &str,
+    total: u64,
+) -> Result<(), AllocError> {
+    let length = about(random, count_body(asked, status, total));
+    add_lengths(alloc, bytes, random, length)?;
+    if status == "206" {
+        bytes.extend_from_slice(draw_range(alloc, random, asked, total)?.as_bytes())?;
+    }
+    add_others(bytes, random)?;
+    bytes.extend_from_slice(line_end(random).as_bytes())
 }
 
 // The body: the bytes of the object from the first that is asked for on, or all, or now and then another number of them.
@@ -232,11 +226,10 @@ fn add_body(
     status: &str,
     total: u64,
 ) -> Result<(), AllocError> {
-    let number = count_body(asked, status, total);
     let count = if asked.count == 0 {
-        random.about(0).min(1)
+        about(random, 0).min(1)
     } else {
-        random.about(number).min(20)
+        about(random, count_body(asked, status, total)).min(20)
     };
     let from = if status == "206" { asked.from } else { 0 };
     for place in 0..count {
@@ -255,18 +248,18 @@ fn damage(bytes: &mut Vec<u8>, random: &mut Random) {
     }
 }
 
+fn draw_line(alloc: Global, random: &mut Random, status: &str) -> Result<String, AllocError> {
+    let version = random.choose(60, VERSIONS, "HTTP/1.1");
+    let phrase = random.choose(40, PHRASES, " OK");
+    let end = line_end(random);
+    format!(in alloc; "{version} {status}{phrase}{end}")
+}
+
 fn draw_reply(alloc: Global, random: &mut Random, asked: Asked) -> Result<Vec<u8>, AllocError> {
-    let status = match STATUSES.get(random.below(16) as usize) {
-        Some(status) => status,
-        None => "200",
-    };
+    let status = random.choose(16, STATUSES, "200");
     let total = 3 + random.below(8);
-    let version = random.choose(60, &VERSIONS, "HTTP/1.1");
-    let phrase = random.choose(40, &PHRASES, " OK");
-    let end = random.line_end();
-    let line = format!(in alloc; "{version} {status}{phrase}{end}")?;
     let mut bytes = Vec::new(alloc);
-    bytes.extend_from_slice(line.as_bytes())?;
+    bytes.extend_from_slice(draw_line(alloc, random, status)?.as_bytes())?;
     add_fields(alloc, &mut bytes, random, asked, status, total)?;
     add_body(&mut bytes, random, asked, status, total)?;
     damage(&mut bytes, random);
@@ -289,7 +282,7 @@ fn draw_sizes(random: &mut Random, len: usize) -> [usize; 2] {
 }
 
 // How the replies answer, and how many there are to be of each at least.
-const LEAST: [(&str, u64); 5] = [
+const LEAST: &[Least] = &[
     ("none", 150),
     ("no object", 20),
     ("past the end", 5),
@@ -348,9 +341,7 @@ fn compare_many(rt: &impl Abort, alloc: Global, state: u64) -> Result<(), Fail> 
             *count = count.saturating_add(1);
         }
     }
-    for ((answer, least), count) in LEAST.iter().zip(counts.iter()) {
-        assert!(rt; count >= least, "{count} replies say {answer}");
-    }
+    check_counts(rt, &counts, LEAST);
     Ok(())
 }
 

@@ -2,6 +2,7 @@
 
 use super::{Asked, Peer, compare};
 use remote_store::Kind;
+use std::alloc::Global;
 use std::process::Abort;
 use std::test::Fail;
 
@@ -11,7 +12,9 @@ const THREE: Asked = Asked { from: 2, count: 3 };
 const SIZE: Asked = Asked { from: 0, count: 0 };
 
 // What is asked, a reply, and how it answers if it fits.
-const ROWS: [(Asked, &str, Option<Kind>); 20] = [
+type Row = (Asked, &'static str, Option<Kind>);
+
+const ROWS: &[Row] = &[
     (
         THREE,
         "HTTP/1.1 206 OK\r\nContent-Length: 3\r\nContent-Range: bytes 2-4/10\r\n\r\n234",
@@ -115,38 +118,59 @@ const ROWS: [(Asked, &str, Option<Kind>); 20] = [
     ),
 ];
 
-// All at once, byte by byte, and in pieces of 7 and 50 bytes in turn.
-const SIZES: [&[usize]; 3] = [&[], &[1], &[7, 50]];
+// A reply in pieces of some sizes in turn answers this.
+fn check_row(rt: &impl Abort, alloc: Global, row: &Row, sizes: &[usize]) -> Result<(), Fail> {
+    let (asked, reply, kind) = row;
+    let peer = Peer {
+        reply: reply.as_bytes(),
+        behind: b"",
+        sizes,
+    };
+    let found = compare(rt, alloc, *asked, &peer)?;
+    assert_eq!(rt; found.map(|reply| reply.promise.kind), *kind, "at {reply}");
+    Ok(())
+}
 
-#[test]
-fn finds_what_was_worked_out(rt: HostRuntime) -> Result<(), Fail> {
-    for (asked, reply, kind) in ROWS {
-        for sizes in SIZES {
-            let peer = Peer {
-                reply: reply.as_bytes(),
-                behind: b"",
-                sizes,
-            };
-            let found = compare(&rt, rt.alloc(), asked, &peer)?;
-            assert_eq!(rt; found.map(|reply| reply.promise.kind), kind, "at {reply}");
-        }
+// The rows come all at once, byte by byte, and in pieces of 7 and 50 bytes in turn.
+fn check_rows(rt: &impl Abort, alloc: Global, rows: &[Row]) -> Result<(), Fail> {
+    for row in rows {
+        check_row(rt, alloc, row, &[])?;
+        check_row(rt, alloc, row, &[1])?;
+        check_row(rt, alloc, row, &[7, 50])?;
     }
     Ok(())
 }
 
 #[test]
-fn leaves_what_is_behind(rt: HostRuntime) -> Result<(), Fail> {
-    let reply = b"HTTP/1.1 404 OK\r\nContent-Length: 2\r\n\r\nno";
-    let head = reply.len() - 2;
-    // Bytes that come with the head are judged with it; those that would come later are left.
-    for (first, later, fits) in [(head + 3, 9, false), (head + 1, 9, true), (head, 2, true)] {
-        let peer = Peer {
-            reply,
-            behind: b"HTTP/1.1 200 OK",
-            sizes: &[first, later],
-        };
-        let found = compare(&rt, rt.alloc(), THREE, &peer)?;
-        assert_eq!(rt; found.is_some(), fits);
-    }
+fn finds_what_was_worked_out(rt: HostRuntime) -> Result<(), Fail> {
+    check_rows(&rt, rt.alloc(), ROWS)
+}
+
+const REPLY: &[u8] = b"HTTP/1.1 404 OK\r\nContent-Length: 2\r\n\r\nno";
+
+// So many bytes of a reply come at first, and at most so many later ones: it fits, or not.
+fn check_behind(
+    rt: &impl Abort,
+    alloc: Global,
+    first: usize,
+    later: usize,
+    fits: bool,
+) -> Result<(), Fail> {
+    let peer = Peer {
+        reply: REPLY,
+        behind: b"HTTP/1.1 200 OK",
+        sizes: &[first, later],
+    };
+    let found = compare(rt, alloc, THREE, &peer)?;
+    assert_eq!(rt; found.is_some(), fits);
     Ok(())
+}
+
+// Bytes that come with the head are judged with it; those that would come later are left.
+#[test]
+fn leaves_what_is_behind(rt: HostRuntime) -> Result<(), Fail> {
+    let head = REPLY.len() - 2;
+    check_behind(&rt, rt.alloc(), head + 3, 9, false)?;
+    check_behind(&rt, rt.alloc(), head + 1, 9, true)?;
+    check_behind(&rt, rt.alloc(), head, 2, true)
 }

@@ -1,13 +1,13 @@
 //! Streams of requests at random: well-formed, odd, cut and hostile.
-ghost use Rattle.std.specs.Prelude.{◌<◌};
 
 use super::{Peer, is_sent, plain};
+use crate::random::{Least, Random, check_counts};
 use std::alloc::{AllocError, Global};
 use std::process::Abort;
 use std::test::Fail;
 
 // How the replies to a stream begin, and to how many streams at least, so that there stay streams of every kind.
-const BEGINNINGS: [(&str, u64); 6] = [
+const BEGINNINGS: &[Least] = &[
     ("HTTP/1.1 200", 1000),
     ("HTTP/1.1 206", 150),
     ("HTTP/1.1 400", 800),
@@ -16,67 +16,57 @@ const BEGINNINGS: [(&str, u64); 6] = [
     ("HTTP/1.1 416", 50),
 ];
 
-// Numbers by a linear congruence.
-#[derive(Drop)]
-struct Random {
-    state: u64,
-}
+const METHODS: &[&str] = &["HEAD", "HEAD", "HEAD", "POST", "get", "G\tET"];
 
-impl Random {
-    // A number below another.
-    fn below(&mut self, bound: u64) -> u64
-        requires { 0 < bound }
-        ensures { result < bound }
-    {
-        self.state = self
-            .state
-            .wrapping_mul(6364136223846793005)
-            .wrapping_add(1442695040888963407);
-        (self.state >> 33) % bound
-    }
+const TARGETS: &[&str] = &[
+    "/s/y",
+    "/s/empty",
+    "/s/long",
+    "/s/long",
+    "/s/long",
+    "/",
+    "/../x",
+    "//s/x",
+    "s/x",
+    "*",
+    "/s/x?y",
+    "/s/%78",
+    "/s/x/",
+    "/s/\u{e9}",
+];
 
-    // One of the odd texts, each once in so many draws, or else the usual one.
-    fn choose(&mut self, of: u64, odd: &[&'static str], usual: &'static str) -> &'static str
-        requires { 0 < of }
-    {
-        match odd.get(self.below(of) as usize) {
-            Some(text) => text,
-            None => usual,
-        }
-    }
+const VERSIONS: &[&str] = &["HTTP/1.0", "HTTP/2.0", "HTTP/1.1 "];
 
-    fn line_end(&mut self) -> &'static str {
-        if self.below(5) == 0 {
-            return "\n";
-        }
-        self.choose(300, &["\r"], "\r\n")
-    }
+// What follows a number of a range.
+const TAILS: &[&str] = &[",0-1", " \t", "-", "00000000000000000000"];
+
+const UNITS: &[&str] = &["BYTES=", "\t bytes=00", "items=", "bytes= ", "bytes"];
+
+const FIELDS: &[&str] = &[
+    "If-Range: x",
+    "Connection: close",
+    "Connection: Keep-Alive, CLOSE",
+    "connection: keep-alive, closed",
+    "Transfer-Encoding: chunked",
+    "Content-Length: 5",
+    "content-length:  0\t",
+    "X-Empty:",
+    "Bad name: x",
+    " folded",
+    "X: \u{e9}",
+    "X: \u{1}",
+];
+
+// The end of a line.
+fn line_end(random: &mut Random) -> &'static str {
+    random.line_end(300)
 }
 
 fn draw_line(alloc: Global, random: &mut Random) -> Result<String, AllocError> {
-    let method = random.choose(32, &["HEAD", "HEAD", "HEAD", "POST", "get", "G\tET"], "GET");
-    let target = random.choose(
-        40,
-        &[
-            "/s/y",
-            "/s/empty",
-            "/s/long",
-            "/s/long",
-            "/s/long",
-            "/",
-            "/../x",
-            "//s/x",
-            "s/x",
-            "*",
-            "/s/x?y",
-            "/s/%78",
-            "/s/x/",
-            "/s/\u{e9}",
-        ],
-        "/s/x",
-    );
-    let version = random.choose(40, &["HTTP/1.0", "HTTP/2.0", "HTTP/1.1 "], "HTTP/1.1");
-    let end = random.line_end();
+    let method = random.choose(32, METHODS, "GET");
+    let target = random.choose(40, TARGETS, "/s/x");
+    let version = random.choose(40, VERSIONS, "HTTP/1.1");
+    let end = line_end(random);
     format!(in alloc; "{method} {target} {version}{end}")
 }
 
@@ -88,19 +78,15 @@ fn draw_number(alloc: Global, random: &mut Random) -> Result<String, AllocError>
         2 => random.below(200_000),
         _ => random.below(16),
     };
-    let tail = random.choose(32, &[",0-1", " \t", "-", "00000000000000000000"], "");
+    let tail = random.choose(32, TAILS, "");
     format!(in alloc; "{number}{tail}")
 }
 
 fn draw_range(alloc: Global, random: &mut Random) -> Result<String, AllocError> {
-    let unit = random.choose(
-        24,
-        &["BYTES=", "\t bytes=00", "items=", "bytes= ", "bytes"],
-        "bytes=",
-    );
+    let unit = random.choose(24, UNITS, "bytes=");
     let first = draw_number(alloc, random)?;
     let last = draw_number(alloc, random)?;
-    let end = random.line_end();
+    let end = line_end(random);
     format!(in alloc; "Range:{unit}{first}-{last}{end}")
 }
 
@@ -108,25 +94,8 @@ fn draw_field(alloc: Global, random: &mut Random) -> Result<String, AllocError> 
     if random.below(2) == 0 {
         return draw_range(alloc, random);
     }
-    let field = random.choose(
-        40,
-        &[
-            "If-Range: x",
-            "Connection: close",
-            "Connection: Keep-Alive, CLOSE",
-            "connection: keep-alive, closed",
-            "Transfer-Encoding: chunked",
-            "Content-Length: 5",
-            "content-length:  0\t",
-            "X-Empty:",
-            "Bad name: x",
-            " folded",
-            "X: \u{e9}",
-            "X: \u{1}",
-        ],
-        "Host: a",
-    );
-    let end = random.line_end();
+    let field = random.choose(40, FIELDS, "Host: a");
+    let end = line_end(random);
     format!(in alloc; "{field}{end}")
 }
 
@@ -136,7 +105,7 @@ fn add_head(alloc: Global, bytes: &mut Vec<u8>, random: &mut Random) -> Result<(
     for _ in 0..random.below(4) {
         bytes.extend_from_slice(draw_field(alloc, random)?.as_bytes())?;
     }
-    bytes.extend_from_slice(random.line_end().as_bytes())
+    bytes.extend_from_slice(line_end(random).as_bytes())
 }
 
 // A byte that is another, many bytes more, or an end that is cut off.
@@ -190,18 +159,24 @@ fn compare(rt: &impl Abort, alloc: Global, random: &mut Random) -> Result<Vec<u8
     Ok(replies)
 }
 
+// Counts the replies among those that begin like them.
+fn count_beginning(counts: &mut [u64], kinds: &[Least], replies: &[u8]) {
+    for i in 0..counts.len().min(kinds.len()) {
+        let (start, _) = kinds[i];
+        if replies.starts_with(start.as_bytes()) {
+            counts[i] = counts[i].saturating_add(1);
+        }
+    }
+}
+
 #[test]
 fn equals_the_plain_replies(rt: HostRuntime) -> Result<(), Fail> {
     let mut random = Random { state: 1 };
     let mut counts = [0u64; 6];
     for _ in 0..5000 {
         let replies = compare(&rt, rt.alloc(), &mut random)?;
-        for ((start, _), count) in BEGINNINGS.iter().zip(counts.iter_mut()) {
-            *count = count.wrapping_add(u64::from(replies.starts_with(start.as_bytes())));
-        }
+        count_beginning(&mut counts, BEGINNINGS, &replies);
     }
-    for ((start, least), count) in BEGINNINGS.iter().zip(counts.iter()) {
-        assert!(rt; count >= least, "{count} replies begin with {start}");
-    }
+    check_counts(&rt, &counts, BEGINNINGS);
     Ok(())
 }

@@ -157,52 +157,60 @@ fn answers(rt: &impl Abort, alloc: Global, stream: &str, replies: &str) -> Resul
     comes_in(rt, alloc, stream, &[1], wanted)
 }
 
-#[test]
-fn answers_known_streams(rt: HostRuntime) -> Result<(), Fail> {
-    let closing =
-        "GET /s/x HTTP/1.1\r\nHost: a\r\nRange: bytes=2-4\r\nConnection: Keep-Alive, CLOSE\r\n\r\n";
-    for (stream, replies) in [
-        (["", ""], ["", ""]),
-        (
-            ["HEAD /s/x HTTP/1.1\r\nHost: a\r\n\r\n", ""],
-            [HEAD_REPLY, ""],
-        ),
-        (
-            ["GET /s/x HTTP/1.0\r\nHost: a\r\n\r\n", PART],
-            [LAST_WHOLE_REPLY, ""],
-        ),
-        (
-            ["GET /s/y HTTP/1.1\r\nHost: a\r\n\r\n", ""],
-            [MISSING_REPLY, ""],
-        ),
-        (
-            ["GET /../x HTTP/1.1\r\nHost: a\r\n\r\n", PART],
-            [MISSING_REPLY, PART_REPLY],
-        ),
-        (
-            ["POST /s/x HTTP/1.1\r\nHost: a\r\n\r\n", ""],
-            [METHOD_REPLY, ""],
-        ),
-        (
-            [
-                "POST /s/x HTTP/1.1\r\nHost: a\r\nContent-Length: 5\r\n\r\n",
-                "12345",
-            ],
-            [BAD_REPLY, ""],
-        ),
-        (["GET /s/x HTTP/1.1\r\n", ""], [BAD_REPLY, ""]),
-        (["\0", PART], [BAD_REPLY, ""]),
-        ([PART, "\0"], [PART_REPLY, BAD_REPLY]),
-        ([PART, PART], [PART_REPLY, PART_REPLY]),
-        ([closing, PART], [LAST_PART_REPLY, ""]),
-    ] {
-        let [first, second] = stream;
-        let [reply, next_reply] = replies;
-        let stream = format!(in rt.alloc(); "{first}{second}")?;
-        let replies = format!(in rt.alloc(); "{reply}{next_reply}")?;
-        answers(&rt, rt.alloc(), &stream, &replies)?;
+const CLOSING: &str =
+    "GET /s/x HTTP/1.1\r\nHost: a\r\nRange: bytes=2-4\r\nConnection: Keep-Alive, CLOSE\r\n\r\n";
+
+// Two parts of a stream, and the replies to it in two parts.
+type Known = ([&'static str; 2], [&'static str; 2]);
+
+const KNOWN: &[Known] = &[
+    (["", ""], ["", ""]),
+    (
+        ["HEAD /s/x HTTP/1.1\r\nHost: a\r\n\r\n", ""],
+        [HEAD_REPLY, ""],
+    ),
+    (
+        ["GET /s/x HTTP/1.0\r\nHost: a\r\n\r\n", PART],
+        [LAST_WHOLE_REPLY, ""],
+    ),
+    (
+        ["GET /s/y HTTP/1.1\r\nHost: a\r\n\r\n", ""],
+        [MISSING_REPLY, ""],
+    ),
+    (
+        ["GET /../x HTTP/1.1\r\nHost: a\r\n\r\n", PART],
+        [MISSING_REPLY, PART_REPLY],
+    ),
+    (
+        ["POST /s/x HTTP/1.1\r\nHost: a\r\n\r\n", ""],
+        [METHOD_REPLY, ""],
+    ),
+    (
+        [
+            "POST /s/x HTTP/1.1\r\nHost: a\r\nContent-Length: 5\r\n\r\n",
+            "12345",
+        ],
+        [BAD_REPLY, ""],
+    ),
+    (["GET /s/x HTTP/1.1\r\n", ""], [BAD_REPLY, ""]),
+    (["\0", PART], [BAD_REPLY, ""]),
+    ([PART, "\0"], [PART_REPLY, BAD_REPLY]),
+    ([PART, PART], [PART_REPLY, PART_REPLY]),
+    ([CLOSING, PART], [LAST_PART_REPLY, ""]),
+];
+
+fn check_known(rt: &impl Abort, alloc: Global, rows: &[Known]) -> Result<(), Fail> {
+    for ([first, second], [reply, next_reply]) in rows {
+        let stream = format!(in alloc; "{first}{second}")?;
+        let replies = format!(in alloc; "{reply}{next_reply}")?;
+        answers(rt, alloc, &stream, &replies)?;
     }
     Ok(())
+}
+
+#[test]
+fn answers_known_streams(rt: HostRuntime) -> Result<(), Fail> {
+    check_known(&rt, rt.alloc(), KNOWN)
 }
 
 #[test]
@@ -224,23 +232,27 @@ fn answers_8192_bytes_that_are_no_head(rt: HostRuntime) -> Result<(), Fail> {
     calls_fail(&rt, rt.alloc(), &peer, BAD_REPLY.as_bytes())
 }
 
-// A store that fails amid a body leaves a whole head and not all of the body.
+const LONG: Peer = Peer {
+    stream: b"GET /s/long HTTP/1.1\r\n\r\n",
+    sizes: &[1],
+    piece: 1 << 20,
+};
+
+// A call of the store fails amid a body: a whole head is sent, and not all of the body.
+fn check_break(rt: &impl Abort, alloc: Global, call: u64, wanted: &[u8]) -> Result<(), Fail> {
+    let faults = Faults {
+        link: &[],
+        store: &[call],
+    };
+    let (sent, served) = serve(alloc, &LONG, &faults)?;
+    assert_eq!(rt; served, Err(ServeFault::StoreFault));
+    assert!(rt; wanted.starts_with(&sent) && sent.len() < wanted.len());
+    Ok(())
+}
+
 #[test]
 fn breaks_off_amid_a_body(rt: HostRuntime) -> Result<(), Fail> {
-    let peer = Peer {
-        stream: b"GET /s/long HTTP/1.1\r\n\r\n",
-        sizes: &[1],
-        piece: 1 << 20,
-    };
-    let wanted = plain(rt.alloc(), peer.stream)?;
-    for call in 2..4u64 {
-        let faults = Faults {
-            link: &[],
-            store: &[call],
-        };
-        let (sent, served) = serve(rt.alloc(), &peer, &faults)?;
-        assert_eq!(rt; served, Err(ServeFault::StoreFault));
-        assert!(rt; wanted.starts_with(&sent) && sent.len() < wanted.len());
-    }
-    Ok(())
+    let wanted = plain(rt.alloc(), LONG.stream)?;
+    check_break(&rt, rt.alloc(), 2, &wanted)?;
+    check_break(&rt, rt.alloc(), 3, &wanted)
 }

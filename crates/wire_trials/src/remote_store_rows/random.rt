@@ -1,26 +1,26 @@
 //! Replies at random: well-formed, odd, cut and hostile. Whether one fits, and what it says, is told by how it was made.
 ghost use Rattle.std.specs.Prelude.{◌<◌};
 
-use super::store_of;
-use memory_rows::name_of;
+use super::{read, store_of};
+use crate::random::Random;
 use std::alloc::{AllocError, Global};
 use std::process::Abort;
 use std::test::Fail;
-use vol_base::{Got, Source};
+use vol_base::Got;
 
 // A text, and whether a reply that fits may have it.
 type Choice = (&'static str, bool);
 
-const VERSIONS: [Choice; 4] = [
+const VERSIONS: &[Choice] = &[
     ("HTTP/1.0", true),
     ("\r\nHTTP/1.1", true),
     ("HTTP/2.0", false),
     ("http/1.1", false),
 ];
 
-const PHRASES: [Choice; 3] = [("", true), (" ", true), (" \u{e9}", true)];
+const PHRASES: &[Choice] = &[("", true), (" ", true), (" \u{e9}", true)];
 
-const LENGTHS: [Choice; 6] = [
+const LENGTHS: &[Choice] = &[
     ("CONTENT-length: 00", true),
     ("Content-Length:", true),
     ("Content-Length: +", false),
@@ -29,16 +29,16 @@ const LENGTHS: [Choice; 6] = [
     ("Length: ", false),
 ];
 
-const ENDS: [Choice; 4] = [(" \t", true), (",3", false), ("a", false), (" 3", false)];
+const ENDS: &[Choice] = &[(" \t", true), (",3", false), ("a", false), (" 3", false)];
 
-const UNITS: [Choice; 4] = [
+const UNITS: &[Choice] = &[
     ("bytes 00", true),
     ("Bytes ", false),
     ("bytes  ", false),
     ("items ", false),
 ];
 
-const FIELDS: [Choice; 10] = [
+const FIELDS: &[Choice] = &[
     ("X: y", true),
     ("Connection: close", true),
     ("Accept-Ranges: none", true),
@@ -51,24 +51,22 @@ const FIELDS: [Choice; 10] = [
     ("X: \u{1}", false),
 ];
 
-// Numbers by a linear congruence, and whether what was drawn of a reply fits.
+const LINE_ENDS: &[Choice] = &[("\n", true)];
+
+// What is drawn of a reply, and whether it fits so far.
 #[derive(Drop)]
-struct Random {
-    state: u64,
+struct Draws {
+    random: Random,
     fits: bool,
 }
 
-impl Random {
+impl Draws {
     // A number below another.
     fn below(&mut self, bound: u64) -> u64
         requires { 0 < bound }
         ensures { result < bound }
     {
-        self.state = self
-            .state
-            .wrapping_mul(6364136223846793005)
-            .wrapping_add(1442695040888963407);
-        (self.state >> 33) % bound
+        self.random.below(bound)
     }
 
     fn must(&mut self, is_so: bool) {
@@ -89,7 +87,7 @@ impl Random {
     }
 
     fn line_end(&mut self) -> &'static str {
-        self.choose(4, &[("\n", true)], "\r\n")
+        self.choose(4, LINE_ENDS, "\r\n")
     }
 
     // A number, or once in so many draws one more.
@@ -105,27 +103,27 @@ impl Random {
 // What is asked for: 3 bytes from the third on, and what the reply says of them by its status: of an object, or of none.
 const STATUSES: [u64; 8] = [206, 206, 206, 206, 200, 404, 416, 500];
 
-fn draw_length(alloc: Global, random: &mut Random, length: u64) -> Result<String, AllocError> {
-    let name = random.choose(50, &LENGTHS, "Content-Length: ");
-    let tail = random.choose(50, &ENDS, "");
-    let end = random.line_end();
+fn draw_length(alloc: Global, draws: &mut Draws, length: u64) -> Result<String, AllocError> {
+    let name = draws.choose(50, LENGTHS, "Content-Length: ");
+    let tail = draws.choose(50, ENDS, "");
+    let end = draws.line_end();
     format!(in alloc; "{name}{length}{tail}{end}")
 }
 
 // The part of an object of so many bytes that is asked for.
 fn draw_range(
     alloc: Global,
-    random: &mut Random,
+    draws: &mut Draws,
     total: u64,
     length: u64,
 ) -> Result<String, AllocError> {
-    let first = random.about(2);
-    let last = random.about(total.min(5).wrapping_sub(1));
-    let total = random.about(total);
+    let first = draws.about(2);
+    let last = draws.about(total.min(5).wrapping_sub(1));
+    let total = draws.about(total);
     let end = last.wrapping_add(1);
-    random.must(first == 2 && 2 <= last && end == total.min(5) && length == end.wrapping_sub(2));
-    let unit = random.choose(40, &UNITS, "bytes ");
-    let end = random.line_end();
+    draws.must(first == 2 && 2 <= last && end == total.min(5) && length == end.wrapping_sub(2));
+    let unit = draws.choose(40, UNITS, "bytes ");
+    let end = draws.line_end();
     format!(in alloc; "Content-Range: {unit}{first}-{last}/{total}{end}")
 }
 
@@ -137,75 +135,108 @@ struct Drawn {
     count: u64,
 }
 
-fn add_fields(
+// A length twice, and both the same.
+fn add_twice(alloc: Global, bytes: &mut Vec<u8>, length: u64) -> Result<(), AllocError> {
+    let field = format!(in alloc; "Content-Length: {length}\r\n")?;
+    bytes.extend_from_slice(field.as_bytes())?;
+    bytes.extend_from_slice(field.as_bytes())
+}
+
+// The length once, or now and then twice or never.
+fn add_length(
     alloc: Global,
     bytes: &mut Vec<u8>,
-    random: &mut Random,
-    status: u64,
-    total: u64,
+    draws: &mut Draws,
     length: u64,
 ) -> Result<(), AllocError> {
-    match random.below(40) {
-        0 => random.must(false),
-        1 => {
-            random.must(false);
-            let twice = format!(in alloc;
-                "Content-Length: {length}\r\nContent-Length: {length}\r\n"
-            )?;
-            bytes.extend_from_slice(twice.as_bytes())?;
-        }
-        _ => bytes.extend_from_slice(draw_length(alloc, random, length)?.as_bytes())?,
+    let draw = draws.below(40);
+    draws.must(1 < draw);
+    match draw {
+        0 => Ok(()),
+        1 => add_twice(alloc, bytes, length),
+        _ => bytes.extend_from_slice(draw_length(alloc, draws, length)?.as_bytes()),
     }
-    if status == 206 {
-        bytes.extend_from_slice(draw_range(alloc, random, total, length)?.as_bytes())?;
-    }
-    for _ in 0..random.below(3) {
-        let field = random.choose(60, &FIELDS, "X-Y:");
+}
+
+// Up to two fields that say nothing of the part, and now and then a long one.
+fn add_others(bytes: &mut Vec<u8>, draws: &mut Draws) -> Result<(), AllocError> {
+    for _ in 0..draws.below(3) {
+        let field = draws.choose(60, FIELDS, "X-Y:");
         bytes.extend_from_slice(field.as_bytes())?;
-        bytes.extend_from_slice(random.line_end().as_bytes())?;
+        bytes.extend_from_slice(draws.line_end().as_bytes())?;
     }
-    if random.below(60) == 0 {
-        random.must(false);
+    if draws.below(60) == 0 {
+        draws.must(false);
         bytes.extend_from_slice(b"X: ")?;
         bytes.resize(9000, b'x')?;
         bytes.extend_from_slice(b"\r\n")?;
     }
-    bytes.extend_from_slice(random.line_end().as_bytes())
+    Ok(())
 }
 
-fn draw(alloc: Global, random: &mut Random) -> Result<Drawn, AllocError> {
-    random.fits = true;
-    let status = STATUSES[random.below(8) as usize];
-    random.must(status != 500);
-    let total = 3 + random.below(7);
+fn draw_line(alloc: Global, draws: &mut Draws, status: u64) -> Result<String, AllocError> {
+    let version = draws.choose(40, VERSIONS, "HTTP/1.1");
+    let phrase = draws.choose(8, PHRASES, " OK");
+    let end = draws.line_end();
+    format!(in alloc; "{version} {status}{phrase}{end}")
+}
+
+fn draw_head(
+    alloc: Global,
+    draws: &mut Draws,
+    status: u64,
+    total: u64,
+    length: u64,
+) -> Result<Vec<u8>, AllocError> {
+    let mut bytes = Vec::new(alloc);
+    bytes.extend_from_slice(draw_line(alloc, draws, status)?.as_bytes())?;
+    add_length(alloc, &mut bytes, draws, length)?;
+    if status == 206 {
+        bytes.extend_from_slice(draw_range(alloc, draws, total, length)?.as_bytes())?;
+    }
+    add_others(&mut bytes, draws)?;
+    bytes.extend_from_slice(draws.line_end().as_bytes())?;
+    Ok(bytes)
+}
+
+// So many bytes of the object, from the one on that a reply of this status begins with.
+fn add_body(bytes: &mut Vec<u8>, status: u64, count: u64) -> Result<(), AllocError> {
     let from = if status == 206 { 2 } else { 0 };
+    for place in 0..count.min(20) {
+        bytes.push(b'0' + (from + place).min(9) as u8)?;
+    }
+    Ok(())
+}
+
+// Now and then cuts off the end of a reply that fits.
+fn cut(bytes: &mut Vec<u8>, draws: &mut Draws) {
+    if draws.fits && draws.below(12) == 0 {
+        let len = bytes.len() as u64;
+        bytes.truncate(draws.below(len.max(1)) as usize);
+        draws.must(false);
+    }
+}
+
+fn draw(alloc: Global, draws: &mut Draws) -> Result<Drawn, AllocError> {
+    draws.fits = true;
+    let status = STATUSES[draws.below(8) as usize];
+    draws.must(status != 500);
+    let total = 3 + draws.below(7);
     let count = if status == 206 {
         total.min(5) - 2
     } else {
         total
     };
-    let length = random.about(count);
-    let mut bytes = Vec::new(alloc);
-    let version = random.choose(40, &VERSIONS, "HTTP/1.1");
-    let phrase = random.choose(8, &PHRASES, " OK");
-    let end = random.line_end();
-    let line = format!(in alloc; "{version} {status}{phrase}{end}")?;
-    bytes.extend_from_slice(line.as_bytes())?;
-    add_fields(alloc, &mut bytes, random, status, total, length)?;
-    let sent = random.about(count);
-    random.must(sent == length);
-    for place in 0..sent.min(20) {
-        bytes.push(b'0' + (from + place).min(9) as u8)?;
-    }
-    if random.fits && random.below(12) == 0 {
-        let len = bytes.len() as u64;
-        bytes.truncate(random.below(len.max(1)) as usize);
-        random.must(false);
-    }
+    let length = draws.about(count);
+    let mut bytes = draw_head(alloc, draws, status, total, length)?;
+    let count = draws.about(count);
+    draws.must(count == length);
+    add_body(&mut bytes, status, count)?;
+    cut(&mut bytes, draws);
     Ok(Drawn {
         bytes,
         status,
-        count: sent,
+        count,
     })
 }
 
@@ -231,12 +262,12 @@ fn say(drawn: &Drawn) -> (Got, &'static [u8]) {
 }
 
 // A read over one reply at random: whether it fits.
-fn compare(rt: &impl Abort, alloc: Global, random: &mut Random) -> Result<bool, Fail> {
-    let drawn = draw(alloc, random)?;
+fn compare(rt: &impl Abort, alloc: Global, draws: &mut Draws) -> Result<bool, Fail> {
+    let drawn = draw(alloc, draws)?;
     let mut store = store_of(alloc, &drawn.bytes)?;
     let mut buffer = [b'.'; 3];
-    let got = store.read_at(&name_of("d/s/x")?, 2, &mut buffer).ok();
-    if !random.fits {
+    let got = read(&mut store, &mut buffer)?;
+    if !draws.fits {
         assert!(rt; got.is_none());
         return Ok(false);
     }
@@ -249,13 +280,13 @@ fn compare(rt: &impl Abort, alloc: Global, random: &mut Random) -> Result<bool, 
 
 #[test]
 fn takes_what_fits(rt: HostRuntime) -> Result<(), Fail> {
-    let mut random = Random {
-        state: 1,
+    let mut draws = Draws {
+        random: Random { state: 1 },
         fits: true,
     };
     let mut fitting = 0u64;
     for _ in 0..2000 {
-        if compare(&rt, rt.alloc(), &mut random)? {
+        if compare(&rt, rt.alloc(), &mut draws)? {
             fitting = fitting.saturating_add(1);
         }
     }
