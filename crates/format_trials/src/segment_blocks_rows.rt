@@ -420,6 +420,8 @@ const MOSTLY_PADDING: Parts = ([1, 1, 1], [33, 1, 1], 1);
 
 const SINGLES: Parts = ([2, 1, 1], [1, 1, 1], 1);
 
+const SINGLE: Parts = ([1, 1, 1], [1, 1, 1], 1);
+
 const ODD_WORDS: &[u32] = &[1, 0x01000003, 2, 2, 7, 9];
 
 // The words of a chunk of narrow values, and its values or its fault.
@@ -452,6 +454,7 @@ const JUDGED: &[(Parts, &[u32], Result<&[u64], ChunkFault>)] = &[
         Err(ChunkFault::SegChannel { c: 0 }),
     ),
     (PAIR, &[0xffffffff], Err(ChunkFault::SegChannel { c: 0 })),
+    (SINGLE, &[0xffffffff], Err(ChunkFault::SegChannel { c: 0 })),
     (PAIR, &[], Err(ChunkFault::SegLength { found: 0 })),
     // the index of padding isn't judged
     (CLIPPED, &[1, 0x01000003, 2, 2, 7], Ok(&[7])),
