@@ -18,11 +18,11 @@ import subprocess
 import tempfile
 import time
 
-from harness import LIMIT, main, snapshot, want, want_files, want_front, want_true
+from harness import LIMIT, main, snapshot, want, want_files, want_front, want_true, wrong_with
 from model import OK, Sharding, Values, Volume, cutout, refused, spell, verdict, voxels_in
 from model.copies import read_cells, values_of
 from model.pyramids import upper_of
-from runs import apart, is_killed_often, list_run, made_run, objects_in, started, update_run, wrong_with, write_run
+from runs import apart, is_killed_often, list_run, made_run, objects_in, started, update_run, write_run
 
 SHARDS = Sharding(3, False, 2, 3)
 

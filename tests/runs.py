@@ -10,7 +10,7 @@ import subprocess
 import tempfile
 import time
 
-from harness import FOLDER, Wrong, contents, open_closed_pipe, open_full, standing, want_files, want_front
+from harness import FOLDER, contents, open_closed_pipe, open_full, standing, want_files, want_front, wrong_with
 from model import answer, copy_of, cutout, generated, infos_of, refused, spell, stored, stream_of, sum_of, update_of, verdict
 from model.pyramids import reduction_of
 
@@ -25,15 +25,6 @@ def pick_workers(chance):
 def apart(trial, name):
     """The same in a folder inside."""
     return dataclasses.replace(trial, folder=pathlib.Path(trial.folder, name))
-
-
-def wrong_with(judge, *arguments):
-    """What is wrong with a row, or None."""
-    try:
-        judge(*arguments)
-    except Wrong as wrong:
-        return str(wrong)
-    return None
 
 
 def objects_in(files):

@@ -21,10 +21,10 @@ import sys
 import typing
 
 from disturbed import DEEP_RUNS, FULL_ROW, RUNS, SIZES_RUNS, in_store, want_front_of
-from harness import LIMIT, Wrong, main, want, want_true, words_in
+from harness import LIMIT, Wrong, main, want, want_true, words_in, wrong_with
 from model import DOOR, FEED, OK, OUTPUT, STORE, Sharding, Volume, along
 from peers import PEERS, SERVE, WHOLE, failed_of, fronts_of, is_answered, serve_peers
-from runs import cutout_run, wrong_with
+from runs import cutout_run
 
 # The calls to files, folders and streams; those to peers; and those that have to do with memory, time, threads and the process alone.
 TO_FILES = set(
