@@ -1,8 +1,9 @@
 //! Rounds of a scale's jobs: their chunks are encoded by workers, and stored afterwards in the jobs' order.
-ghost use Rattle.std.specs.Prelude.{◌≡◌, ◌≢◌, ◌-◌, ◌*◌, ◌/◌, ◌≤◌, ◌<◌, ◌^◌, IfOk, max, min};
-ghost use Rattle.encode_round.specs.Serving.{ArePrepared};
-ghost use Rattle.shard_writer.specs.Serving.{HoldsJobs, ServesRounds, chunk_at, prepared_bytes, prepared_size, round_size};
+ghost use Rattle.std.specs.Prelude.{◌≡◌, ◌≢◌, ◌-◌, ◌/◌, ◌≤◌, ◌<◌, ◌^◌, ℕ, IfOk, length, min};
+ghost use Rattle.encode_round.specs.Serving.{ArePrepared, ServesBench, done_in};
+ghost use Rattle.shard_writer.specs.Serving.{HoldsJobs, ServesRounds, chunk_at, next_size, prepared_bytes, prepared_size, round_size};
 ghost use Rattle.vol_spec.specs.Limits.{first_bytes};
+ghost use Rattle.vol_spec.specs.Writable.{IsWritable};
 ghost use Rattle.write_plan.specs.Jobs.{frame_len, window_of};
 
 use encode_round::{Bench, run_round};
@@ -22,11 +23,14 @@ pub(crate) struct Crew<'a, R, G> {
     pub gate: &'a G,
 }
 
-/// A bench, and the first job of the last round.
+/// A bench, the first job of the last round, how many jobs a round has at least where there are as many, and how many
+/// bytes the longest chunk of the last round has: before the first round as many as a chunk may have.
 #[derive(Drop)]
 pub(crate) struct Rounds {
     pub bench: Bench,
     pub first: u64,
+    pub least: u64,
+    pub longest: u32,
 }
 
 // The longest raw chunks that more than one worker fills.
@@ -53,7 +57,7 @@ pub(crate) fn count_workers(scale: &Scale, workers: u32) -> u32
     }
 }
 
-// The bytes of the frames of several workers, where two frames for each do not have more.
+// The bytes of the values and the chunks of a round, where two jobs for each worker do not have more.
 const ROOM: u64 = 1 << 27;
 
 // The bytes of the frames of jobs that are prepared at once, of raw chunks and of others, where a round does not have more.
@@ -68,21 +72,16 @@ fn count_in_room(scale: &Scale, bytes: u64) -> u64
     bytes / scale.raw_limit().max(scale.chunk_limit())
 }
 
-// How many jobs of a scale a round has at most. Where several workers encode them it is as many as have 128 MiB of
-// frames, or two for each worker if that is more, but no more than a window; else one, so that all chunks are made in
-// the same memory.
-fn count_at_once(scale: &Scale, workers: u32) -> u64
-    ensures several { 1 < workers → result ≡ min (window_of scale.now)
-        (max (2 * workers) (2 ^ 27 / frame_len scale.now)) }
+// For how many jobs of a scale there are frames: where several workers encode them a window of jobs, of whose frames a
+// round uses as many as it has jobs, and touches what their chunks take; else one, so that all chunks are made in the same
+// memory.
+fn count_frames(scale: &Scale, workers: u32) -> u64
+    ensures several { 1 < workers → result ≡ window_of scale.now }
     ensures one { workers ≤ 1 → result ≡ 1 }
     ensures some { 0 < result }
     ensures most { result ≤ window_of scale.now }
 {
-    if workers > 1 {
-        window(scale).min(count_in_room(scale, ROOM).max(2 * workers as u64))
-    } else {
-        1
-    }
+    if workers > 1 { window(scale) } else { 1 }
 }
 
 /// Takes all memory that the rounds of so many jobs take: for as many as a round has, and for a worker each,
@@ -96,17 +95,28 @@ pub(crate) fn reserve_rounds<R, G>(
     ensures first { IfOk result (λ rounds. rounds.first ≡ 0) }
 {
     let workers = crew.workers.min(16);
-    let size = count_at_once(scale, workers).min(count.max(1));
+    let size = count_frames(scale, workers).min(count.max(1));
     let seats = (workers as u64).min(size).max(1);
     let bench = Bench::reserve(crew.alloc, scale, seats as u32, size)?;
-    Ok(Rounds { bench, first: 0 })
+    Ok(Rounds {
+        bench,
+        first: 0,
+        least: 2 * seats,
+        longest: scale.chunk_limit() as u32,
+    })
 }
 
-/// How many jobs a round has at most.
-pub(crate) fn size_of(rounds: &Rounds) -> u64
-    ensures { result ≡ round_size rounds.now }
+/// How many jobs the next round has at most: as many as have 128 MiB of values and chunks, if their chunks are as long as
+/// the longest of the last round, or two for each worker if that is more, but no more than there are frames.
+pub(crate) fn count_next(scale: &Scale, rounds: &Rounds) -> u64
+    requires { ServesRounds scale.now rounds.now }
+    ensures value { result ≡ next_size scale.now rounds.now }
+    ensures some { 0 < result }
+    ensures most { result ≤ round_size rounds.now }
 {
-    rounds.bench.size()
+    let each = scale.raw_limit() + u64::from(rounds.longest);
+    let many = (ROOM / each).max(rounds.least).max(1);
+    rounds.bench.size().min(many)
 }
 
 // The bytes of the frames of jobs that are prepared at once: of raw chunks as few as lie close to the processor until they
@@ -120,8 +130,8 @@ fn find_room(scale: &Scale) -> u64
     }
 }
 
-/// How many jobs are prepared at once at most: as many as have 1 MiB of frames, or 64 MiB where they are encoded, or as a
-/// round has if that is more, but no more than a window. So what a source looks up for many chunks, as an index of a
+/// How many jobs are prepared at once at most: as many as have 1 MiB of frames, or 64 MiB where they are encoded, or as the
+/// next round has if that is more, but no more than a window. So what a source looks up for many chunks, as an index of a
 /// minishard, it need not look up for each of them.
 pub(crate) fn count_prepared(scale: &Scale, rounds: &Rounds) -> u64
     requires { ServesRounds scale.now rounds.now }
@@ -131,7 +141,20 @@ pub(crate) fn count_prepared(scale: &Scale, rounds: &Rounds) -> u64
 {
     window(scale)
         .min(count_in_room(scale, find_room(scale)))
-        .max(size_of(rounds))
+        .max(count_next(scale, rounds))
+}
+
+// The most bytes that one of the first so many chunks of the last round has.
+fn find_longest(scale: &Scale, bench: &Bench, count: u64) -> u32
+    requires bench { ServesBench scale.now bench.now }
+    requires writable { IsWritable scale.now }
+    ensures { (k : ℕ) → k < count → length (done_in bench.now k) ≤ result }
+{
+    let mut longest: u32 = 0;
+    for k in 0..count {
+        longest = longest.max(bench.done(k).len() as u32);
+    }
+    longest
 }
 
 /// Encodes the chunks of the jobs from one number up to, not with, another, which are prepared, in one round.
@@ -147,6 +170,7 @@ pub(crate) fn encode_jobs<R: Threads + Wait + Sync, C: Chunks + Sync, G: Gate + 
     requires jobs { ArePrepared scale.now (C.work chunks.now) (C.ready chunks.now) from to }
     requires size { to - from ≤ round_size rounds.old }
     ensures rounds { ServesRounds scale.now rounds.new }
+    ensures longest { (k : ℕ) → k < to - from → length (done_in rounds.new.bench k) ≤ rounds.new.longest }
     ensures held { HoldsJobs (C.work chunks.now) (C.ready chunks.now) from to rounds.new }
 {
     run_round(
@@ -159,6 +183,7 @@ pub(crate) fn encode_jobs<R: Threads + Wait + Sync, C: Chunks + Sync, G: Gate + 
         crew.gate,
     );
     rounds.first = from;
+    rounds.longest = find_longest(scale, &rounds.bench, to - from);
 }
 
 /// The chunk of a job of the last round.
