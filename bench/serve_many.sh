@@ -2,15 +2,15 @@
 # Objects over 8 connections that are kept, from vol_serve with 4 workers, from the plain program beside this script with as
 # many threads, and where nginx is installed from one with as many workers: ranges of 64 KiB of an object of 64 MiB, and
 # whole objects of 256 KiB, with the files in the page cache. Each connection makes so many requests as RANGES says (20000),
-# or a quarter of these for whole objects; three tries in turn, and the best of each. Wanted: at least 0.9 of the plain
-# program, and 0.8 of nginx.
+# or a quarter of these for whole objects; TRIES tries in turn (3), of each the best and the median. Wanted: at least 0.9 of
+# the plain program, and 0.8 of nginx.
 #
-#     bench/serve_many.sh [PROGRAM [RANGES]]
+#     bench/serve_many.sh [PROGRAM [RANGES [TRIES]]]
 #
-# PROGRAM is the built vol_serve if it is left out. It wants rustc, and 100 MiB free where TMPDIR says.
+# PROGRAM is the built vol_serve if it is left out. It wants rustc, Python, and 100 MiB free where TMPDIR says.
 
 root=$(cd "$(dirname "$0")/.." && pwd) || exit
-ranges=${2:-20000}
+ranges=${2:-20000} tries=${3:-3}
 set -- plain_serve "${1:-$root/crates/vol_serve/out/vol_serve}"
 . "$root/bench/against.sh"
 
@@ -81,25 +81,21 @@ rate_of_nginx() {
 
 # KIND LENGTH REQUESTS
 compare() {
-    for _ in 1 2 3; do
+    for _ in $(seq "$tries"); do
         ours=$(rate_of "$@" "$program") && plain=$(rate_of "$@" ./plain_serve serve) && other=$(rate_of_nginx "$@") || exit
         echo "$ours $plain $other"
-    done | awk -v kind="$1" -v len="$2" '
-        function tell(name, rate) { printf "%-7s %-6s %6d requests/s  %5.0f MiB/s\n", kind, name, rate, rate * len / 1048576 }
-        {
-            ours = $1 > ours ? $1 : ours
-            plain = $2 > plain ? $2 : plain
-            other = $3 > other ? $3 : other
-        }
-        END {
-            if (NR < 3) exit 1
-            tell("ours", ours)
-            tell("plain", plain)
-            if (other) tell("nginx", other)
-            printf "%-7s ratio  %.2f to plain", kind, ours / plain
-            if (other) printf ", %.2f to nginx", ours / other
-            print "  (best of 3)"
-        }'
+    done >rates
+    python3 - "$1" "$2" <<'END'
+import statistics, sys
+kind, length = sys.argv[1], int(sys.argv[2])
+rates = list(zip(*(map(float, line.split()) for line in open("rates"))))
+for name, own in zip(("ours", "plain", "nginx"), rates):
+    print(f"{kind:7} {name:6} best {max(own):6.0f}, median {statistics.median(own):6.0f} requests/s  {max(own) * length / 2**20:5.0f} MiB/s")
+for name, of in (("best", max), ("median", statistics.median)):
+    ours, plain, other = map(of, rates)
+    beside = f", {ours / other:.2f} to nginx" if other else ""
+    print(f"{kind:7} ratio of the {name} of {len(rates[0])}: {ours / plain:.2f} to plain{beside}")
+END
 }
 
 compare ranges 65536 "$ranges" && compare wholes 262144 $((ranges / 4))

@@ -15,8 +15,9 @@ use crate::write::Writer;
 use std::alloc::Global;
 use vol_base::{Link, Name, OutOfMemory, Source};
 
-// How many bytes of a reply leave at once.
-const PIECE: usize = 1 << 16;
+// How many bytes of a reply leave at once: a head, which has at most 512, and 64 KiB behind it. So a range of 64 KiB, as
+// viewers ask for, is read and sent in one call each.
+const PIECE: usize = 512 + (1 << 16);
 
 // Room for so many bytes.
 fn reserve_bytes(alloc: Global, len: usize) -> Result<Vec<u8>, OutOfMemory>
