@@ -7,7 +7,8 @@
 #
 #     bench/serve_many.sh [PROGRAM [RANGES [TRIES]]]
 #
-# PROGRAM is the built vol_serve if it is left out. It wants rustc, Python, and 100 MiB free where TMPDIR says.
+# PROGRAM is the built vol_serve if it is left out; nginx has sendfile unless SENDFILE says `off`. It wants rustc, Python, and
+# 100 MiB free where TMPDIR says.
 
 root=$(cd "$(dirname "$0")/.." && pwd) || exit
 ranges=${2:-20000} tries=${3:-3}
@@ -31,7 +32,7 @@ pid nginx.pid;
 events { worker_connections 64; }
 http {
     access_log off;
-    sendfile on;
+    sendfile ${SENDFILE:-on};
     tcp_nopush on;
     keepalive_requests 1000000;
     client_body_temp_path body;
