@@ -3,6 +3,8 @@
 #![tactic(auto)]
 
 #[cfg(test)]
+mod answers;
+#[cfg(test)]
 mod generate_cmd_rows;
 #[cfg(test)]
 mod write_cmd_rows;

@@ -4,6 +4,7 @@
 mod deep;
 mod failing;
 
+use crate::answers::{check_first, check_told, document_store, put_all};
 use command_base::{Crew, Status};
 use memory_rows::{has_all, has_none, name_of, outlet_of, put, raw_info};
 use std::alloc::{AllocError, Global};
@@ -21,6 +22,9 @@ struct Write<'a> {
     size: [u64; 3],
     values: &'a [u8],
 }
+
+// An object and its bytes.
+type Object<'a> = (&'a str, &'a [u8]);
 
 // The numbers of the calls that fail, of the store, the feed, the output and the error output, and the most bytes that
 // one call moves.
@@ -42,10 +46,10 @@ const NO_FAULTS: Faults = Faults {
 };
 
 fn put_write(bytes: &mut Vec<u8>, write: &Write) -> Result<(), AllocError> {
-    for begin in write.begin {
+    for begin in &write.begin {
         bytes.extend_from_slice(&begin.to_le_bytes())?;
     }
-    for size in write.size {
+    for size in &write.size {
         bytes.extend_from_slice(&size.to_le_bytes())?;
     }
     bytes.extend_from_slice(write.values)?;
@@ -62,11 +66,40 @@ fn stream_of(alloc: Global, writes: &[Write]) -> Result<Vec<u8>, AllocError> {
     Ok(bytes)
 }
 
+// The document of a scale: a raw one by its size and its chunk sizes, labels in blocks of one voxel by the same, or a whole
+// document.
+#[derive(Clone, Copy)]
+enum Info<'a> {
+    Raw(&'a str, &'a str),
+    Labels(&'a str, &'a str),
+    Whole(&'a str),
+}
+
+fn label_info(alloc: Global, size: &str, chunks: &str) -> Result<String, AllocError> {
+    let mut info = String::from_str(
+        alloc,
+        "{\"type\":\"segmentation\",\"data_type\":\"uint32\",\"num_channels\":1,\"scales\":[{\"key\":\"s\",\"size\":",
+    )?;
+    info.push_str(size)?;
+    info.push_str(",\"chunk_sizes\":[")?;
+    info.push_str(chunks)?;
+    info.push_str(
+        "],\"resolution\":[8,8,40],\"encoding\":\"compressed_segmentation\",\"compressed_segmentation_block_size\":[1,1,1]}]}",
+    )?;
+    Ok(info)
+}
+
+fn print_info(alloc: Global, info: &Info) -> Result<String, AllocError> {
+    match info {
+        Info::Raw(size, chunks) => raw_info(alloc, size, chunks),
+        Info::Labels(size, chunks) => label_info(alloc, size, chunks),
+        Info::Whole(text) => String::from_str(alloc, text),
+    }
+}
+
 // A store that has a document alone.
-fn store_of(alloc: Global, info: &str, failing: &[u64]) -> Result<MemoryStore, Fail> {
-    let mut store = MemoryStore::new(alloc, failing.to_vec(alloc)?);
-    put(alloc, &mut store, "d/info", info.as_bytes())?;
-    Ok(store)
+fn store_of(alloc: Global, info: &Info, failing: &[u64]) -> Result<MemoryStore, Fail> {
+    document_store(alloc, &print_info(alloc, info)?, failing)
 }
 
 // The status of a write.
@@ -85,7 +118,15 @@ fn call<R: Threads + Wait + Sync>(
     Ok(run_write(&crew, store, feed, out, err, &dataset, &key))
 }
 
-// A write of a stream: its status, and what it prints or tells.
+// What a write answers: its status, the line that it prints or tells, and how many of the objects of its row stand afterwards.
+#[derive(Clone, Copy)]
+struct Answer<'a> {
+    status: Status,
+    line: &'a str,
+    count: usize,
+}
+
+// A write of a stream answers this.
 fn check<R: Threads + Wait + Abort + Sync>(
     rt: &R,
     alloc: Global,
@@ -93,31 +134,21 @@ fn check<R: Threads + Wait + Abort + Sync>(
     stream: &[u8],
     workers: u32,
     faults: &Faults,
-    status: Status,
-    line: &[u8],
+    answer: &Answer,
 ) -> Result<(), Fail> {
     let piece = usize::from(faults.piece.max(1));
     let mut feed = MemoryFeed::new(stream.to_vec(alloc)?, piece, faults.feed.to_vec(alloc)?);
     let mut out = outlet_of(alloc, piece, faults.out)?;
     let mut err = outlet_of(alloc, piece, faults.err)?;
-    let found = call(rt, alloc, store, &mut feed, &mut out, &mut err, workers)?;
-    assert_eq!(rt; found, status);
-    if status == Status::Ok {
-        assert!(rt; out.written() == line && err.written().is_empty());
-    } else {
-        assert!(rt; err.written() == line);
-        assert!(rt; status == Status::OutFault || out.written().is_empty());
-    }
+    let status = call(rt, alloc, store, &mut feed, &mut out, &mut err, workers)?;
+    assert_eq!(rt; status, answer.status);
+    check_told(rt, &out, &err, status, answer.line);
     Ok(())
 }
 
-const PLANE: [&str; 2] = ["[2,2,1]", "[2,2,1]"];
+const PLANE: Info = Info::Raw("[2,2,1]", "[2,2,1]");
 
-const ROWS: [&str; 2] = ["[5,1,1]", "[4,1,1]"];
-
-const CELLS: [&str; 2] = ["[3,1,1]", "[1,1,1]"];
-
-const TWO_SIZES: [&str; 2] = ["[4,1,1]", "[4,1,1],[2,1,1]"];
+const ROWS: Info = Info::Raw("[5,1,1]", "[4,1,1]");
 
 const WHOLE: Write = Write {
     begin: [0, 0, 0],
@@ -155,110 +186,126 @@ const FOUR: Write = Write {
     values: &[1, 2, 3, 4],
 };
 
-const THREE_OBJECTS: [(&str, &[u8]); 3] = [
-    ("d/s/0-1_0-1_0-1", &[1]),
-    ("d/s/1-2_0-1_0-1", &[2]),
-    ("d/s/2-3_0-1_0-1", &[3]),
-];
+// A scale, writes into it, the line that is printed, and the objects that stand afterwards, in the order in which they are put.
+#[derive(Clone, Copy)]
+struct Case<'a> {
+    info: Info<'a>,
+    writes: &'a [Write<'a>],
+    line: &'a str,
+    objects: &'a [Object<'a>],
+}
+
+const IN_PLANE: Case = Case {
+    info: PLANE,
+    writes: &[WHOLE],
+    line: "objects 1 cells 1\n",
+    objects: &[("d/s/0-2_0-2_0-1", &[1, 2, 3, 4])],
+};
+
+const IN_ROWS: Case = Case {
+    info: ROWS,
+    writes: &[FIVE],
+    line: "objects 2 cells 2\n",
+    objects: &[
+        ("d/s/0-4_0-1_0-1", &[1, 2, 3, 4]),
+        ("d/s/4-5_0-1_0-1", &[5]),
+    ],
+};
+
+const IN_CELLS: Case = Case {
+    info: Info::Raw("[3,1,1]", "[1,1,1]"),
+    writes: &[THREE],
+    line: "objects 3 cells 3\n",
+    objects: &[
+        ("d/s/0-1_0-1_0-1", &[1]),
+        ("d/s/1-2_0-1_0-1", &[2]),
+        ("d/s/2-3_0-1_0-1", &[3]),
+    ],
+};
 
 // Four voxels as one chunk, and as two.
-const TWO_VIEWS: [(&str, &[u8]); 3] = [
-    ("d/s/0-4_0-1_0-1", &[1, 2, 3, 4]),
-    ("d/s/0-2_0-1_0-1", &[1, 2]),
-    ("d/s/2-4_0-1_0-1", &[3, 4]),
-];
+const IN_VIEWS: Case = Case {
+    info: Info::Raw("[4,1,1]", "[4,1,1],[2,1,1]"),
+    writes: &[FOUR],
+    line: "objects 3 cells 3\n",
+    objects: &[
+        ("d/s/0-4_0-1_0-1", &[1, 2, 3, 4]),
+        ("d/s/0-2_0-1_0-1", &[1, 2]),
+        ("d/s/2-4_0-1_0-1", &[3, 4]),
+    ],
+};
 
-// The size and the chunk sizes of a raw scale, writes into it, the line that is printed, and the objects that stand
-// afterwards.
-const CASES: [([&str; 2], &[Write], &str, &[(&str, &[u8])]); 9] = [
-    (PLANE, &[], "objects 0 cells 0\n", &[]),
-    (
-        PLANE,
-        &[WHOLE],
-        "objects 1 cells 1\n",
-        &[("d/s/0-2_0-2_0-1", &[1, 2, 3, 4])],
-    ),
-    (
-        PLANE,
-        &[WHOLE, CORNER],
-        "objects 1 cells 1\n",
-        &[("d/s/0-2_0-2_0-1", &[1, 2, 3, 9])],
-    ),
-    (
-        PLANE,
-        &[CORNER, WHOLE],
-        "objects 1 cells 1\n",
-        &[("d/s/0-2_0-2_0-1", &[1, 2, 3, 4])],
-    ),
-    (
-        PLANE,
-        &[CORNER, CORNER],
-        "objects 1 cells 1\n",
-        &[("d/s/0-2_0-2_0-1", &[0, 0, 0, 9])],
-    ),
-    (
-        ROWS,
-        &[FIVE],
-        "objects 2 cells 2\n",
-        &[
-            ("d/s/0-4_0-1_0-1", &[1, 2, 3, 4]),
-            ("d/s/4-5_0-1_0-1", &[5]),
-        ],
-    ),
-    (
-        ROWS,
-        &[SEAM],
-        "objects 2 cells 2\n",
-        &[
+const CASES: &[Case] = &[
+    Case {
+        writes: &[],
+        line: "objects 0 cells 0\n",
+        objects: &[],
+        ..IN_PLANE
+    },
+    IN_PLANE,
+    Case {
+        writes: &[WHOLE, CORNER],
+        objects: &[("d/s/0-2_0-2_0-1", &[1, 2, 3, 9])],
+        ..IN_PLANE
+    },
+    Case {
+        writes: &[CORNER, WHOLE],
+        ..IN_PLANE
+    },
+    Case {
+        writes: &[CORNER, CORNER],
+        objects: &[("d/s/0-2_0-2_0-1", &[0, 0, 0, 9])],
+        ..IN_PLANE
+    },
+    IN_ROWS,
+    Case {
+        writes: &[SEAM],
+        objects: &[
             ("d/s/0-4_0-1_0-1", &[0, 0, 0, 7]),
             ("d/s/4-5_0-1_0-1", &[8]),
         ],
-    ),
-    (CELLS, &[THREE], "objects 3 cells 3\n", &THREE_OBJECTS),
-    (TWO_SIZES, &[FOUR], "objects 3 cells 3\n", &TWO_VIEWS),
+        ..IN_ROWS
+    },
+    IN_CELLS,
+    IN_VIEWS,
 ];
 
-// Writes into an empty scale, by so many workers.
+// Writes into an empty scale by so many workers, while calls fail.
 fn check_case<R: Threads + Wait + Abort + Sync>(
     rt: &R,
     alloc: Global,
-    info: &str,
-    writes: &[Write],
+    case: &Case,
     workers: u32,
-    piece: u8,
-    line: &str,
-    objects: &[(&str, &[u8])],
+    faults: &Faults,
+    answer: &Answer,
 ) -> Result<(), Fail> {
-    let mut store = store_of(alloc, info, &[])?;
-    let stream = stream_of(alloc, writes)?;
-    let faults = Faults { piece, ..NO_FAULTS };
-    let line = line.as_bytes();
-    check(
-        rt,
-        alloc,
-        &mut store,
-        &stream,
-        workers,
-        &faults,
-        Status::Ok,
-        line,
-    )?;
-    assert!(rt; has_all(&store, objects));
+    let mut store = store_of(alloc, &case.info, faults.store)?;
+    let stream = stream_of(alloc, case.writes)?;
+    check(rt, alloc, &mut store, &stream, workers, faults, answer)?;
+    check_first(rt, &store, case.objects, answer.count);
     Ok(())
 }
 
-// The rows of a table, by so many workers.
+// What a row answers that no fault meets.
+fn well<'a>(case: &Case<'a>) -> Answer<'a> {
+    Answer {
+        status: Status::Ok,
+        line: case.line,
+        count: case.objects.len(),
+    }
+}
+
+// The rows of a table, by so many workers, in pieces of so many bytes.
 fn check_cases<R: Threads + Wait + Abort + Sync>(
     rt: &R,
     alloc: Global,
-    cases: &[([&str; 2], &[Write], &str, &[(&str, &[u8])])],
+    cases: &[Case],
     workers: u32,
     piece: u8,
 ) -> Result<(), Fail> {
-    for (sizes, writes, line, objects) in cases {
-        let [size, chunk] = *sizes;
-        let info = raw_info(alloc, size, chunk)?;
-        check_case(rt, alloc, &info, writes, workers, piece, line, objects)?;
+    let faults = Faults { piece, ..NO_FAULTS };
+    for case in cases {
+        check_case(rt, alloc, case, workers, &faults, &well(case))?;
     }
     Ok(())
 }
@@ -266,9 +313,9 @@ fn check_cases<R: Threads + Wait + Abort + Sync>(
 #[test]
 fn stores_writes(rt: HostRuntime) -> Result<(), Fail> {
     let alloc = rt.alloc();
-    check_cases(&rt, alloc, &CASES, 1, 255)?;
-    check_cases(&rt, alloc, &CASES, 3, 1)?;
-    check_cases(&rt, alloc, &CASES, 16, 7)
+    check_cases(&rt, alloc, CASES, 1, 255)?;
+    check_cases(&rt, alloc, CASES, 3, 1)?;
+    check_cases(&rt, alloc, CASES, 16, 7)
 }
 
 // Two voxels, each a cell: in one minishard that all ids share, and in sixteen shards by the hash.
@@ -283,13 +330,13 @@ const LABELS: &str =
     "{\"type\":\"segmentation\",\"data_type\":\"uint32\",\"num_channels\":1,\"scales\":[{\"key\":\"s\",\"size\":[2,1,1],\"chunk_sizes\":[[2,1,1]],\"resolution\":[8,8,40],\"encoding\":\"compressed_segmentation\",\"compressed_segmentation_block_size\":[2,1,1]}]}";
 
 // The values 10 and 11 in one minishard, and each in a shard of its own.
-const ONE_INDEX: [u8; 66] = [
+const ONE_INDEX: &[u8] = &[
     2, 0, 0, 0, 0, 0, 0, 0, 50, 0, 0, 0, 0, 0, 0, 0, 10, 11, 0, 0, 0, 0, 0, 0, 0, 0, 1, 0, 0, 0, 0,
     0, 0, 0, 0, 0, 0, 0, 0, 0, 0, 0, 0, 0, 0, 0, 0, 0, 0, 0, 1, 0, 0, 0, 0, 0, 0, 0, 1, 0, 0, 0, 0,
     0, 0, 0,
 ];
 
-const IN_SHARD_8: [u8; 153] = [
+const IN_SHARD_8: &[u8] = &[
     0, 0, 0, 0, 0, 0, 0, 0, 0, 0, 0, 0, 0, 0, 0, 0, 1, 0, 0, 0, 0, 0, 0, 0, 25, 0, 0, 0, 0, 0, 0,
     0, 0, 0, 0, 0, 0, 0, 0, 0, 0, 0, 0, 0, 0, 0, 0, 0, 0, 0, 0, 0, 0, 0, 0, 0, 0, 0, 0, 0, 0, 0, 0,
     0, 0, 0, 0, 0, 0, 0, 0, 0, 0, 0, 0, 0, 0, 0, 0, 0, 0, 0, 0, 0, 0, 0, 0, 0, 0, 0, 0, 0, 0, 0, 0,
@@ -297,7 +344,7 @@ const IN_SHARD_8: [u8; 153] = [
     0, 10, 0, 0, 0, 0, 0, 0, 0, 0, 0, 0, 0, 0, 0, 0, 0, 0, 1, 0, 0, 0, 0, 0, 0, 0,
 ];
 
-const IN_SHARD_3: [u8; 153] = [
+const IN_SHARD_3: &[u8] = &[
     0, 0, 0, 0, 0, 0, 0, 0, 0, 0, 0, 0, 0, 0, 0, 0, 0, 0, 0, 0, 0, 0, 0, 0, 0, 0, 0, 0, 0, 0, 0, 0,
     1, 0, 0, 0, 0, 0, 0, 0, 25, 0, 0, 0, 0, 0, 0, 0, 0, 0, 0, 0, 0, 0, 0, 0, 0, 0, 0, 0, 0, 0, 0,
     0, 0, 0, 0, 0, 0, 0, 0, 0, 0, 0, 0, 0, 0, 0, 0, 0, 0, 0, 0, 0, 0, 0, 0, 0, 0, 0, 0, 0, 0, 0, 0,
@@ -305,7 +352,7 @@ const IN_SHARD_3: [u8; 153] = [
     0, 11, 1, 0, 0, 0, 0, 0, 0, 0, 0, 0, 0, 0, 0, 0, 0, 0, 1, 0, 0, 0, 0, 0, 0, 0,
 ];
 
-const LABELLED: [u8; 24] = [
+const LABELLED: &[u8] = &[
     1, 0, 0, 0, 3, 0, 0, 1, 2, 0, 0, 0, 2, 0, 0, 0, 7, 0, 0, 0, 9, 0, 0, 0,
 ];
 
@@ -321,61 +368,48 @@ const TWO_LABELS: Write = Write {
     values: &[7, 0, 0, 0, 9, 0, 0, 0],
 };
 
-// A document, a write, the line that is printed, and the objects that stand afterwards.
-const ENCODED: [(&str, &[Write], &str, &[(&str, &[u8])]); 3] = [
-    (
-        NO_ID_BITS,
-        &[PAIR],
-        "objects 1 cells 2\n",
-        &[("d/s/0.shard", &ONE_INDEX)],
-    ),
-    (
-        HASHED,
-        &[PAIR],
-        "objects 2 cells 2\n",
-        &[("d/s/8.shard", &IN_SHARD_8), ("d/s/3.shard", &IN_SHARD_3)],
-    ),
-    (
-        LABELS,
-        &[TWO_LABELS],
-        "objects 1 cells 1\n",
-        &[("d/s/0-2_0-1_0-1", &LABELLED)],
-    ),
+const ENCODED: &[Case] = &[
+    Case {
+        info: Info::Whole(NO_ID_BITS),
+        writes: &[PAIR],
+        line: "objects 1 cells 2\n",
+        objects: &[("d/s/0.shard", ONE_INDEX)],
+    },
+    Case {
+        info: Info::Whole(HASHED),
+        writes: &[PAIR],
+        line: "objects 2 cells 2\n",
+        objects: &[("d/s/8.shard", IN_SHARD_8), ("d/s/3.shard", IN_SHARD_3)],
+    },
+    Case {
+        info: Info::Whole(LABELS),
+        writes: &[TWO_LABELS],
+        line: "objects 1 cells 1\n",
+        objects: &[("d/s/0-2_0-1_0-1", LABELLED)],
+    },
 ];
 
 #[test]
 fn stores_what_is_encoded(rt: HostRuntime) -> Result<(), Fail> {
-    for (info, writes, line, objects) in &ENCODED {
-        check_case(&rt, rt.alloc(), info, writes, 2, 7, line, objects)?;
-    }
-    Ok(())
+    check_cases(&rt, rt.alloc(), ENCODED, 2, 7)
 }
 
-// A scale, the objects under its folder, the stream, and the line of the refusal.
-const STREAMS: [([&str; 2], &[(&str, &[u8])], &[u8], &str); 7] = [
-    (PLANE, &[("d/s/x/y", &[1])], b"PVW1", "folder not empty\n"),
-    (PLANE, &[("d/t/x", &[1])], b"", "stream: bad magic\n"),
-    // a folder whose name begins with the scale's isn't the scale's
-    (PLANE, &[("d/sx/x", &[1])], b"", "stream: bad magic\n"),
-    (PLANE, &[], b"PVW2\x00\x00\x00\x00", "stream: bad magic\n"),
+// The objects under the folder of a plane, a stream, and the line of the refusal.
+type Stream = (&'static [Object<'static>], &'static [u8], &'static str);
+
+const STREAMS: &[Stream] = &[
+    (&[("d/s/x/y", &[1])], b"PVW1", "folder not empty\n"),
+    (&[("d/t/x", &[1])], b"", "stream: bad magic\n"),
+    // A folder whose name begins with the scale's isn't the scale's.
+    (&[("d/sx/x", &[1])], b"", "stream: bad magic\n"),
+    (&[], b"PVW2\x00\x00\x00\x00", "stream: bad magic\n"),
     (
-        PLANE,
         &[],
         b"PVW1\x01\x00\x01\x00",
         "stream: too many writes 65537\n",
     ),
-    (
-        PLANE,
-        &[],
-        b"PVW1\x01\x00\x00\x00\x00",
-        "write 0: truncated\n",
-    ),
-    (
-        PLANE,
-        &[],
-        b"PVW1\x00\x00\x00\x00\x00",
-        "stream: trailing bytes\n",
-    ),
+    (&[], b"PVW1\x01\x00\x00\x00\x00", "write 0: truncated\n"),
+    (&[], b"PVW1\x00\x00\x00\x00\x00", "stream: trailing bytes\n"),
 ];
 
 const EMPTY: Write = Write {
@@ -402,20 +436,22 @@ const HUGE: Write = Write {
     values: &[],
 };
 
-// Writes that are refused.
-const BAD_WRITES: [([&str; 2], &[Write], &str); 4] = [
+// A scale, writes that are refused, and the line of the refusal.
+type BadWrites = (Info<'static>, &'static [Write<'static>], &'static str);
+
+const BAD_WRITES: &[BadWrites] = &[
     (PLANE, &[EMPTY], "write 0: empty box\n"),
     (PLANE, &[CORNER, WIDE], "write 1: outside scale\n"),
     (PLANE, &[SHORT], "write 0: truncated\n"),
     (
-        ["[1048576,2048,1]", "[64,64,64]"],
+        Info::Raw("[1048576,2048,1]", "[64,64,64]"),
         &[HUGE],
         "write 0: too large\n",
     ),
 ];
 
 // Objects that no refused stream stores.
-const NEVER: [(&str, &[u8]); 4] = [
+const NEVER: &[Object] = &[
     ("d/s/0-2_0-2_0-1", &[]),
     ("d/s/0-1_0-1_0-1", &[]),
     ("d/s/0-64_0-64_0-1", &[]),
@@ -426,23 +462,47 @@ const NEVER: [(&str, &[u8]); 4] = [
 fn check_refusal<R: Threads + Wait + Abort + Sync>(
     rt: &R,
     alloc: Global,
-    sizes: &[&str; 2],
-    objects: &[(&str, &[u8])],
+    info: &Info,
+    objects: &[Object],
     stream: &[u8],
     piece: u8,
     line: &str,
 ) -> Result<(), Fail> {
-    let [size, chunk] = *sizes;
-    let info = raw_info(alloc, size, chunk)?;
-    let mut store = store_of(alloc, &info, &[])?;
-    for (name, bytes) in objects {
-        put(alloc, &mut store, name, bytes)?;
-    }
+    let mut store = store_of(alloc, info, &[])?;
+    put_all(alloc, &mut store, objects)?;
     let faults = Faults { piece, ..NO_FAULTS };
-    let status = Status::RequestRefused;
-    let line = line.as_bytes();
-    check(rt, alloc, &mut store, stream, 1, &faults, status, line)?;
-    assert!(rt; has_all(&store, objects) && has_none(&store, &NEVER));
+    let answer = Answer {
+        status: Status::RequestRefused,
+        line,
+        count: 0,
+    };
+    check(rt, alloc, &mut store, stream, 1, &faults, &answer)?;
+    assert!(rt; has_all(&store, objects) && has_none(&store, NEVER));
+    Ok(())
+}
+
+fn check_streams<R: Threads + Wait + Abort + Sync>(
+    rt: &R,
+    alloc: Global,
+    rows: &[Stream],
+    piece: u8,
+) -> Result<(), Fail> {
+    for (objects, stream, line) in rows {
+        check_refusal(rt, alloc, &PLANE, objects, stream, piece, line)?;
+    }
+    Ok(())
+}
+
+fn check_bad_writes<R: Threads + Wait + Abort + Sync>(
+    rt: &R,
+    alloc: Global,
+    rows: &[BadWrites],
+    piece: u8,
+) -> Result<(), Fail> {
+    for (info, writes, line) in rows {
+        let stream = stream_of(alloc, writes)?;
+        check_refusal(rt, alloc, info, &[], &stream, piece, line)?;
+    }
     Ok(())
 }
 
@@ -451,14 +511,8 @@ fn check_refusals<R: Threads + Wait + Abort + Sync>(
     alloc: Global,
     piece: u8,
 ) -> Result<(), Fail> {
-    for (sizes, objects, stream, line) in &STREAMS {
-        check_refusal(rt, alloc, sizes, objects, stream, piece, line)?;
-    }
-    for (sizes, writes, line) in &BAD_WRITES {
-        let stream = stream_of(alloc, writes)?;
-        check_refusal(rt, alloc, sizes, &[], &stream, piece, line)?;
-    }
-    Ok(())
+    check_streams(rt, alloc, STREAMS, piece)?;
+    check_bad_writes(rt, alloc, BAD_WRITES, piece)
 }
 
 #[test]
@@ -469,172 +523,141 @@ fn refuses_streams(rt: HostRuntime) -> Result<(), Fail> {
     check_refusals(&rt, alloc, 255)
 }
 
+// So many writes of a row of so many voxels are refused.
+fn check_row<R: Threads + Wait + Abort + Sync>(
+    rt: &R,
+    alloc: Global,
+    info: &Info,
+    voxels: u32,
+    times: u8,
+    line: &str,
+) -> Result<(), Fail> {
+    let values = vec![in alloc; 1; voxels as usize]?;
+    let write = Write {
+        begin: [0, 0, 0],
+        size: [u64::from(voxels), 1, 1],
+        values: &values,
+    };
+    let writes = [write, write];
+    let stream = stream_of(alloc, &writes[..usize::from(times.min(2))])?;
+    check_refusal(rt, alloc, info, &[], &stream, 255, line)
+}
+
 // More writes of a scale than cells may be met by.
 #[test]
 fn refuses_too_many_cells(rt: HostRuntime) -> Result<(), Fail> {
-    let alloc = rt.alloc();
-    let values = vec![in alloc; 1; 2_097_153]?;
-    let write = Write {
-        begin: [0, 0, 0],
-        size: [2_097_153, 1, 1],
-        values: &values,
-    };
-    let stream = stream_of(alloc, &[write, write])?;
-    let sizes = ["[2097153,1,1]", "[1,1,1]"];
+    let info = Info::Raw("[2097153,1,1]", "[1,1,1]");
     let line = "too many cells 4194306\n";
-    check_refusal(&rt, alloc, &sizes, &[], &stream, 255, line)
+    check_row(&rt, rt.alloc(), &info, 2_097_153, 2, line)
 }
 
 // More cells of the second size, by whose pairs nothing of the first one is written.
 #[test]
 fn refuses_too_many_cells_of_a_further_size(rt: HostRuntime) -> Result<(), Fail> {
-    let alloc = rt.alloc();
-    let values = vec![in alloc; 1; 4_194_305]?;
-    let write = Write {
-        begin: [0, 0, 0],
-        size: [4_194_305, 1, 1],
-        values: &values,
-    };
-    let stream = stream_of(alloc, &[write])?;
-    let sizes = ["[4194305,1,1]", "[4194305,1,1],[1,1,1]"];
+    let info = Info::Raw("[4194305,1,1]", "[4194305,1,1],[1,1,1]");
     let line = "too many cells 4194305\n";
-    check_refusal(&rt, alloc, &sizes, &[], &stream, 255, line)
+    check_row(&rt, rt.alloc(), &info, 4_194_305, 1, line)
 }
 
-// The size and the chunk sizes of a segmentation: one padded voxel more than are written, the same by the second size
-// alone, and more than are read.
-const LIMITS: [(&str, &str, Status, &str); 3] = [
+// A segmentation: one padded voxel more than are written, the same by the second size alone, and more than are read.
+type Limit = (Info<'static>, Status, &'static str);
+
+const LIMITS: &[Limit] = &[
     (
-        "[4194305,1,1]",
-        "[4194305,1,1]",
+        Info::Labels("[4194305,1,1]", "[4194305,1,1]"),
         Status::RequestRefused,
         "padded voxels 4194305 over 4194304\n",
     ),
     (
-        "[4194305,1,1]",
-        "[4194304,1,1],[4194305,1,1]",
+        Info::Labels("[4194305,1,1]", "[4194304,1,1],[4194305,1,1]"),
         Status::RequestRefused,
         "padded voxels 4194305 over 4194304\n",
     ),
     (
-        "[16777217,1,1]",
-        "[16777217,1,1]",
+        Info::Labels("[16777217,1,1]", "[16777217,1,1]"),
         Status::InfoRefused,
         "info of d: limit padded\n",
     ),
 ];
 
-// A segmentation of blocks of one voxel.
-fn label_info(alloc: Global, size: &str, chunks: &str) -> Result<String, AllocError> {
-    let mut info = String::from_str(
-        alloc,
-        "{\"type\":\"segmentation\",\"data_type\":\"uint32\",\"num_channels\":1,\"scales\":[{\"key\":\"s\",\"size\":",
-    )?;
-    info.push_str(size)?;
-    info.push_str(",\"chunk_sizes\":[")?;
-    info.push_str(chunks)?;
-    info.push_str(
-        "],\"resolution\":[8,8,40],\"encoding\":\"compressed_segmentation\",\"compressed_segmentation_block_size\":[1,1,1]}]}",
-    )?;
-    Ok(info)
-}
-
 // A scale of such sizes is judged before the folder, and before the stream.
 fn check_limit<R: Threads + Wait + Abort + Sync>(
     rt: &R,
     alloc: Global,
-    size: &str,
-    chunks: &str,
-    status: Status,
-    line: &str,
+    info: &Info,
+    answer: &Answer,
 ) -> Result<(), Fail> {
-    let info = label_info(alloc, size, chunks)?;
-    let mut store = store_of(alloc, &info, &[])?;
+    let mut store = store_of(alloc, info, &[])?;
     put(alloc, &mut store, "d/s/x", &[1])?;
-    let line = line.as_bytes();
-    check(rt, alloc, &mut store, b"PVW2", 1, &NO_FAULTS, status, line)
+    check(rt, alloc, &mut store, b"PVW2", 1, &NO_FAULTS, answer)
+}
+
+fn check_limits<R: Threads + Wait + Abort + Sync>(
+    rt: &R,
+    alloc: Global,
+    rows: &[Limit],
+) -> Result<(), Fail> {
+    for (info, status, line) in rows {
+        let answer = Answer {
+            status: *status,
+            line,
+            count: 0,
+        };
+        check_limit(rt, alloc, info, &answer)?;
+    }
+    Ok(())
 }
 
 #[test]
 fn judges_the_limits(rt: HostRuntime) -> Result<(), Fail> {
-    for (size, chunks, status, line) in &LIMITS {
-        check_limit(&rt, rt.alloc(), size, chunks, *status, line)?;
-    }
-    Ok(())
+    check_limits(&rt, rt.alloc(), LIMITS)
 }
 
-// The size and the chunk sizes of a raw scale, a write into it, and its objects in the order in which they are put.
-#[derive(Clone, Copy)]
-struct Case<'a> {
-    sizes: [&'a str; 2],
-    write: Write<'a>,
-    objects: [(&'a str, &'a [u8]); 3],
-}
-
-const IN_CELLS: Case = Case {
-    sizes: CELLS,
-    write: THREE,
-    objects: THREE_OBJECTS,
+const FEED_FAULT: Answer = Answer {
+    status: Status::FeedFault,
+    line: "feed fault\n",
+    count: 0,
 };
 
-const IN_VIEWS: Case = Case {
-    sizes: TWO_SIZES,
-    write: FOUR,
-    objects: TWO_VIEWS,
+// The output fails when all objects stand.
+const OUT_FAULT: Answer = Answer {
+    status: Status::OutFault,
+    line: "output fault\n",
+    count: 3,
 };
 
-// Three objects are put while a call fails: so many of them stand afterwards.
-fn check_failing<R: Threads + Wait + Abort + Sync>(
+fn check_failing_feed<R: Threads + Wait + Abort + Sync>(
     rt: &R,
     alloc: Global,
-    case: &Case,
-    workers: u32,
-    faults: &Faults,
-    status: Status,
-    line: &str,
-    count: usize,
+    call: u64,
 ) -> Result<(), Fail> {
-    let [size, chunks] = case.sizes;
-    let info = raw_info(alloc, size, chunks)?;
-    let mut store = store_of(alloc, &info, faults.store)?;
-    let stream = stream_of(alloc, &[case.write])?;
-    let line = line.as_bytes();
-    check(
-        rt, alloc, &mut store, &stream, workers, faults, status, line,
-    )?;
-    let (there, absent) = case.objects.split_at(count.min(3));
-    assert!(rt; has_all(&store, there) && has_none(&store, absent));
-    Ok(())
+    let faults = Faults {
+        feed: &[call],
+        ..NO_FAULTS
+    };
+    check_case(rt, alloc, &IN_CELLS, 1, &faults, &FEED_FAULT)
+}
+
+fn check_failing_out<R: Threads + Wait + Abort + Sync>(
+    rt: &R,
+    alloc: Global,
+    call: u64,
+) -> Result<(), Fail> {
+    let faults = Faults {
+        out: &[call],
+        piece: 1,
+        ..NO_FAULTS
+    };
+    check_case(rt, alloc, &IN_CELLS, 1, &faults, &OUT_FAULT)
 }
 
 #[test]
 fn tells_failing_streams(rt: HostRuntime) -> Result<(), Fail> {
-    let alloc = rt.alloc();
     for call in 0..5 {
-        let faults = Faults {
-            feed: &[call],
-            ..NO_FAULTS
-        };
-        let status = Status::FeedFault;
-        check_failing(&rt, alloc, &IN_CELLS, 1, &faults, status, "feed fault\n", 0)?;
+        check_failing_feed(&rt, rt.alloc(), call)?;
     }
     for call in 0..18 {
-        let faults = Faults {
-            out: &[call],
-            piece: 1,
-            ..NO_FAULTS
-        };
-        let status = Status::OutFault;
-        check_failing(
-            &rt,
-            alloc,
-            &IN_CELLS,
-            1,
-            &faults,
-            status,
-            "output fault\n",
-            3,
-        )?;
+        check_failing_out(&rt, rt.alloc(), call)?;
     }
     Ok(())
 }
