@@ -7,4 +7,6 @@ mod cutout_cmd_rows;
 #[cfg(test)]
 mod serve_cmd_rows;
 #[cfg(test)]
+mod shards;
+#[cfg(test)]
 mod verify_cmd_rows;

@@ -68,6 +68,16 @@ const SERVINGS: &[Serving] = &[
         ..TWO
     },
     Serving {
+        port: 0,
+        connections: 1,
+        door: &[1],
+        status: 9,
+        line: "listening 0\n",
+        told: "door fault\n",
+        replies: 0,
+        ..TWO
+    },
+    Serving {
         door: &[3],
         status: 9,
         told: "door fault\n",
@@ -107,37 +117,31 @@ fn door_of(alloc: Global, failing: &[u64]) -> Result<MemoryDoor, Fail>
     }
 }
 
-// The status of a serving, with what is printed and told, over an output and a door.
+// The status of a serving, over outputs and a door.
 fn serve(
     alloc: Global,
     out: &mut MemoryOutlet,
+    err: &mut MemoryOutlet,
     door: &mut MemoryDoor,
     row: &Serving,
-) -> Result<(Status, MemoryOutlet), Fail>
+) -> Result<Status, Fail>
     requires { door.old.bound ≡ None }
 {
     if row.connections < 1 {
         return Err(Fail::from("no peer"));
     }
     let mut store = store_of(alloc, OBJECTS, &[])?;
-    let mut err = outlet_of(alloc, 256, &[])?;
     let dataset = name_of("d")?;
-    let Serving {
-        port,
-        connections,
-        ..
-    } = *row;
-    let status = run_serve(
+    Ok(run_serve(
         alloc,
         &mut store,
         out,
-        &mut err,
+        err,
         door,
         &dataset,
-        port,
-        connections,
-    );
-    Ok((status, err))
+        row.port,
+        row.connections,
+    ))
 }
 
 // So many peers were sent the reply, and no other was served.
@@ -157,8 +161,9 @@ fn compare(rt: &impl Abort, status: Status, out: &MemoryOutlet, err: &MemoryOutl
 
 fn check(rt: &impl Abort, alloc: Global, row: &Serving) -> Result<(), Fail> {
     let mut out = outlet_of(alloc, 256, row.out)?;
+    let mut err = outlet_of(alloc, 256, &[])?;
     let mut door = door_of(alloc, row.door)?;
-    let (status, err) = serve(alloc, &mut out, &mut door, row)?;
+    let status = serve(alloc, &mut out, &mut err, &mut door, row)?;
     compare(rt, status, &out, &err, row);
     check_replies(rt, &door, row.replies);
     Ok(())

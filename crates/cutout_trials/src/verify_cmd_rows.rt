@@ -1,11 +1,12 @@
 //! Judgements of small stores, worked out by hand.
-ghost use Rattle.std.specs.Prelude.{◌≡◌, ◌≤◌, ◌*◌, length, IfOk};
+ghost use Rattle.std.specs.Prelude.{◌≤◌, length};
 
 mod calls;
 
-use byteorder::{ByteOrder, LittleEndian};
-use small_scales::{raw_scale, short_name};
-use std::alloc::{AllocError, Global};
+use crate::shards::{Numbers, ONE_INDEX, TWO_INDEXES, changed};
+use memory_rows::{name_of, store_of};
+use small_scales::raw_scale;
+use std::alloc::Global;
 use std::process::Abort;
 use std::test::Fail;
 use verify_cmd::{Report, VerifyFault, verify};
@@ -59,75 +60,65 @@ fn segmented_scale(key: Name) -> Scale
 }
 
 // So many voxels of a byte each in a row, a cell for each.
-fn row_scale(rt: &impl Abort, count: u64) -> Scale {
-    let key = short_name(b"s").expect(rt, "a key");
-    raw_scale(key, 1, 1, [count, 1, 1], [0; 3], [1; 3]).expect(rt, "a scale")
+fn row_scale(count: u64) -> Result<Scale, Fail> {
+    let key = name_of("s")?;
+    let scale = raw_scale(key, 1, 1, [count, 1, 1], [0; 3], [1; 3]).ok_or("no scale")?;
+    Ok(scale)
 }
 
-fn zeros(alloc: Global, len: usize) -> Result<Vec<u8>, AllocError>
-    ensures { IfOk result (λ v. length v.items ≡ len) }
-{
-    vec![in alloc; 0u8; len]
-}
+// One cell of a row, two, and more than are judged.
+const FIRST: Box3 = Box3 {
+    begin: [0; 3],
+    size: [1; 3],
+};
 
-// Numbers of eight bytes each.
-fn put_numbers(numbers: &[u64], out: &mut [u8])
-    requires { 8 * length numbers.now ≤ length out.old }
-{
-    for i in 0..numbers.len() {
-        LittleEndian::write_u64(&mut out[8 * i..], numbers[i]);
-    }
-}
-
-// The chunks 10 and 11 in two minishards: two entries, and each chunk in front of its row.
-fn two_minishards(alloc: Global) -> Result<Vec<u8>, AllocError> {
-    let mut bytes = zeros(alloc, 82)?;
-    put_numbers(&[1, 25, 26, 50], &mut bytes);
-    bytes[32] = 10;
-    put_numbers(&[0, 0, 1], &mut bytes[33..]);
-    bytes[57] = 11;
-    put_numbers(&[1, 25, 1], &mut bytes[58..]);
-    Ok(bytes)
-}
-
-// The same in one minishard: an entry, the chunks, and two rows.
-fn one_minishard(alloc: Global) -> Result<Vec<u8>, AllocError> {
-    let mut bytes = zeros(alloc, 66)?;
-    put_numbers(&[2, 50], &mut bytes);
-    bytes[16] = 10;
-    bytes[17] = 11;
-    put_numbers(&[0, 1, 0, 0, 1, 1], &mut bytes[18..]);
-    Ok(bytes)
-}
-
-const SHARD: &[u8] = b"d/s/0.shard";
-
-// A call that isn't made.
-const NONE_FAILS: u64 = 99;
-
-fn store_of(
-    rt: &impl Abort,
-    alloc: Global,
-    name: &[u8],
-    bytes: Vec<u8>,
-    failing: u64,
-) -> Result<MemoryStore, Fail> {
-    let mut store = MemoryStore::new(alloc, Vec::from_slice(alloc, &[failing])?);
-    let name = short_name(name).expect(rt, "a name");
-    store.put(&name, bytes)?;
-    Ok(store)
-}
-
-// Two cells of a row.
 const BOTH: Box3 = Box3 {
     begin: [0; 3],
     size: [2, 1, 1],
 };
 
-const FIRST: Box3 = Box3 {
+const MANY: Box3 = Box3 {
     begin: [0; 3],
-    size: [1; 3],
+    size: [4194305, 1, 1],
 };
+
+// How a part is judged.
+type Judged = Result<Report, VerifyFault>;
+
+const BOTH_STORED: Judged = Ok(Report {
+    cells: 2,
+    stored: 2,
+    absent: 0,
+});
+
+const ONE_STORED: Judged = Ok(Report {
+    cells: 2,
+    stored: 1,
+    absent: 1,
+});
+
+const NONE_STORED: Judged = Ok(Report {
+    cells: 2,
+    stored: 0,
+    absent: 2,
+});
+
+const FIRST_ABSENT: Judged = Ok(Report {
+    cells: 1,
+    stored: 0,
+    absent: 1,
+});
+
+// What is answered of a part of the data set `d`.
+fn judge(
+    alloc: Global,
+    store: &mut MemoryStore,
+    scale: &Scale,
+    part: &Box3,
+) -> Result<Judged, Fail> {
+    let dataset = name_of("d")?;
+    Ok(verify(alloc, store, &dataset, scale, part))
+}
 
 fn check(
     rt: &impl Abort,
@@ -135,189 +126,232 @@ fn check(
     store: &mut MemoryStore,
     scale: &Scale,
     part: &Box3,
-    wanted: Result<Report, VerifyFault>,
-) {
-    let dataset = short_name(b"d").expect(rt, "a data set");
-    assert_eq!(rt; verify(alloc, store, &dataset, scale, part), wanted);
-}
-
-fn sound(stored: u64, absent: u64) -> Result<Report, VerifyFault>
-    requires { (stored ≤ 9) × (absent ≤ 9) }
-{
-    Ok(Report {
-        cells: stored + absent,
-        stored,
-        absent,
-    })
-}
-
-fn damaged(cell: [u64; 3], fault: Fault) -> Result<Report, VerifyFault> {
-    Err(VerifyFault::Damaged { cell, fault })
-}
-
-// The first cell has a fault on the way to its index, or of its chunk's place.
-fn bad_shard(fault: ShardFault) -> Result<Report, VerifyFault> {
-    damaged([0; 3], Fault::Shard(fault))
-}
-
-fn bad_index(fault: IndexFault) -> Result<Report, VerifyFault> {
-    damaged([0; 3], Fault::Index(fault))
-}
-
-// Judges both cells where numbers from a place of the shard on are others.
-fn check_changed(
-    rt: &impl Abort,
-    alloc: Global,
-    minishard_bits: u32,
-    at: usize,
-    numbers: &[u64],
-    wanted: Result<Report, VerifyFault>,
-) -> Result<(), Fail>
-    requires { minishard_bits ≤ 1 }
-{
-    let mut bytes = if minishard_bits == 0 {
-        one_minishard(alloc)?
-    } else {
-        two_minishards(alloc)?
-    };
-    assert!(rt; at < 80 && numbers.len() < 3 && at + 8 * numbers.len() <= bytes.len());
-    put_numbers(numbers, &mut bytes[at..]);
-    let key = short_name(b"s").expect(rt, "a key");
-    let scale = sharded_scale(key, one_shard(minishard_bits));
-    let mut store = store_of(rt, alloc, SHARD, bytes, NONE_FAILS)?;
-    check(rt, alloc, &mut store, &scale, &BOTH, wanted);
+    wanted: Judged,
+) -> Result<(), Fail> {
+    let judged = judge(alloc, store, scale, part)?;
+    assert_eq!(rt; judged, wanted);
     Ok(())
 }
+
+// A part, and how it is judged.
+type Part = (Box3, Judged);
+
+// Parts that are judged one after the other.
+fn check_parts(
+    rt: &impl Abort,
+    alloc: Global,
+    store: &mut MemoryStore,
+    scale: &Scale,
+    parts: &[Part],
+) -> Result<(), Fail> {
+    for (part, wanted) in parts {
+        check(rt, alloc, store, scale, part, *wanted)?;
+    }
+    Ok(())
+}
+
+// The same over a store of one object.
+fn check_object(
+    rt: &impl Abort,
+    alloc: Global,
+    scale: &Scale,
+    name: &str,
+    bytes: &[u8],
+    parts: &[Part],
+) -> Result<(), Fail> {
+    let mut store = store_of(alloc, &[(name, bytes)], &[])?;
+    check_parts(rt, alloc, &mut store, scale, parts)
+}
+
+// Both cells of a shard that has these numbers and is cut off there.
+fn check_shard(
+    rt: &impl Abort,
+    alloc: Global,
+    scale: &Scale,
+    shard: &[u8],
+    numbers: &[(u8, u64)],
+    len: usize,
+    wanted: Judged,
+) -> Result<(), Fail> {
+    let mut bytes = changed(alloc, shard, numbers)?;
+    bytes.truncate(len);
+    check_object(rt, alloc, scale, "d/s/0.shard", &bytes, &[(BOTH, wanted)])
+}
+
+// Numbers that are put at places of a shard, how many bytes of it are left, and how both cells are judged then.
+type Change = (Numbers, usize, Judged);
+
+fn check_changes(
+    rt: &impl Abort,
+    alloc: Global,
+    scale: &Scale,
+    shard: &[u8],
+    rows: &[Change],
+) -> Result<(), Fail> {
+    for (numbers, len, wanted) in rows {
+        check_shard(rt, alloc, scale, shard, numbers, *len, *wanted)?;
+    }
+    Ok(())
+}
+
+// The same where a cell is damaged.
+type Damage = (Numbers, usize, [u64; 3], Fault);
+
+fn check_damages(
+    rt: &impl Abort,
+    alloc: Global,
+    scale: &Scale,
+    shard: &[u8],
+    rows: &[Damage],
+) -> Result<(), Fail> {
+    for (numbers, len, cell, fault) in rows {
+        let wanted = Err(VerifyFault::Damaged {
+            cell: *cell,
+            fault: *fault,
+        });
+        check_shard(rt, alloc, scale, shard, numbers, *len, wanted)?;
+    }
+    Ok(())
+}
+
+// The id of the second cell stands in the minishard of the first.
+const MISPLACED: Judged = Err(VerifyFault::Misplaced {
+    shard: 0,
+    minishard: 0,
+    id: 1,
+});
+
+const TOO_LONG: Fault = Fault::Shard(ShardFault::ChunkTooLong { found: 2, limit: 1 });
+
+const TOO_MANY: Fault = Fault::Shard(ShardFault::TooManyRows { rows: 4194305 });
+
+const BAD_LENGTH: Fault = Fault::Shard(ShardFault::BadLength { bytes: 23 });
+
+const SHORT_MINISHARD: Fault = Fault::Shard(ShardFault::ShortMinishard);
+
+const SHORT_CHUNK: Fault = Fault::Shard(ShardFault::ShortChunk);
+
+const BAD_ID: Fault = Fault::Index(IndexFault::BadId { row: 1 });
+
+const BAD_START: Fault = Fault::Index(IndexFault::BadStart { row: 1 });
+
+const OF_TWO: &[Change] = &[
+    (&[(0, 1)], 82, BOTH_STORED),
+    (&[(0, 25), (8, 25)], 82, ONE_STORED),
+    (&[(33, 1)], 82, MISPLACED),
+];
+
+const DAMAGED_TWO: &[Damage] = &[
+    (&[(0, 2), (8, 25)], 82, [0; 3], BAD_LENGTH),
+    (
+        &[(0, 25), (8, 1)],
+        82,
+        [0; 3],
+        Fault::Shard(ShardFault::BadRange),
+    ),
+    (
+        &[(0, u64::MAX - 24), (8, u64::MAX)],
+        82,
+        [0; 3],
+        SHORT_MINISHARD,
+    ),
+    (&[(49, 2)], 82, [0; 3], TOO_LONG),
+    (&[(66, 1000)], 82, [1, 0, 0], SHORT_CHUNK),
+    (&[], 8, [0; 3], Fault::Shard(ShardFault::ShortIndex)),
+    (&[], 33, [0; 3], SHORT_MINISHARD),
+];
 
 #[test]
 fn judges_two_minishards(rt: HostRuntime) -> Result<(), Fail> {
-    let alloc = rt.alloc();
-    let misplaced = VerifyFault::Misplaced {
-        shard: 0,
-        minishard: 0,
-        id: 1,
-    };
-    let long = ShardFault::ChunkTooLong { found: 2, limit: 1 };
-    for (at, numbers, wanted) in [
-        (0, [1].as_slice(), sound(2, 0)),
-        (0, &[25, 25], sound(1, 1)),
-        (0, &[2, 25], bad_shard(ShardFault::BadLength { bytes: 23 })),
-        (0, &[25, 1], bad_shard(ShardFault::BadRange)),
-        (
-            0,
-            &[u64::MAX - 24, u64::MAX],
-            bad_shard(ShardFault::ShortMinishard),
-        ),
-        (33, &[1], Err(misplaced)),
-        (49, &[2], bad_shard(long)),
-        (
-            66,
-            &[1000],
-            damaged([1, 0, 0], Fault::Shard(ShardFault::ShortChunk)),
-        ),
-    ] {
-        check_changed(&rt, alloc, 1, at, numbers, wanted)?;
-    }
-    Ok(())
+    let scale = sharded_scale(name_of("s")?, one_shard(1));
+    check_changes(&rt, rt.alloc(), &scale, TWO_INDEXES, OF_TWO)?;
+    check_damages(&rt, rt.alloc(), &scale, TWO_INDEXES, DAMAGED_TWO)
 }
+
+const OF_ONE: &[Change] = &[(&[(0, 2)], 66, BOTH_STORED)];
+
+const DAMAGED_ONE: &[Damage] = &[
+    (&[(8, 100663322)], 66, [0; 3], TOO_MANY),
+    (&[(18, u64::MAX)], 66, [0; 3], BAD_ID),
+    (&[(26, 0)], 66, [0; 3], BAD_ID),
+    (&[(34, 1000)], 66, [0; 3], SHORT_CHUNK),
+    (&[(50, 2)], 66, [0; 3], TOO_LONG),
+    (&[(50, u64::MAX)], 66, [0; 3], BAD_START),
+];
 
 #[test]
 fn judges_whole_indexes(rt: HostRuntime) -> Result<(), Fail> {
-    let alloc = rt.alloc();
-    let too_many = ShardFault::TooManyRows { rows: 4194305 };
-    let too_long = ShardFault::ChunkTooLong { found: 2, limit: 1 };
-    for (at, numbers, wanted) in [
-        (0, [2].as_slice(), sound(2, 0)),
-        (8, &[100663322], bad_shard(too_many)),
-        (18, &[u64::MAX], bad_index(IndexFault::BadId { row: 1 })),
-        (26, &[0], bad_index(IndexFault::BadId { row: 1 })),
-        (34, &[1000], bad_shard(ShardFault::ShortChunk)),
-        (50, &[2], bad_shard(too_long)),
-        (50, &[u64::MAX], bad_index(IndexFault::BadStart { row: 1 })),
-    ] {
-        check_changed(&rt, alloc, 0, at, numbers, wanted)?;
-    }
-    Ok(())
+    let scale = sharded_scale(name_of("s")?, one_shard(0));
+    check_changes(&rt, rt.alloc(), &scale, ONE_INDEX, OF_ONE)?;
+    check_damages(&rt, rt.alloc(), &scale, ONE_INDEX, DAMAGED_ONE)
 }
 
 #[test]
-fn judges_short_shards(rt: HostRuntime) -> Result<(), Fail> {
-    let alloc = rt.alloc();
-    let key = short_name(b"s").expect(&rt, "a key");
-    let scale = sharded_scale(key, one_shard(1));
-    let whole = two_minishards(alloc)?;
-    for (len, wanted) in [
-        (8, bad_shard(ShardFault::ShortIndex)),
-        (33, bad_shard(ShardFault::ShortMinishard)),
-    ] {
-        assert!(rt; len <= whole.len());
-        let mut store = store_of(&rt, alloc, SHARD, whole[..len].to_vec(alloc)?, NONE_FAILS)?;
-        check(&rt, alloc, &mut store, &scale, &BOTH, wanted);
-    }
-    let mut store = store_of(&rt, alloc, b"d/s/1.shard", whole, NONE_FAILS)?;
-    check(&rt, alloc, &mut store, &scale, &BOTH, sound(0, 2));
-    Ok(())
+fn judges_other_shards(rt: HostRuntime) -> Result<(), Fail> {
+    let scale = sharded_scale(name_of("s")?, one_shard(1));
+    let absent = &[(BOTH, NONE_STORED)];
+    check_object(&rt, rt.alloc(), &scale, "d/s/1.shard", TWO_INDEXES, absent)
 }
+
+const LONG_SECOND: Judged = Err(VerifyFault::Damaged {
+    cell: [1, 0, 0],
+    fault: Fault::Chunk(ChunkFault::ChunkLength {
+        found: 2,
+        wanted: 1,
+    }),
+});
+
+// What the object of the second cell has, and how parts are judged then, one after the other.
+const SECOND: &[(&[u8], &[Part])] = &[
+    (&[0], &[(BOTH, ONE_STORED), (FIRST, FIRST_ABSENT)]),
+    (&[0; 9], &[(FIRST, FIRST_ABSENT), (BOTH, LONG_SECOND)]),
+];
 
 #[test]
 fn judges_objects(rt: HostRuntime) -> Result<(), Fail> {
-    let alloc = rt.alloc();
-    let scale = row_scale(&rt, 2);
-    let long = ChunkFault::ChunkLength {
-        found: 2,
-        wanted: 1,
-    };
-    let second = b"d/s/1-2_0-1_0-1";
-    let mut store = store_of(&rt, alloc, second, zeros(alloc, 1)?, NONE_FAILS)?;
-    check(&rt, alloc, &mut store, &scale, &BOTH, sound(1, 1));
-    check(&rt, alloc, &mut store, &scale, &FIRST, sound(0, 1));
-    let mut store = store_of(&rt, alloc, second, zeros(alloc, 9)?, NONE_FAILS)?;
-    check(&rt, alloc, &mut store, &scale, &FIRST, sound(0, 1));
-    let wanted = damaged([1, 0, 0], Fault::Chunk(long));
-    check(&rt, alloc, &mut store, &scale, &BOTH, wanted);
+    let scale = row_scale(2)?;
+    for (bytes, parts) in SECOND {
+        check_object(&rt, rt.alloc(), &scale, "d/s/1-2_0-1_0-1", bytes, parts)?;
+    }
     Ok(())
 }
+
+const BAD_CHANNEL: Judged = Err(VerifyFault::Damaged {
+    cell: [0; 3],
+    fault: Fault::Chunk(ChunkFault::SegChannel { c: 0 }),
+});
 
 #[test]
 fn judges_segmentations(rt: HostRuntime) -> Result<(), Fail> {
-    let alloc = rt.alloc();
-    let key = short_name(b"s").expect(&rt, "a key");
-    let scale = segmented_scale(key);
-    let bytes = vec![in alloc; 255u8; 4]?;
-    let mut store = store_of(&rt, alloc, b"d/s/0-1_0-1_0-1", bytes, NONE_FAILS)?;
-    let wanted = damaged([0; 3], Fault::Chunk(ChunkFault::SegChannel { c: 0 }));
-    check(&rt, alloc, &mut store, &scale, &FIRST, wanted);
-    Ok(())
+    let scale = segmented_scale(name_of("s")?);
+    let name = "d/s/0-1_0-1_0-1";
+    check_object(
+        &rt,
+        rt.alloc(),
+        &scale,
+        name,
+        &[255; 4],
+        &[(FIRST, BAD_CHANNEL)],
+    )
 }
+
+// A row of so many voxels, of which a part is judged. The first call of the store, which fails, is the third row's.
+const ROWS: &[(u64, Part)] = &[
+    (1, (BOTH, Err(VerifyFault::OutsideScale))),
+    (
+        4194305,
+        (MANY, Err(VerifyFault::TooManyCells { cells: 4194305 })),
+    ),
+    (2, (BOTH, Err(VerifyFault::StoreFault))),
+    (2, (BOTH, NONE_STORED)),
+];
 
 #[test]
 fn refuses_parts(rt: HostRuntime) -> Result<(), Fail> {
-    let alloc = rt.alloc();
-    let many = Box3 {
-        begin: [0; 3],
-        size: [4194305, 1, 1],
-    };
-    let mut store = store_of(&rt, alloc, b"d/s/x", zeros(alloc, 1)?, 0)?;
-    let outside = Err(VerifyFault::OutsideScale);
-    check(&rt, alloc, &mut store, &row_scale(&rt, 1), &BOTH, outside);
-    let too_many = Err(VerifyFault::TooManyCells { cells: 4194305 });
-    check(
-        &rt,
-        alloc,
-        &mut store,
-        &row_scale(&rt, 4194305),
-        &many,
-        too_many,
-    );
-    let failed = Err(VerifyFault::StoreFault);
-    check(&rt, alloc, &mut store, &row_scale(&rt, 2), &BOTH, failed);
-    check(
-        &rt,
-        alloc,
-        &mut store,
-        &row_scale(&rt, 2),
-        &BOTH,
-        sound(0, 2),
-    );
+    let mut store = store_of(rt.alloc(), &[("d/s/x", &[0])], &[0])?;
+    for (count, (part, wanted)) in ROWS {
+        let scale = row_scale(*count)?;
+        check(&rt, rt.alloc(), &mut store, &scale, part, *wanted)?;
+    }
     Ok(())
 }

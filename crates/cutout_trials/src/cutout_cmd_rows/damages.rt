@@ -2,6 +2,7 @@
 //! `tests/model/shards.py`; the words of the segmentations were worked out by hand from docs/format.md.
 
 use super::{Cut, NO_FAULTS, WHOLE, check_cut};
+use crate::shards::{Numbers, changed};
 use command_base::Status;
 use memory_rows::store_of;
 use std::alloc::{AllocError, Global};
@@ -9,8 +10,8 @@ use std::process::Abort;
 use std::test::Fail;
 
 // Eleven voxels in cells of two, by their ids in two minishards of one shard.
-pub(super) const SIX_CELLS: &str =
-    "{\"type\":\"image\",\"data_type\":\"uint8\",\"num_channels\":1,\"scales\":[{\"key\":\"s\",\"size\":[11,1,1],\"chunk_sizes\":[[2,1,1]],\"resolution\":[8,8,40],\"encoding\":\"raw\",\"sharding\":{\"@type\":\"neuroglancer_uint64_sharded_v1\",\"preshift_bits\":0,\"hash\":\"identity\",\"minishard_bits\":1,\"shard_bits\":0}}]}";
+pub(super) const SIX_CELLS: &[u8] =
+    b"{\"type\":\"image\",\"data_type\":\"uint8\",\"num_channels\":1,\"scales\":[{\"key\":\"s\",\"size\":[11,1,1],\"chunk_sizes\":[[2,1,1]],\"resolution\":[8,8,40],\"encoding\":\"raw\",\"sharding\":{\"@type\":\"neuroglancer_uint64_sharded_v1\",\"preshift_bits\":0,\"hash\":\"identity\",\"minishard_bits\":1,\"shard_bits\":0}}]}";
 
 // The values 1 to 11: minishard 0 has the chunks 0, 2 and 4, minishard 1 has 1, 3 and 5.
 pub(super) const SIX_CHUNKS: &[u8] = &[
@@ -26,7 +27,7 @@ pub(super) const SIX_CHUNKS: &[u8] = &[
 // cutout, or the line of its refusal.
 #[derive(Clone, Copy)]
 struct Damage<'a> {
-    numbers: &'a [(u8, u64)],
+    numbers: Numbers,
     len: usize,
     part: &'a str,
     out: &'a [u8],
@@ -155,24 +156,6 @@ const DAMAGES: &[Damage] = &[
     },
 ];
 
-/// Puts a number of eight bytes at a place, its lowest byte first.
-pub(super) fn put_number(bytes: &mut [u8], at: u8, number: u64) {
-    for (i, byte) in number.to_le_bytes().iter().enumerate() {
-        if let Some(place) = bytes.get_mut((at as usize).wrapping_add(i)) {
-            *place = *byte;
-        }
-    }
-}
-
-fn damaged(alloc: Global, damage: &Damage) -> Result<Vec<u8>, AllocError> {
-    let mut bytes = SIX_CHUNKS.to_vec(alloc)?;
-    for (at, number) in damage.numbers {
-        put_number(&mut bytes, *at, *number);
-    }
-    bytes.truncate(damage.len);
-    Ok(bytes)
-}
-
 // A cutout that gives values, or tells damage.
 fn cut_of<'a>(part: &'a str, out: &'a [u8], err: &'a str) -> Cut<'a> {
     let status = if err.is_empty() {
@@ -193,21 +176,22 @@ fn cut_of<'a>(part: &'a str, out: &'a [u8], err: &'a str) -> Cut<'a> {
 pub(super) fn check_object<'a>(
     rt: &impl Abort,
     alloc: Global,
-    info: &'a str,
+    info: &'a [u8],
     name: &'a str,
     object: &'a [u8],
     part: &'a str,
     out: &'a [u8],
     err: &'a str,
 ) -> Result<(), Fail> {
-    let objects = [("d/info", info.as_bytes()), (name, object)];
+    let objects = [("d/info", info), (name, object)];
     let mut store = store_of(alloc, &objects, &[])?;
     check_cut(rt, alloc, &mut store, &NO_FAULTS, &cut_of(part, out, err))
 }
 
 // A cutout over the shard that is so damaged.
 fn check_damage(rt: &impl Abort, alloc: Global, damage: &Damage) -> Result<(), Fail> {
-    let bytes = damaged(alloc, damage)?;
+    let mut bytes = changed(alloc, SIX_CHUNKS, damage.numbers)?;
+    bytes.truncate(damage.len);
     let name = "d/s/0.shard";
     let Damage { part, out, err, .. } = *damage;
     check_object(rt, alloc, SIX_CELLS, name, &bytes, part, out, err)
@@ -226,8 +210,8 @@ fn tells_damaged_shards(rt: HostRuntime) -> Result<(), Fail> {
 }
 
 // Two voxels in one block.
-const LABELS: &str =
-    "{\"type\":\"segmentation\",\"data_type\":\"uint32\",\"num_channels\":1,\"scales\":[{\"key\":\"s\",\"size\":[2,1,1],\"chunk_sizes\":[[2,1,1]],\"resolution\":[8,8,40],\"encoding\":\"compressed_segmentation\",\"compressed_segmentation_block_size\":[2,1,1]}]}";
+const LABELS: &[u8] =
+    b"{\"type\":\"segmentation\",\"data_type\":\"uint32\",\"num_channels\":1,\"scales\":[{\"key\":\"s\",\"size\":[2,1,1],\"chunk_sizes\":[[2,1,1]],\"resolution\":[8,8,40],\"encoding\":\"compressed_segmentation\",\"compressed_segmentation_block_size\":[2,1,1]}]}";
 
 // Where the channel begins, the header of the block, with one bit an index, the indices, and the table.
 const TWO_LABELS: &[u32] = &[1, 0x01000003, 2, 2, 7, 9];
@@ -276,8 +260,8 @@ fn tells_damaged_labels(rt: HostRuntime) -> Result<(), Fail> {
 }
 
 // Four cells in as many layers, of two channels, in one minishard: the entry, the chunks, and four rows.
-pub(super) const FOUR_LAYERS: &str =
-    "{\"type\":\"image\",\"data_type\":\"uint8\",\"num_channels\":2,\"scales\":[{\"key\":\"s\",\"size\":[1,1,4],\"chunk_sizes\":[[1,1,1]],\"resolution\":[8,8,40],\"encoding\":\"raw\",\"sharding\":{\"@type\":\"neuroglancer_uint64_sharded_v1\",\"preshift_bits\":0,\"hash\":\"identity\",\"minishard_bits\":0,\"shard_bits\":0}}]}";
+pub(super) const FOUR_LAYERS: &[u8] =
+    b"{\"type\":\"image\",\"data_type\":\"uint8\",\"num_channels\":2,\"scales\":[{\"key\":\"s\",\"size\":[1,1,4],\"chunk_sizes\":[[1,1,1]],\"resolution\":[8,8,40],\"encoding\":\"raw\",\"sharding\":{\"@type\":\"neuroglancer_uint64_sharded_v1\",\"preshift_bits\":0,\"hash\":\"identity\",\"minishard_bits\":0,\"shard_bits\":0}}]}";
 
 pub(super) const FOUR_CHUNKS: &[u8] = &[
     8, 0, 0, 0, 0, 0, 0, 0, 104, 0, 0, 0, 0, 0, 0, 0, 1, 5, 2, 6, 3, 7, 4, 8, 0, 0, 0, 0, 0, 0, 0,
@@ -293,12 +277,12 @@ const FRONT: u64 = 1 << 16;
 pub(super) fn check_asked(
     rt: &impl Abort,
     alloc: Global,
-    info: &str,
+    info: &[u8],
     shard: &[u8],
     cut: &Cut,
     asked: u64,
 ) -> Result<(), Fail> {
-    let objects = [("d/info", info.as_bytes()), ("d/s/0.shard", shard)];
+    let objects = [("d/info", info), ("d/s/0.shard", shard)];
     let mut store = store_of(alloc, &objects, &[])?;
     check_cut(rt, alloc, &mut store, &NO_FAULTS, cut)?;
     assert_eq!(rt; store.asked(), FRONT.wrapping_add(asked));

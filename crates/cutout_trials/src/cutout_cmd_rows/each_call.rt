@@ -81,13 +81,13 @@ fn count_writes(
 fn check_calls(
     rt: &impl Abort,
     alloc: Global,
-    info: &str,
+    info: &[u8],
     shard: &[u8],
     cut: &Cut,
     reads: u64,
     writes: u64,
 ) -> Result<(), Fail> {
-    let objects = [("d/info", info.as_bytes()), ("d/s/0.shard", shard)];
+    let objects = [("d/info", info), ("d/s/0.shard", shard)];
     assert_eq!(rt; count_reads(rt, alloc, &objects, cut)?, reads);
     assert_eq!(rt; count_writes(rt, alloc, &objects, cut)?, writes);
     Ok(())
