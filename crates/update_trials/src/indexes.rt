@@ -10,13 +10,7 @@ use std::process::Abort;
 use std::test::Fail;
 use vol_base::{Fault, IndexFault, ShardFault};
 
-fn column(alloc: Global) -> Result<Vec<u8>, AllocError>
-    ensures { IfOk result (λ bytes. length bytes.items ≡ 8192) }
-{
-    vec![in alloc; 0; 8192]
-}
-
-// What is kept of a minishard of the shard 0, of such pieces, behind the id 9.
+// A minishard of the shard 0, of such pieces; what keeping its index answers, and, where that is Ok, the ids behind the id 9.
 #[derive(Clone, Copy)]
 struct Row<'a> {
     pieces: &'a [Piece<'a>],
@@ -25,7 +19,69 @@ struct Row<'a> {
     kept: &'a [u64],
 }
 
-fn check(rt: &impl Abort, alloc: Global, row: &Row, failing: &[u64]) -> Result<(), Fail> {
+const FIRST: Row = Row {
+    pieces: SHARD,
+    minishard: 0,
+    answer: Ok(true),
+    kept: &[9, 0, 4],
+};
+
+const ROWS: &[Row] = &[
+    FIRST,
+    Row {
+        minishard: 1,
+        kept: &[9, 1],
+        ..FIRST
+    },
+    Row {
+        pieces: STRANGE,
+        minishard: 1,
+        kept: &[9, 5],
+        ..FIRST
+    },
+    Row {
+        pieces: &[(&[], &[0, 0, 0, 0])],
+        kept: &[9],
+        ..FIRST
+    },
+    Row {
+        pieces: TWICE,
+        answer: Err(KeepFault::Damaged(Fault::Index(IndexFault::BadId { row: 1 }))),
+        ..FIRST
+    },
+    Row {
+        pieces: BAD_RANGE,
+        minishard: 1,
+        answer: Err(KeepFault::Damaged(Fault::Shard(ShardFault::BadRange))),
+        ..FIRST
+    },
+    Row {
+        pieces: &[],
+        answer: Ok(false),
+        kept: &[9],
+        ..FIRST
+    },
+];
+
+const UNREAD: Row = Row {
+    answer: Err(KeepFault::NotRead),
+    ..FIRST
+};
+
+fn column(alloc: Global) -> Result<Vec<u8>, AllocError>
+    ensures { IfOk result (λ bytes. length bytes.items ≡ 8192) }
+{
+    vec![in alloc; 0; 8192]
+}
+
+// What keeping the index of a row answers, while calls of the store fail. The ids are put behind those that are kept.
+fn keep(
+    rt: &impl Abort,
+    alloc: Global,
+    row: &Row,
+    failing: &[u64],
+    kept: &mut Vec<u64>,
+) -> Result<Result<bool, KeepFault>, Fail> {
     let scale = find_scale(alloc)?;
     let sharding = sharding_of(&scale)?;
     let name = name_of("d/s/0.shard")?;
@@ -38,8 +94,7 @@ fn check(rt: &impl Abort, alloc: Global, row: &Row, failing: &[u64]) -> Result<(
     let mut ids = column(alloc)?;
     let mut starts = column(alloc)?;
     let mut sizes = column(alloc)?;
-    let mut kept = Vec::from_slice(alloc, &[9])?;
-    let answer = keep_index(
+    Ok(keep_index(
         &mut store,
         &name,
         &sharding,
@@ -47,64 +102,35 @@ fn check(rt: &impl Abort, alloc: Global, row: &Row, failing: &[u64]) -> Result<(
         &mut ids,
         &mut starts,
         &mut sizes,
-        &mut kept,
-    );
+        kept,
+    ))
+}
+
+fn check(rt: &impl Abort, alloc: Global, row: &Row, failing: &[u64]) -> Result<(), Fail> {
+    let mut kept = Vec::from_slice(alloc, &[9])?;
+    let answer = keep(rt, alloc, row, failing, &mut kept)?;
     assert_eq!(rt; answer, row.answer);
-    if answer.is_ok() {
-        assert_eq!(rt; kept.as_slice(), row.kept);
+    assert!(rt; answer.is_err() || kept.as_slice() == row.kept);
+    Ok(())
+}
+
+fn check_rows(rt: &impl Abort, alloc: Global, rows: &[Row]) -> Result<(), Fail> {
+    for row in rows {
+        check(rt, alloc, row, &[])?;
     }
     Ok(())
 }
 
-// A row without a fault.
-fn sound<'a>(pieces: &'a [Piece<'a>], minishard: u64, kept: &'a [u64]) -> Row<'a> {
-    Row {
-        pieces,
-        minishard,
-        answer: Ok(true),
-        kept,
-    }
-}
-
-// A row with a fault.
-fn damaged<'a>(pieces: &'a [Piece<'a>], minishard: u64, fault: Fault) -> Row<'a> {
-    Row {
-        pieces,
-        minishard,
-        answer: Err(KeepFault::Damaged(fault)),
-        kept: &[],
-    }
-}
-
 #[test]
 fn keeps_what_belongs_there(rt: HostRuntime) -> Result<(), Fail> {
-    let alloc = rt.alloc();
-    let bad_id = Fault::Index(IndexFault::BadId { row: 1 });
-    let bad_range = Fault::Shard(ShardFault::BadRange);
-    for row in [
-        sound(&SHARD, 0, &[9, 0, 4]),
-        sound(&SHARD, 1, &[9, 1]),
-        sound(&STRANGE, 1, &[9, 5]),
-        sound(&[(&[], &[0, 0, 0, 0])], 0, &[9]),
-        damaged(&TWICE, 0, bad_id),
-        damaged(&BAD_RANGE, 1, bad_range),
-    ] {
-        check(&rt, alloc, &row, &[])?;
-    }
-    let absent = Row {
-        pieces: &[],
-        minishard: 0,
-        answer: Ok(false),
-        kept: &[9],
-    };
-    check(&rt, alloc, &absent, &[])?;
-    let unread = Row {
-        answer: Err(KeepFault::NotRead),
-        ..sound(&SHARD, 0, &[])
-    };
-    // the length, the entry, three columns
+    check_rows(&rt, rt.alloc(), ROWS)
+}
+
+// The calls of the store are the length, the entry, and three columns.
+#[test]
+fn tells_failing_calls(rt: HostRuntime) -> Result<(), Fail> {
     for call in 0..5 {
-        check(&rt, alloc, &unread, &[call])?;
+        check(&rt, rt.alloc(), &UNREAD, &[call])?;
     }
     Ok(())
 }

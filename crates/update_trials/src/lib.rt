@@ -9,4 +9,6 @@ mod indexes;
 #[cfg(test)]
 mod shards;
 #[cfg(test)]
+mod stored;
+#[cfg(test)]
 mod volume;

@@ -41,17 +41,23 @@ pub(crate) const EDGE: Write = ([4, 0, 0], [1, 1, 1], &[22]);
 
 pub(crate) const TWO_CELLS: Write = ([1, 0, 0], [2, 1, 1], &[23, 24]);
 
+fn put_write(bytes: &mut Vec<u8>, write: &Write) -> Result<(), AllocError> {
+    let (begin, size, values) = write;
+    for at in begin {
+        bytes.extend_from_slice(&at.to_le_bytes())?;
+    }
+    for len in size {
+        bytes.extend_from_slice(&len.to_le_bytes())?;
+    }
+    bytes.extend_from_slice(values)?;
+    Ok(())
+}
+
 fn print_stream(alloc: Global, writes: &[Write]) -> Result<Vec<u8>, AllocError> {
     let mut bytes = Vec::from_slice(alloc, b"PVW1")?;
     bytes.extend_from_slice(&writes.len().to_le_bytes()[..4])?;
-    for (begin, size, values) in writes {
-        for at in begin {
-            bytes.extend_from_slice(&at.to_le_bytes())?;
-        }
-        for len in size {
-            bytes.extend_from_slice(&len.to_le_bytes())?;
-        }
-        bytes.extend_from_slice(values)?;
+    for write in writes {
+        put_write(&mut bytes, write)?;
     }
     Ok(bytes)
 }
@@ -74,40 +80,46 @@ pub(crate) fn plan_of(alloc: Global, scale: &Scale, writes: &[Write]) -> Result<
 pub(crate) type Piece<'a> = (&'a [u8], &'a [u64]);
 
 /// The shard 0: the entries of its minishards, the chunks 0 and 4, and the rows of these, the chunk 1, and its row.
-pub(crate) const SHARD: [Piece; 3] = [
+pub(crate) const SHARD: &[Piece] = &[
     (&[], &[3, 51, 53, 77]),
     (&[10, 11, 12], &[0, 4, 0, 0, 2, 1]),
     (&[13, 14], &[1, 51, 2]),
 ];
 
 /// Its second minishard has a row of the id 3, which belongs into the shard 1, and one of the id 5, which no cell has.
-pub(crate) const STRANGE: [Piece; 3] = [
+pub(crate) const STRANGE: &[Piece] = &[
     (&[], &[3, 51, 53, 101]),
     (&[10, 11, 12], &[0, 4, 0, 0, 2, 1]),
     (&[13, 14], &[3, 2, 51, 0, 2, 0]),
 ];
 
 /// Its first minishard has the id 4 twice.
-pub(crate) const TWICE: [Piece; 3] = [
+pub(crate) const TWICE: &[Piece] = &[
     (&[], &[3, 51, 53, 77]),
     (&[10, 11, 12], &[4, 0, 0, 0, 2, 1]),
     (&[13, 14], &[1, 51, 2]),
 ];
 
 /// Its second minishard ends before it begins.
-pub(crate) const BAD_RANGE: [Piece; 3] = [
+pub(crate) const BAD_RANGE: &[Piece] = &[
     (&[], &[3, 51, 77, 53]),
     (&[10, 11, 12], &[0, 4, 0, 0, 2, 1]),
     (&[13, 14], &[1, 51, 2]),
 ];
 
+fn put_piece(object: &mut Vec<u8>, piece: &Piece) -> Result<(), AllocError> {
+    let (bytes, numbers) = piece;
+    object.extend_from_slice(bytes)?;
+    for number in *numbers {
+        object.extend_from_slice(&number.to_le_bytes())?;
+    }
+    Ok(())
+}
+
 fn print_pieces(alloc: Global, pieces: &[Piece]) -> Result<Vec<u8>, AllocError> {
     let mut object = Vec::new(alloc);
-    for (bytes, numbers) in pieces {
-        object.extend_from_slice(bytes)?;
-        for number in numbers.iter() {
-            object.extend_from_slice(&number.to_le_bytes())?;
-        }
+    for piece in pieces {
+        put_piece(&mut object, piece)?;
     }
     Ok(object)
 }
