@@ -2,16 +2,17 @@
 
 mod crew;
 
+use crate::answers::{Outlets, check_answer, outlets_of};
 use command_base::{Crew, Status};
 use downsample_cmd::run_downsample;
-use memory_rows::{has_all, has_none, name_of, outlet_of, store_of};
+use memory_rows::{has_all, has_none, name_of, store_of};
 use reduce_laws::Method;
 use std::alloc::Global;
 use std::process::Abort;
 use std::sync::Wait;
 use std::test::Fail;
 use std::thread::Threads;
-use vol_base::{FreeGate, MemoryOutlet, MemoryStore};
+use vol_base::{FreeGate, MemoryStore};
 
 // A square of four voxels, and the next scale.
 const SQUARE: &[u8] =
@@ -66,7 +67,7 @@ const OBJECTS: &[(&str, &[u8])] = &[
 
 // A reduction from a key of a data set into another; the numbers of the calls of the store and the output that fail; then
 // the status, what is printed and told, and the object that is put.
-#[derive(Drop)]
+#[derive(Clone, Copy)]
 struct Row<'a> {
     dataset: &'a str,
     keys: (&'a str, &'a str),
@@ -206,23 +207,28 @@ const REFUSALS: &[Row] = &[
     },
 ];
 
-// The status of a reduction, with what is printed and told.
+// The status of a reduction by two workers.
 fn reduce<R: Threads + Wait + Sync>(
     rt: &R,
     alloc: Global,
     store: &mut MemoryStore,
+    outlets: &mut Outlets,
     row: &Row,
-) -> Result<(Status, MemoryOutlet, MemoryOutlet), Fail> {
+) -> Result<Status, Fail> {
     let dataset = name_of(row.dataset)?;
     let key = name_of(row.keys.0)?;
     let to_key = name_of(row.keys.1)?;
-    let mut out = outlet_of(alloc, 7, row.out)?;
-    let mut err = outlet_of(alloc, 7, &[])?;
     let crew = Crew::of(rt, alloc, 2, &FreeGate);
-    let status = run_downsample(
-        &crew, store, &mut out, &mut err, &dataset, &key, &to_key, row.method,
-    );
-    Ok((status, out, err))
+    Ok(run_downsample(
+        &crew,
+        store,
+        &mut outlets.out,
+        &mut outlets.err,
+        &dataset,
+        &key,
+        &to_key,
+        row.method,
+    ))
 }
 
 // Reducing answers what the row says, and all else stays; the store that is left.
@@ -232,18 +238,9 @@ fn check<R: Threads + Wait + Abort + Sync>(
     row: &Row,
 ) -> Result<MemoryStore, Fail> {
     let mut store = store_of(alloc, OBJECTS, row.store)?;
-    let (status, out, err) = reduce(rt, alloc, &mut store, row)?;
-    assert_eq!(rt; status.number(), row.status);
-    assert!(rt;
-        out.written() == row.line.as_bytes(),
-        "out, where is told: {}",
-        row.told
-    );
-    assert!(rt;
-        err.written() == row.told.as_bytes(),
-        "not told: {}",
-        row.told
-    );
+    let mut outlets = outlets_of(alloc, row.out)?;
+    let status = reduce(rt, alloc, &mut store, &mut outlets, row)?;
+    check_answer(rt, status, &outlets, row.status, [row.line, row.told]);
     assert!(rt; has_all(&store, OBJECTS));
     Ok(store)
 }
@@ -285,24 +282,31 @@ fn refuses_reductions(rt: HostRuntime) -> Result<(), Fail> {
     check_refused(&rt, rt.alloc(), REFUSALS)
 }
 
+// The reduction while a call of the store fails.
+fn check_failing<R: Threads + Wait + Abort + Sync>(
+    rt: &R,
+    alloc: Global,
+    call: u64,
+) -> Result<(), Fail> {
+    let row = Row {
+        store: &[call],
+        status: 5,
+        told: "store fault\n",
+        ..REFUSED
+    };
+    check_refused(rt, alloc, &[row])
+}
+
+const NO_TENTH: &[Row] = &[Row {
+    store: &[9],
+    ..MOST
+}];
+
 // Each call of the store that fails is told, and no object stands; there are nine.
 #[test]
 fn tells_each_failing_call(rt: HostRuntime) -> Result<(), Fail> {
-    for failing in 0..9 {
-        let row = Row {
-            store: &[failing],
-            status: 5,
-            told: "store fault\n",
-            ..REFUSED
-        };
-        check_refused(&rt, rt.alloc(), &[row])?;
+    for call in 0..9 {
+        check_failing(&rt, rt.alloc(), call)?;
     }
-    check_made(
-        &rt,
-        rt.alloc(),
-        &[Row {
-            store: &[9],
-            ..MOST
-        }],
-    )
+    check_made(&rt, rt.alloc(), NO_TENTH)
 }

@@ -3,6 +3,8 @@
 #![tactic(auto)]
 
 #[cfg(test)]
+mod answers;
+#[cfg(test)]
 mod downsample_cmd_rows;
 #[cfg(test)]
 mod reshard_cmd_rows;

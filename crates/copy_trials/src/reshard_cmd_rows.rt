@@ -5,9 +5,10 @@ mod commands;
 mod failing;
 
 use command_base::Crew;
+use memory_rows::{name_of, store_of};
 use reshard_cmd::{ReshardFault, reshard};
 use shard_writer::Written;
-use small_scales::{raw_scale, short_name};
+use small_scales::raw_scale;
 use std::alloc::Global;
 use std::process::Abort;
 use std::sync::Wait;
@@ -16,10 +17,11 @@ use std::thread::Threads;
 use vol_base::{FreeGate, MemoryStore, Name};
 use vol_spec::{ChunkSizes, Encoding, HashKind, Scale, Sharding};
 
-// A row of so many voxels of four bytes, each in a cell of its own.
-fn row_scale(rt: &impl Abort, voxels: u64) -> Scale {
-    let key = short_name(b"s").expect(rt, "a key");
-    raw_scale(key, 4, 1, [voxels, 1, 1], [0; 3], [1; 3]).expect(rt, "a scale")
+// Two voxels of four bytes in a row, each in a cell of its own.
+fn row_scale() -> Result<Scale, Fail> {
+    let key = name_of("s")?;
+    let scale = raw_scale(key, 4, 1, [2, 1, 1], [0; 3], [1; 3]).ok_or("no scale")?;
+    Ok(scale)
 }
 
 // One shard of one minishard.
@@ -32,7 +34,7 @@ fn one_shard() -> Sharding {
     }
 }
 
-// Two such voxels as a segmentation, in shards.
+// The same as a segmentation, in shards.
 fn sharded_scale(key: Name, sharding: Sharding) -> Scale
     requires { length key ≤ 200 }
 {
@@ -49,13 +51,16 @@ fn sharded_scale(key: Name, sharding: Sharding) -> Scale
     }
 }
 
-const FIRST: (&[u8], &[u8]) = (b"d/s/0-1_0-1_0-1", &[7, 0, 0, 0]);
+const FIRST: (&str, &[u8]) = ("d/s/0-1_0-1_0-1", &[7, 0, 0, 0]);
 
 // The entry, the chunk of the first voxel, and the index.
-const SHARD: [u8; 56] = [
+const SHARD: &[u8] = &[
     16, 0, 0, 0, 0, 0, 0, 0, 40, 0, 0, 0, 0, 0, 0, 0, 1, 0, 0, 0, 2, 0, 0, 0, 2, 0, 0, 0, 7, 0, 0,
     0, 0, 0, 0, 0, 0, 0, 0, 0, 0, 0, 0, 0, 0, 0, 0, 0, 16, 0, 0, 0, 0, 0, 0, 0,
 ];
+
+// What a copy answers.
+type Copied = Result<Written, ReshardFault>;
 
 const WRITTEN: Written = Written {
     objects: 1,
@@ -63,83 +68,51 @@ const WRITTEN: Written = Written {
     bytes: 56,
 };
 
-// No call has this number.
-const NONE_FAILS: u64 = u64::MAX;
-
-fn store_of(
-    rt: &impl Abort,
-    alloc: Global,
-    objects: &[(&[u8], &[u8])],
-    failing: u64,
-) -> Result<MemoryStore, Fail> {
-    let mut store = MemoryStore::new(alloc, Vec::from_slice(alloc, &[failing])?);
-    for (text, bytes) in objects {
-        let name = short_name(text).expect(rt, "a name");
-        store.put(&name, bytes.to_vec(alloc)?)?;
-    }
-    Ok(store)
-}
-
-// Copying the scale of the data set `d` answers this, and leaves this shard in the data set `e`.
-fn check<R: Threads + Wait + Abort + Sync>(
+// What a copy from the data set `d` into the data set `e` answers.
+fn copy<R: Threads + Wait + Abort + Sync>(
     rt: &R,
     alloc: Global,
     store: &mut MemoryStore,
     from: &Scale,
-    dataset: &[u8],
     to: &Scale,
-    wanted: Result<Written, ReshardFault>,
-    shard: Option<&[u8]>,
-) -> Result<(), Fail> {
-    let source = short_name(b"d").expect(rt, "a data set");
-    let target = short_name(dataset).expect(rt, "a data set");
+) -> Result<Copied, Fail> {
+    let source = name_of("d")?;
+    let target = name_of("e")?;
     assert!(rt; to.can_encode() && to.more.len() == 0);
     let crew = Crew::of(rt, alloc, 2, &FreeGate);
-    let answer = reshard(&crew, store, &source, from, &target, to);
-    assert_eq!(rt; answer, wanted);
-    let name = short_name(b"e/s/0.shard").expect(rt, "a name");
+    Ok(reshard(&crew, store, &source, from, &target, to))
+}
+
+// A copy while calls of the store with some numbers fail answers this, and leaves this shard.
+fn check<R: Threads + Wait + Abort + Sync>(
+    rt: &R,
+    alloc: Global,
+    failing: &[u64],
+    wanted: Copied,
+    shard: Option<&[u8]>,
+) -> Result<(), Fail> {
+    let from = row_scale()?;
+    let to = sharded_scale(name_of("s")?, one_shard());
+    let mut store = store_of(alloc, &[FIRST], failing)?;
+    let copied = copy(rt, alloc, &mut store, &from, &to)?;
+    assert_eq!(rt; copied, wanted);
+    let name = name_of("e/s/0.shard")?;
     assert_eq!(rt; store.get(&name), shard);
     Ok(())
 }
 
 #[test]
 fn copies_into_a_shard(rt: HostRuntime) -> Result<(), Fail> {
-    let alloc = rt.alloc();
-    let to = sharded_scale(short_name(b"s").expect(&rt, "a key"), one_shard());
-    let mut store = store_of(&rt, alloc, &[FIRST], NONE_FAILS)?;
-    check(
-        &rt,
-        alloc,
-        &mut store,
-        &row_scale(&rt, 2),
-        b"e",
-        &to,
-        Ok(WRITTEN),
-        Some(&SHARD),
-    )
+    check(&rt, rt.alloc(), &[], Ok(WRITTEN), Some(SHARD))
 }
 
 // Each call that fails is told, and leaves no shard: the folder, two sizes and a read; and begin, the zeros, the chunk, three
 // columns, the entry, and finish. No other comes.
 #[test]
 fn leaves_none_at_each_failing_call(rt: HostRuntime) -> Result<(), Fail> {
-    let alloc = rt.alloc();
-    let from = row_scale(&rt, 2);
-    let to = sharded_scale(short_name(b"s").expect(&rt, "a key"), one_shard());
-    for failing in 0..12 {
-        let mut store = store_of(&rt, alloc, &[FIRST], failing)?;
-        let fault = ReshardFault::StoreFault;
-        check(&rt, alloc, &mut store, &from, b"e", &to, Err(fault), None)?;
+    let fault = ReshardFault::StoreFault;
+    for call in 0..12 {
+        check(&rt, rt.alloc(), &[call], Err(fault), None)?;
     }
-    let mut store = store_of(&rt, alloc, &[FIRST], 12)?;
-    check(
-        &rt,
-        alloc,
-        &mut store,
-        &from,
-        b"e",
-        &to,
-        Ok(WRITTEN),
-        Some(&SHARD),
-    )
+    check(&rt, rt.alloc(), &[12], Ok(WRITTEN), Some(SHARD))
 }

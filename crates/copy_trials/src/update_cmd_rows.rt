@@ -7,7 +7,7 @@ mod rows;
 mod shards;
 
 use command_base::{Crew, Status};
-use memory_rows::{has_all, name_of, outlet_of, store_of};
+use memory_rows::{has_all, name_of, outlet_of, put, store_of};
 use std::alloc::{AllocError, Global};
 use std::process::Abort;
 use std::sync::Wait;
@@ -77,16 +77,25 @@ const THREE: Row = Row {
     after: NEW_POINTS,
 };
 
-fn put_write(bytes: &mut Vec<u8>, write: &Write) -> Result<(), AllocError> {
-    let (begin, size, values) = *write;
-    for begin in begin {
-        bytes.extend_from_slice(&begin.to_le_bytes())?;
+fn put_begin(bytes: &mut Vec<u8>, begin: &[i64]) -> Result<(), AllocError> {
+    for axis in begin {
+        bytes.extend_from_slice(&axis.to_le_bytes())?;
     }
-    for size in size {
-        bytes.extend_from_slice(&size.to_le_bytes())?;
-    }
-    bytes.extend_from_slice(values)?;
     Ok(())
+}
+
+fn put_size(bytes: &mut Vec<u8>, size: &[u64]) -> Result<(), AllocError> {
+    for axis in size {
+        bytes.extend_from_slice(&axis.to_le_bytes())?;
+    }
+    Ok(())
+}
+
+fn put_write(bytes: &mut Vec<u8>, write: &Write) -> Result<(), AllocError> {
+    let (begin, size, values) = write;
+    put_begin(bytes, begin)?;
+    put_size(bytes, size)?;
+    bytes.extend_from_slice(values)
 }
 
 // The stream of a row.
@@ -128,6 +137,38 @@ fn call<R: Threads + Wait + Sync>(
     call_crew(&crew, store, feed, out, err)
 }
 
+// The status of an update is the row's, and so is the line that is printed or told.
+fn check_told(rt: &impl Abort, status: Status, out: &MemoryOutlet, err: &MemoryOutlet, row: &Row) {
+    assert_eq!(rt; status, row.status, "at {}", row.line);
+    let told = if status == Status::Ok { out } else { err };
+    assert!(rt; told.written() == row.line.as_bytes(), "at {}", row.line);
+}
+
+// The writes of a row into a store, by so many workers, while calls of the feed and the output fail.
+fn check_store<R: Threads + Wait + Abort + Sync>(
+    rt: &R,
+    alloc: Global,
+    store: &mut MemoryStore,
+    row: &Row,
+    workers: u32,
+    faults: &Faults,
+) -> Result<(), Fail> {
+    let piece = usize::from(faults.piece.max(1));
+    let mut feed = MemoryFeed::new(stream_of(alloc, row)?, piece, faults.feed.to_vec(alloc)?);
+    let mut out = outlet_of(alloc, piece, faults.out)?;
+    let mut err = outlet_of(alloc, piece, &[])?;
+    let status = call(rt, alloc, store, &mut feed, &mut out, &mut err, workers)?;
+    check_told(rt, status, &out, &err, row);
+    Ok(())
+}
+
+// The store of a row, of whose calls those with some numbers fail.
+fn row_store(alloc: Global, row: &Row, failing: &[u64]) -> Result<MemoryStore, Fail> {
+    let mut store = store_of(alloc, row.before, failing)?;
+    put(alloc, &mut store, "d/info", row.info.as_bytes())?;
+    Ok(store)
+}
+
 // A row, by so many workers, while calls fail.
 fn check<R: Threads + Wait + Abort + Sync>(
     rt: &R,
@@ -136,18 +177,8 @@ fn check<R: Threads + Wait + Abort + Sync>(
     workers: u32,
     faults: &Faults,
 ) -> Result<(), Fail> {
-    let piece = usize::from(faults.piece.max(1));
-    let mut store = store_of(alloc, row.before, faults.store)?;
-    memory_rows::put(alloc, &mut store, "d/info", row.info.as_bytes())?;
-    let mut feed = MemoryFeed::new(stream_of(alloc, row)?, piece, faults.feed.to_vec(alloc)?);
-    let mut out = outlet_of(alloc, piece, faults.out)?;
-    let mut err = outlet_of(alloc, piece, &[])?;
-    let status = call(
-        rt, alloc, &mut store, &mut feed, &mut out, &mut err, workers,
-    )?;
-    assert_eq!(rt; status, row.status, "at {}", row.line);
-    let told = if status == Status::Ok { &out } else { &err };
-    assert!(rt; told.written() == row.line.as_bytes(), "at {}", row.line);
+    let mut store = row_store(alloc, row, faults.store)?;
+    check_store(rt, alloc, &mut store, row, workers, faults)?;
     assert!(rt; has_all(&store, row.after), "at {}", row.line);
     Ok(())
 }

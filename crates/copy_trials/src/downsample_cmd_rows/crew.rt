@@ -1,9 +1,10 @@
 //! That a reduction has as many workers as it is told.
 
+use crate::answers::outlets_of;
 use command_base::{Crew, Status};
 use downsample_cmd::run_downsample;
 use holding_gate::HoldingGate;
-use memory_rows::{has_all, name_of, outlet_of, store_of};
+use memory_rows::{has_all, name_of, store_of};
 use reduce_laws::Method;
 use std::alloc::Global;
 use std::sync::Wait;
@@ -38,14 +39,13 @@ fn reduce_row<R: Threads + Wait + Sync>(
     let dataset = name_of("d")?;
     let key = name_of("s")?;
     let to_key = name_of("t")?;
-    let mut out = outlet_of(alloc, 7, &[])?;
-    let mut err = outlet_of(alloc, 7, &[])?;
+    let mut outlets = outlets_of(alloc, &[])?;
     let crew = Crew::of(rt, alloc, 2, gate);
     Ok(run_downsample(
         &crew,
         store,
-        &mut out,
-        &mut err,
+        &mut outlets.out,
+        &mut outlets.err,
         &dataset,
         &key,
         &to_key,

@@ -1,15 +1,16 @@
 //! The command over small stores. What each copy answers was worked out by hand.
 
 use super::SHARD;
+use crate::answers::{Outlets, check_answer, outlets_of};
 use command_base::{Crew, Status};
-use memory_rows::{has_all, has_none, name_of, outlet_of, store_of};
+use memory_rows::{has_all, has_none, name_of, store_of};
 use reshard_cmd::run_reshard;
 use std::alloc::Global;
 use std::process::Abort;
 use std::sync::Wait;
 use std::test::Fail;
 use std::thread::Threads;
-use vol_base::{FreeGate, MemoryOutlet, MemoryStore};
+use vol_base::{FreeGate, MemoryStore};
 
 // Two voxels, each a chunk.
 const SOURCE: &[u8] =
@@ -54,10 +55,11 @@ const OBJECTS: &[(&str, &[u8])] = &[
 ];
 
 // The only object that a copy puts: a shard with an entry, a chunk and an index of one row.
-const PUT: &[(&str, &[u8])] = &[("e/s/0.shard", &SHARD)];
+const PUT: &[(&str, &[u8])] = &[("e/s/0.shard", SHARD)];
 
 // A copy from a key of a data set into another; the numbers of the calls of the store and the output that fail; then the
 // status, and what is printed and told.
+#[derive(Clone, Copy)]
 struct Row<'a> {
     from: (&'a str, &'a str),
     to: (&'a str, &'a str),
@@ -82,12 +84,6 @@ const REFUSED: Row = Row {
     status: 3,
     line: "",
     ..MADE
-};
-
-const FAULT: Row = Row {
-    status: 5,
-    told: "store fault\n",
-    ..REFUSED
 };
 
 const WITHOUT_SCALE: &[Row] = &[
@@ -140,27 +136,12 @@ const REQUESTS: &[Row] = &[
     },
 ];
 
-// Calls of the store: 0 and 1 read the documents.
-const FAULTS: &[Row] = &[
-    Row {
-        from: ("k", "s"),
-        status: 4,
-        told: "damaged 1,0,0: chunk length 3 wanted 4\n",
-        ..REFUSED
-    },
-    Row {
-        store: &[0],
-        ..FAULT
-    },
-    Row {
-        store: &[1],
-        ..FAULT
-    },
-    Row {
-        store: &[2],
-        ..FAULT
-    },
-];
+const DAMAGED: &[Row] = &[Row {
+    from: ("k", "s"),
+    status: 4,
+    told: "damaged 1,0,0: chunk length 3 wanted 4\n",
+    ..REFUSED
+}];
 
 const STORED: &[Row] = &[
     MADE,
@@ -177,52 +158,41 @@ const STORED: &[Row] = &[
     },
 ];
 
-// The status of a copy, with what is printed and told.
+// The status of a copy by two workers.
 fn copy<R: Threads + Wait + Sync>(
     rt: &R,
     alloc: Global,
     store: &mut MemoryStore,
+    outlets: &mut Outlets,
     row: &Row,
-) -> Result<(Status, MemoryOutlet, MemoryOutlet), Fail> {
+) -> Result<Status, Fail> {
     let dataset = name_of(row.from.0)?;
     let key = name_of(row.from.1)?;
     let to_dataset = name_of(row.to.0)?;
     let to_key = name_of(row.to.1)?;
-    let mut out = outlet_of(alloc, 7, row.out)?;
-    let mut err = outlet_of(alloc, 7, &[])?;
     let crew = Crew::of(rt, alloc, 2, &FreeGate);
-    let status = run_reshard(
+    Ok(run_reshard(
         &crew,
         store,
-        &mut out,
-        &mut err,
+        &mut outlets.out,
+        &mut outlets.err,
         &dataset,
         &key,
         &to_dataset,
         &to_key,
-    );
-    Ok((status, out, err))
+    ))
 }
 
-// Copying answers what the row says; the store that the copy leaves.
+// Copying answers what the row says, and all else stays; the store that the copy leaves.
 fn check<R: Threads + Wait + Abort + Sync>(
     rt: &R,
     alloc: Global,
     row: &Row,
 ) -> Result<MemoryStore, Fail> {
     let mut store = store_of(alloc, OBJECTS, row.store)?;
-    let (status, out, err) = copy(rt, alloc, &mut store, row)?;
-    assert_eq!(rt; status.number(), row.status);
-    assert!(rt;
-        out.written() == row.line.as_bytes(),
-        "out, where is told: {}",
-        row.told
-    );
-    assert!(rt;
-        err.written() == row.told.as_bytes(),
-        "not told: {}",
-        row.told
-    );
+    let mut outlets = outlets_of(alloc, row.out)?;
+    let status = copy(rt, alloc, &mut store, &mut outlets, row)?;
+    check_answer(rt, status, &outlets, row.status, [row.line, row.told]);
     assert!(rt; has_all(&store, OBJECTS));
     Ok(store)
 }
@@ -265,10 +235,39 @@ fn check_stored<R: Threads + Wait + Abort + Sync>(
 fn refuses_copies(rt: HostRuntime) -> Result<(), Fail> {
     check_refused(&rt, rt.alloc(), WITHOUT_SCALE)?;
     check_refused(&rt, rt.alloc(), REQUESTS)?;
-    check_refused(&rt, rt.alloc(), FAULTS)
+    check_refused(&rt, rt.alloc(), DAMAGED)
 }
 
 #[test]
 fn copies_scales(rt: HostRuntime) -> Result<(), Fail> {
     check_stored(&rt, rt.alloc(), STORED)
+}
+
+// A copy while a call of the store fails.
+fn check_failing<R: Threads + Wait + Abort + Sync>(
+    rt: &R,
+    alloc: Global,
+    call: u64,
+) -> Result<(), Fail> {
+    let row = Row {
+        store: &[call],
+        status: 5,
+        told: "store fault\n",
+        ..REFUSED
+    };
+    check_refused(rt, alloc, &[row])
+}
+
+const NO_FIFTEENTH: &[Row] = &[Row {
+    store: &[14],
+    ..MADE
+}];
+
+// Each call of the store that fails is told, and leaves no shard: the two documents, and those of the copy. No other comes.
+#[test]
+fn tells_each_failing_call(rt: HostRuntime) -> Result<(), Fail> {
+    for call in 0..14 {
+        check_failing(&rt, rt.alloc(), call)?;
+    }
+    check_stored(&rt, rt.alloc(), NO_FIFTEENTH)
 }

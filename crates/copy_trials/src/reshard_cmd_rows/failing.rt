@@ -1,7 +1,8 @@
 //! A copy into two shards, of which one call of the store fails, each in turn.
 
+use crate::answers::outlets_of;
 use command_base::{Crew, Status};
-use memory_rows::{has_all, has_none, name_of, outlet_of, store_of};
+use memory_rows::{has_all, has_none, name_of, store_of};
 use reshard_cmd::run_reshard;
 use std::alloc::Global;
 use std::process::Abort;
@@ -25,7 +26,7 @@ const OBJECTS: &[(&str, &[u8])] = &[
 ];
 
 // Each has an entry, a chunk and an index of one row.
-const SHARDS: [(&str, &[u8]); 2] = [
+const SHARDS: &[(&str, &[u8])] = &[
     (
         "e/s/0.shard",
         &[
@@ -42,7 +43,7 @@ const SHARDS: [(&str, &[u8]); 2] = [
     ),
 ];
 
-// A copy while a call of the store fails: its status.
+// A copy by so many workers.
 fn copy<R: Threads + Wait + Sync>(
     rt: &R,
     alloc: Global,
@@ -52,14 +53,13 @@ fn copy<R: Threads + Wait + Sync>(
     let dataset = name_of("d")?;
     let key = name_of("s")?;
     let to_dataset = name_of("e")?;
-    let mut out = outlet_of(alloc, 7, &[])?;
-    let mut err = outlet_of(alloc, 7, &[])?;
+    let mut outlets = outlets_of(alloc, &[])?;
     let crew = Crew::of(rt, alloc, workers, &FreeGate);
     Ok(run_reshard(
         &crew,
         store,
-        &mut out,
-        &mut err,
+        &mut outlets.out,
+        &mut outlets.err,
         &dataset,
         &key,
         &to_dataset,
@@ -67,7 +67,14 @@ fn copy<R: Threads + Wait + Sync>(
     ))
 }
 
-// So many of the shards stand afterwards, and all that stood before.
+// So many of the shards stand behind a failing call, and all that stood before.
+fn check_shards(rt: &impl Abort, store: &MemoryStore, count: usize, call: u64) {
+    let (there, absent) = SHARDS.split_at(count.min(SHARDS.len()));
+    let is_front = has_all(store, there) && has_none(store, absent);
+    assert!(rt; is_front && has_all(store, OBJECTS), "call {call}");
+}
+
+// A copy while a call of the store fails.
 fn check<R: Threads + Wait + Abort + Sync>(
     rt: &R,
     alloc: Global,
@@ -79,12 +86,22 @@ fn check<R: Threads + Wait + Abort + Sync>(
     let mut store = store_of(alloc, OBJECTS, &[call])?;
     let found = copy(rt, alloc, &mut store, workers)?;
     assert_eq!(rt; found.number(), status, "call {call}");
-    let (there, absent) = SHARDS.split_at(count.min(2));
-    assert!(rt;
-        has_all(&store, there) && has_none(&store, absent),
-        "call {call}"
-    );
-    assert!(rt; has_all(&store, OBJECTS), "call {call}");
+    check_shards(rt, &store, count, call);
+    Ok(())
+}
+
+// Each of some calls fails in turn.
+fn check_calls<R: Threads + Wait + Abort + Sync>(
+    rt: &R,
+    alloc: Global,
+    workers: u32,
+    first: u64,
+    end: u64,
+    count: usize,
+) -> Result<(), Fail> {
+    for call in first..end {
+        check(rt, alloc, workers, call, 5, count)?;
+    }
     Ok(())
 }
 
@@ -95,12 +112,8 @@ fn check_each<R: Threads + Wait + Abort + Sync>(
     alloc: Global,
     workers: u32,
 ) -> Result<(), Fail> {
-    for call in 0..15 {
-        check(rt, alloc, workers, call, 5, 0)?;
-    }
-    for call in 15..23 {
-        check(rt, alloc, workers, call, 5, 1)?;
-    }
+    check_calls(rt, alloc, workers, 0, 15, 0)?;
+    check_calls(rt, alloc, workers, 15, 23, 1)?;
     check(rt, alloc, workers, 23, 0, 2)
 }
 
@@ -108,4 +121,16 @@ fn check_each<R: Threads + Wait + Abort + Sync>(
 fn leaves_the_first_shards(rt: HostRuntime) -> Result<(), Fail> {
     check_each(&rt, rt.alloc(), 1)?;
     check_each(&rt, rt.alloc(), 2)
+}
+
+// The fronts of two documents, and of each chunk of the source its bytes and one more.
+#[test]
+fn asks_for_each_chunk_once(rt: HostRuntime) -> Result<(), Fail> {
+    let alloc = rt.alloc();
+    let mut store = store_of(alloc, OBJECTS, &[])?;
+    let found = copy(&rt, alloc, &mut store, 1)?;
+    assert_eq!(rt; found.number(), 0);
+    assert!(rt; has_all(&store, SHARDS));
+    assert_eq!(rt; store.asked(), 2 * 65_536 + 2 * 5);
+    Ok(())
 }

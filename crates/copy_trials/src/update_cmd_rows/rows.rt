@@ -1,11 +1,10 @@
 //! Scales without shards, and what is refused.
 
-use super::{Object, POINTS, Row, THREE, call, check_rows, put_write};
+use super::{NO_FAULTS, Object, POINTS, Row, THREE, check, check_rows};
 use command_base::Status;
-use memory_rows::{outlet_of, put, raw_info, store_of};
+use memory_rows::raw_info;
 use std::alloc::{AllocError, Global};
 use std::test::Fail;
-use vol_base::MemoryFeed;
 
 // A square of four voxels in one chunk.
 const PLANE: &str =
@@ -193,15 +192,8 @@ fn refuses_updates(rt: HostRuntime) -> Result<(), Fail> {
     check_rows(&rt, alloc, DAMAGED, 16, 255)
 }
 
-// The stream of a write of so many voxels from the begin on, twice.
-fn twice(alloc: Global, count: usize) -> Result<Vec<u8>, AllocError> {
-    let values = vec![in alloc; 1; count]?;
-    let mut bytes = Vec::from_slice(alloc, b"PVW1\x02\0\0\0")?;
-    for _ in 0..2 {
-        let write = ([0, 0, 0], [count as u64, 1, 1], values.as_slice());
-        put_write(&mut bytes, &write)?;
-    }
-    Ok(bytes)
+fn ones(alloc: Global, count: usize) -> Result<Vec<u8>, AllocError> {
+    vec![in alloc; 1; count]
 }
 
 // More pairs of a write and a chunk than are taken.
@@ -209,13 +201,16 @@ fn twice(alloc: Global, count: usize) -> Result<Vec<u8>, AllocError> {
 fn refuses_too_many_pairs(rt: HostRuntime) -> Result<(), Fail> {
     let alloc = rt.alloc();
     let info = raw_info(alloc, "[2097153,1,1]", "[1,1,1]")?;
-    let mut store = store_of(alloc, &[], &[])?;
-    put(alloc, &mut store, "d/info", info.as_bytes())?;
-    let mut feed = MemoryFeed::new(twice(alloc, 2_097_153)?, 255, Vec::new(alloc));
-    let mut out = outlet_of(alloc, 255, &[])?;
-    let mut err = outlet_of(alloc, 255, &[])?;
-    let status = call(&rt, alloc, &mut store, &mut feed, &mut out, &mut err, 1)?;
-    assert_eq!(&rt; status, Status::RequestRefused);
-    assert!(&rt; err.written() == b"too many cells 4194306\n".as_slice());
-    Ok(())
+    let values = ones(alloc, 2_097_153)?;
+    let write = ([0, 0, 0], [2_097_153, 1, 1], values.as_slice());
+    let row = Row {
+        info: &info,
+        before: &[],
+        writes: &[write, write],
+        behind: &[],
+        status: Status::RequestRefused,
+        line: "too many cells 4194306\n",
+        after: &[],
+    };
+    check(&rt, alloc, &row, 1, &NO_FAULTS)
 }

@@ -10,49 +10,51 @@ const PAIR: &str =
 
 // The shard with the values 10 and 11; with an entry that isn't sound; with a row of another place, and with one that no cell has;
 // and with one of its values changed.
-const SHARD: [u8; 82] = [
+const SHARD: &[u8] = &[
     1, 0, 0, 0, 0, 0, 0, 0, 25, 0, 0, 0, 0, 0, 0, 0, 26, 0, 0, 0, 0, 0, 0, 0, 50, 0, 0, 0, 0, 0, 0,
     0, 10, 0, 0, 0, 0, 0, 0, 0, 0, 0, 0, 0, 0, 0, 0, 0, 0, 1, 0, 0, 0, 0, 0, 0, 0, 11, 1, 0, 0, 0,
     0, 0, 0, 0, 25, 0, 0, 0, 0, 0, 0, 0, 1, 0, 0, 0, 0, 0, 0, 0,
 ];
 
-const BAD_ENTRY: [u8; 82] = [
+const BAD_ENTRY: &[u8] = &[
     2, 0, 0, 0, 0, 0, 0, 0, 25, 0, 0, 0, 0, 0, 0, 0, 26, 0, 0, 0, 0, 0, 0, 0, 50, 0, 0, 0, 0, 0, 0,
     0, 10, 0, 0, 0, 0, 0, 0, 0, 0, 0, 0, 0, 0, 0, 0, 0, 0, 1, 0, 0, 0, 0, 0, 0, 0, 11, 1, 0, 0, 0,
     0, 0, 0, 0, 25, 0, 0, 0, 0, 0, 0, 0, 1, 0, 0, 0, 0, 0, 0, 0,
 ];
 
-const MISPLACED: [u8; 82] = [
+const MISPLACED: &[u8] = &[
     1, 0, 0, 0, 0, 0, 0, 0, 25, 0, 0, 0, 0, 0, 0, 0, 26, 0, 0, 0, 0, 0, 0, 0, 50, 0, 0, 0, 0, 0, 0,
     0, 10, 1, 0, 0, 0, 0, 0, 0, 0, 0, 0, 0, 0, 0, 0, 0, 0, 1, 0, 0, 0, 0, 0, 0, 0, 11, 1, 0, 0, 0,
     0, 0, 0, 0, 25, 0, 0, 0, 0, 0, 0, 0, 1, 0, 0, 0, 0, 0, 0, 0,
 ];
 
-const BEYOND: [u8; 107] = [
+const BEYOND: &[u8] = &[
     2, 0, 0, 0, 0, 0, 0, 0, 50, 0, 0, 0, 0, 0, 0, 0, 51, 0, 0, 0, 0, 0, 0, 0, 75, 0, 0, 0, 0, 0, 0,
     0, 10, 13, 0, 0, 0, 0, 0, 0, 0, 0, 2, 0, 0, 0, 0, 0, 0, 0, 0, 0, 0, 0, 0, 0, 0, 0, 0, 0, 0, 0,
     0, 0, 0, 0, 1, 0, 0, 0, 0, 0, 0, 0, 1, 0, 0, 0, 0, 0, 0, 0, 11, 1, 0, 0, 0, 0, 0, 0, 0, 50, 0,
     0, 0, 0, 0, 0, 0, 1, 0, 0, 0, 0, 0, 0, 0,
 ];
 
-const SECOND_PUT: [u8; 82] = [
+const SECOND_PUT: &[u8] = &[
     1, 0, 0, 0, 0, 0, 0, 0, 25, 0, 0, 0, 0, 0, 0, 0, 26, 0, 0, 0, 0, 0, 0, 0, 50, 0, 0, 0, 0, 0, 0,
     0, 10, 0, 0, 0, 0, 0, 0, 0, 0, 0, 0, 0, 0, 0, 0, 0, 0, 1, 0, 0, 0, 0, 0, 0, 0, 12, 1, 0, 0, 0,
     0, 0, 0, 0, 25, 0, 0, 0, 0, 0, 0, 0, 1, 0, 0, 0, 0, 0, 0, 0,
 ];
 
-const FIRST_PUT: [u8; 82] = [
+const FIRST_PUT: &[u8] = &[
     1, 0, 0, 0, 0, 0, 0, 0, 25, 0, 0, 0, 0, 0, 0, 0, 26, 0, 0, 0, 0, 0, 0, 0, 50, 0, 0, 0, 0, 0, 0,
     0, 13, 0, 0, 0, 0, 0, 0, 0, 0, 0, 0, 0, 0, 0, 0, 0, 0, 1, 0, 0, 0, 0, 0, 0, 0, 11, 1, 0, 0, 0,
     0, 0, 0, 0, 25, 0, 0, 0, 0, 0, 0, 0, 1, 0, 0, 0, 0, 0, 0, 0,
 ];
 
+pub(super) const OLD_PAIR: &[Object] = &[("d/s/0.shard", SHARD)];
+
 pub(super) const SECOND: Row = Row {
     info: PAIR,
-    before: &[("d/s/0.shard", &SHARD)],
+    before: OLD_PAIR,
     writes: &[([1, 0, 0], [1, 1, 1], &[12])],
     line: "objects 1 cells 2\n",
-    after: &[("d/s/0.shard", &SECOND_PUT)],
+    after: &[("d/s/0.shard", SECOND_PUT)],
     ..THREE
 };
 
@@ -61,20 +63,20 @@ pub(super) const SECOND: Row = Row {
 const ONE_SHARD: &[Row] = &[
     SECOND,
     Row {
-        before: &[("d/s/0.shard", &MISPLACED)],
+        before: &[("d/s/0.shard", MISPLACED)],
         writes: &[([0, 0, 0], [1, 1, 1], &[13])],
-        after: &[("d/s/0.shard", &FIRST_PUT)],
+        after: &[("d/s/0.shard", FIRST_PUT)],
         ..SECOND
     },
     Row {
-        before: &[("d/s/0.shard", &BEYOND)],
+        before: &[("d/s/0.shard", BEYOND)],
         ..SECOND
     },
     Row {
-        before: &[("d/s/0.shard", &BAD_ENTRY)],
+        before: &[("d/s/0.shard", BAD_ENTRY)],
         status: Status::Damaged,
         line: "shard 0 0: shard bad length 23\n",
-        after: &[("d/s/0.shard", &BAD_ENTRY)],
+        after: &[("d/s/0.shard", BAD_ENTRY)],
         ..SECOND
     },
 ];
@@ -84,25 +86,25 @@ const FOUR: &str =
     "{\"type\":\"image\",\"data_type\":\"uint8\",\"num_channels\":1,\"scales\":[{\"key\":\"s\",\"size\":[4,1,1],\"chunk_sizes\":[[1,1,1]],\"resolution\":[8,8,40],\"encoding\":\"raw\",\"sharding\":{\"@type\":\"neuroglancer_uint64_sharded_v1\",\"preshift_bits\":0,\"hash\":\"identity\",\"minishard_bits\":0,\"shard_bits\":1}}]}";
 
 // The first shard with the values 5 and 6, and with 9 for 5.
-const EVEN: [u8; 66] = [
+const EVEN: &[u8] = &[
     2, 0, 0, 0, 0, 0, 0, 0, 50, 0, 0, 0, 0, 0, 0, 0, 5, 6, 0, 0, 0, 0, 0, 0, 0, 0, 2, 0, 0, 0, 0,
     0, 0, 0, 0, 0, 0, 0, 0, 0, 0, 0, 0, 0, 0, 0, 0, 0, 0, 0, 1, 0, 0, 0, 0, 0, 0, 0, 1, 0, 0, 0, 0,
     0, 0, 0,
 ];
 
-const EVEN_PUT: [u8; 66] = [
+const EVEN_PUT: &[u8] = &[
     2, 0, 0, 0, 0, 0, 0, 0, 50, 0, 0, 0, 0, 0, 0, 0, 9, 6, 0, 0, 0, 0, 0, 0, 0, 0, 2, 0, 0, 0, 0,
     0, 0, 0, 0, 0, 0, 0, 0, 0, 0, 0, 0, 0, 0, 0, 0, 0, 0, 0, 1, 0, 0, 0, 0, 0, 0, 0, 1, 0, 0, 0, 0,
     0, 0, 0,
 ];
 
-const OLD_SHARDS: &[Object] = &[("d/s/0.shard", &EVEN), ("d/s/1.shard", &[1, 2])];
+const OLD_SHARDS: &[Object] = &[("d/s/0.shard", EVEN), ("d/s/1.shard", &[1, 2])];
 
 const FIRST: Row = Row {
     info: FOUR,
     before: OLD_SHARDS,
     writes: &[([0, 0, 0], [1, 1, 1], &[9])],
-    after: &[("d/s/0.shard", &EVEN_PUT), ("d/s/1.shard", &[1, 2])],
+    after: &[("d/s/0.shard", EVEN_PUT), ("d/s/1.shard", &[1, 2])],
     ..SECOND
 };
 
@@ -133,12 +135,12 @@ const LABELS: &str =
     "{\"type\":\"segmentation\",\"data_type\":\"uint32\",\"num_channels\":1,\"scales\":[{\"key\":\"s\",\"size\":[2,1,1],\"chunk_sizes\":[[1,1,1]],\"resolution\":[8,8,40],\"encoding\":\"compressed_segmentation\",\"compressed_segmentation_block_size\":[1,1,1],\"sharding\":{\"@type\":\"neuroglancer_uint64_sharded_v1\",\"preshift_bits\":0,\"hash\":\"identity\",\"minishard_bits\":0,\"shard_bits\":0}}]}";
 
 // The label 7 with a word that nothing needs; and the same in this program's spelling, beside the label 8.
-const FOREIGN: [u8; 60] = [
+const FOREIGN: &[u8] = &[
     20, 0, 0, 0, 0, 0, 0, 0, 44, 0, 0, 0, 0, 0, 0, 0, 1, 0, 0, 0, 3, 0, 0, 0, 2, 0, 0, 0, 0, 0, 0,
     0, 7, 0, 0, 0, 0, 0, 0, 0, 0, 0, 0, 0, 0, 0, 0, 0, 0, 0, 0, 0, 20, 0, 0, 0, 0, 0, 0, 0,
 ];
 
-const SPELLED: [u8; 96] = [
+const SPELLED: &[u8] = &[
     32, 0, 0, 0, 0, 0, 0, 0, 80, 0, 0, 0, 0, 0, 0, 0, 1, 0, 0, 0, 2, 0, 0, 0, 2, 0, 0, 0, 7, 0, 0,
     0, 1, 0, 0, 0, 2, 0, 0, 0, 2, 0, 0, 0, 8, 0, 0, 0, 0, 0, 0, 0, 0, 0, 0, 0, 1, 0, 0, 0, 0, 0, 0,
     0, 0, 0, 0, 0, 0, 0, 0, 0, 0, 0, 0, 0, 0, 0, 0, 0, 16, 0, 0, 0, 0, 0, 0, 0, 16, 0, 0, 0, 0, 0,
@@ -147,9 +149,9 @@ const SPELLED: [u8; 96] = [
 
 const RESPELLED: &[Row] = &[Row {
     info: LABELS,
-    before: &[("d/s/0.shard", &FOREIGN)],
+    before: &[("d/s/0.shard", FOREIGN)],
     writes: &[([1, 0, 0], [1, 1, 1], &[8, 0, 0, 0])],
-    after: &[("d/s/0.shard", &SPELLED)],
+    after: &[("d/s/0.shard", SPELLED)],
     ..SECOND
 }];
 
