@@ -91,7 +91,7 @@ import statistics, sys
 kind, length = sys.argv[1], int(sys.argv[2])
 rates = list(zip(*(map(float, line.split()) for line in open("rates"))))
 for name, own in zip(("ours", "plain", "nginx"), rates):
-    print(f"{kind:7} {name:6} best {max(own):6.0f}, median {statistics.median(own):6.0f} requests/s  {max(own) * length / 2**20:5.0f} MiB/s")
+    any(own) and print(f"{kind:7} {name:6} best {max(own):6.0f}, median {statistics.median(own):6.0f} requests/s  {max(own) * length / 2**20:5.0f} MiB/s")
 for name, of in (("best", max), ("median", statistics.median)):
     ours, plain, other = map(of, rates)
     beside = f", {ours / other:.2f} to nginx" if other else ""
