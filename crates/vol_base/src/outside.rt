@@ -74,8 +74,8 @@ pub trait Source {
     ghost counts: { (s : Self) → IsCount (asked s) × IsCount (faults s) };
 }
 
-/// A source that objects can be put into, one being written at a time. Workers may be lent it, one after the other.
-pub trait Store: Source + Send {
+/// A source that objects can be put into, one being written at a time.
+pub trait Store: Source {
     /// Whether some object's name begins with the folder and `/`.
     fn any_under(&mut self, folder: &Name) -> Result<bool, Failed>
         ensures found { IfOk result (λ found. IfSome (Self.objects self.old) (λ m.

@@ -476,7 +476,7 @@ impl<R: Files<File = File>> Source for DirStore<R> {
     }
 }
 
-impl<R: Files<File = File> + AllocGlobal + Clone + Drop + Send> Store for DirStore<R> {
+impl<R: Files<File = File> + AllocGlobal + Clone + Drop> Store for DirStore<R> {
     ghost use Rattle.vol_shell.specs.Tallies.{tells_length};
 
     ghost tells = { λ s. tells_length s.writing };
