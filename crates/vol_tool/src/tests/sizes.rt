@@ -256,10 +256,10 @@ fn byte_at(place: u64) -> u8 {
     place.to_le_bytes()[0].wrapping_mul(37).wrapping_add(1)
 }
 
-fn push_write(
+/// The box of a write, as a stream has it.
+pub(super) fn push_box(
     bytes: &mut Vec<u8>,
     write: &([i64; 3], [u64; 3]),
-    value_len: u64,
 ) -> Result<(), AllocError> {
     let (begin, size) = *write;
     for at in begin {
@@ -268,6 +268,16 @@ fn push_write(
     for len in size {
         bytes.extend_from_slice(&len.to_le_bytes())?;
     }
+    Ok(())
+}
+
+fn push_write(
+    bytes: &mut Vec<u8>,
+    write: &([i64; 3], [u64; 3]),
+    value_len: u64,
+) -> Result<(), AllocError> {
+    push_box(bytes, write)?;
+    let size = write.1;
     let voxels = size[0].wrapping_mul(size[1]).wrapping_mul(size[2]);
     for place in 0..voxels.wrapping_mul(value_len) {
         bytes.push(byte_at(place))?;
