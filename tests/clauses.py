@@ -3,22 +3,13 @@
 
     tests/clauses.py
 
-It reads README.md, docs/, tests/ and crates/, and runs nothing. Checked are
-
-- in docs/layers.md: it has each crate once, and the clauses and the edits that it names are those of the crate;
-- in each table whose head names its call: what stands as `name`: in the row of a call is a clause of the call;
-- on each page: what stands as a clause or a law, alone or `of` a call, and each column of clauses;
-- in docs/theorem.md: each part is a clause of `run`, and each clause has a part; what is said to stand in a module is defined there;
-- on the pages about the code: each name between backquotes is a word of the crates, a crate or a script;
-- on each page: a link to a file, or to a part of a page, leads to one that is there.
-
-The last line is 'N passed, N failed', and the status is 1 where a name failed.
+It reads README.md, docs/, tests/ and crates/, and runs nothing.
 """
 import collections
 import functools
 import re
 
-from harness import CRATES, ROOT, cells_of, is_defined, main_of_pages
+from harness import CRATES, ROOT, cells_of, is_defined, main_of_pages, module_of
 
 BLOCK = re.compile(r"^(?:impl(?:<.*?>)? (?:(\w+)(?:<.*>)? for )?(\w+)|(?:pub(?:\(\w+\))? )?(?:trait|struct|enum|const) (\w+))")
 FUNCTION = re.compile(r"^\s*(?:pub(?:\(\w+\))? )?(?:const )?fn (\w+)")
@@ -65,7 +56,7 @@ class Code:
     def of(self, call, crates=None):
         """The clauses of a call in some of the crates, or None where there is no such call."""
         name = call.split("::")[-1]
-        found = [self.clauses[crate][name] for crate in crates or list(self.clauses) if name in self.clauses[crate]]
+        found = [self.clauses[crate][name] for crate in crates or self.clauses if name in self.clauses[crate]]
         return set().union(*found) if found else None
 
     def lacking(self, names, calls, known=None):
@@ -76,11 +67,6 @@ class Code:
 
 def names_in(text):
     return re.findall(r"`([\w:]+)`", text)
-
-
-def wrong_in_name(code, call, cells):
-    """A first cell that is no clause of a call."""
-    return code.lacking(names_in(cells[0]), [call])
 
 
 def wrong_in_row(code, place, cells):
@@ -94,7 +80,7 @@ def wrong_in_row(code, place, cells):
 
 
 def judge_layers(code):
-    """The list of crates: behind their names, in bold, what they promise, the clauses of their calls, and edits."""
+    """The list of crates, each once: behind their names, in bold, what they promise, the clauses of their calls, and edits."""
     listed = []
     for part in re.findall(r"^- (.*?)(?=^- |^$|\Z)", (ROOT / "docs/layers.md").read_text(), re.M | re.S):
         part = " ".join(part.split())
@@ -131,7 +117,7 @@ def judge_tables(code, page, lines):
     for line in lines:
         cells = cells_of(line)
         if head := re.match(r"\| Clauses? of `([\w:]+)`", line):
-            judge = functools.partial(wrong_in_name, code, head[1])
+            judge = functools.partial(lambda call, cells: code.lacking(names_in(cells[0]), [call]), head[1])
         elif re.match(r"\| (Crate \| )?Call \| (Clauses|Says)", line):
             judge = functools.partial(wrong_in_row, code, int(line.startswith("| Crate")))
         elif line.startswith("| ") and line.rstrip().endswith("| Clauses |"):
@@ -149,9 +135,8 @@ def judge_theorem(code):
     for name in sorted({*parts, *clauses}):
         yield f"docs/theorem.md: {name}", [] if name in parts and name in clauses else [f"{name} is a clause, or a part, alone"]
     for names, crate, module in re.findall(rf"({NAMES}) in\s+(\w+)'s\s+`specs/(\w+)\.antt`", text):
-        path = CRATES / crate / "specs" / f"{module}.antt"
         for name in names_in(names):
-            is_there = path.exists() and is_defined(name, path.read_text())
+            is_there = is_defined(name, [module_of(crate, module)])
             yield f"docs/theorem.md: {name}", [] if is_there else [f"{name} isn't defined in {module}"]
 
 
@@ -173,7 +158,6 @@ def words_of_code():
 
 
 def judge_names():
-    """The names between backquotes on the pages about the code."""
     known = words_of_code() | NOT_OURS
     for name in ("theorem", "trusted", "layers", "map", "round", "DECISIONS", "serving"):
         text = (ROOT / f"docs/{name}.md").read_text()
@@ -182,19 +166,14 @@ def judge_names():
 
 
 def judge_links(page, path, text):
-    """The links of a page that lead to a file, or to a part of a page."""
-    for link in re.findall(r"\]\(([^)\s]+)\)", re.sub(r"^```.*?^```$", "", text, flags=re.M | re.S)):
-        if re.match(r"\w+:", link):
-            continue
+    for link in re.findall(r"\]\((?!\w+:)([^)\s]+)\)", re.sub(r"^```.*?^```$", "", text, flags=re.M | re.S)):
         name, _, part = link.partition("#")
         target = path.parent / name if name else path
-        wrong = []
-        if not target.exists():
-            wrong.append(f"there is no {name}")
-        elif part:
+        wrong = [] if target.exists() else [f"there is no {name}"]
+        if part and not wrong:
             headings = re.findall(r"^#+ (.*)$", target.read_text(), re.M)
             parts = [re.sub(r"[^\w\- ]", "", heading.lower()).replace(" ", "-") for heading in headings]
-            wrong += [] if part in parts else [f"{target.name} has no part {part}"]
+            wrong = [] if part in parts else [f"{target.name} has no part {part}"]
         yield f"{page}: {link}", wrong
 
 

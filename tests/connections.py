@@ -19,7 +19,7 @@ import threading
 import time
 
 from browser import Browser, fetch_parts, find_browser
-from harness import HALL_PROGRAM, LIMIT, answers, main, methods_of, open_closed_pipe, open_full, want, want_true, within
+from harness import HALL_PROGRAM, LIMIT, NO_OUTPUTS, answers, main, methods_of, want, want_true, within
 from model import refused
 from model.replies import BAD, SILENCE, ask, closing, part_of, whole_of
 from model.requests import cut_at_random, pick_stream
@@ -217,10 +217,6 @@ def serves_so_many(trial, connections, workers):
             want(peer.recv(1), b"", "to one peer more")
 
 
-def refuses_outputs(trial, output):
-    trial.want_unchanged(words_of(1, 2), refused("output fault"), output=output)
-
-
 # Command lines that are none.
 
 ALL = words_of(1, 2).split()
@@ -258,8 +254,8 @@ def rows(count):
         yield f"peers that go on sending, {workers} workers", keeps_the_last_reply, workers
     for connections, workers in ((1, 1), (1, 16), (3, 2), (20, 4)):
         yield f"{connections} connections, {workers} workers", serves_so_many, connections, workers
-    for title, output in (("a full device", open_full), ("a closed pipe", open_closed_pipe)):
-        yield f"the line to {title}", refuses_outputs, output
+    for title, output in NO_OUTPUTS:
+        yield f"the line to {title}", answers, {}, words_of(1, 2), refused("output fault"), b"", output
     for command in NO_COMMANDS:
         yield f"no command: {command!r:.120}", answers, {"d/s/x": OBJECT}, command, refused("usage")
 

@@ -4,29 +4,27 @@
     tests/copies.py [PROGRAM [COUNT]]
 
 What is due is stated here, and worked out by a plain model (model/copies.py). COUNT is the number of random pairs of scales of each
-form. A copy has the files of the model and those of a write of the same voxels, byte by byte; both scales are sound and read alike;
-the source's files stay.
+form.
 """
 import dataclasses
 import itertools
 import random
 
-from harness import PIPE, answers, main
+from harness import PIPE, answers, leaves, main
 from model import SEGMENTED, Sharding, Volume, box_in, info_of, infos_of, line, refused, stored
 from model.chance import pick_layouts
 from model.segments import bytes_of
-from model.small import FIRST, INFO_PATH, NO_CHUNKS, changed, padded, padded_info, shards, with_info
+from model.small import INFO_PATH, NO_CHUNKS, changed, padded, padded_info, shards, with_info
 from making import (
-    FIXED, HASHED, IN_ONE_SHARD, PAIRS, SEVEN, SEVEN_VALUES, makes_around, makes_between, makes_fixed, outcomes, rows_at_random,
-    tells_damage,
+    CELLS, EIGHT, EMPTY, FIXED, HASHED, IN_BLOCKS, IN_ONE_SHARD, NO_FIRST, PADDED, PAIRS, PLANE, SEVEN, SEVEN_VALUES, TWO_SHARDS,
+    makes_around, makes_between, makes_fixed, outcomes, rows_at_random, tells_damage,
 )
-from runs import WORKERS, is_killed_often, leaves, made_run, rows_of_stops
+from runs import WORKERS, is_killed_often, made_run, rows_of_stops
 
 FROM, INTO = ("d", "s"), ("e", "t")
 
 
 def at(volume, dataset, key):
-    """A volume as a scale of a data set."""
     return dataclasses.replace(volume, dataset=dataset, key=key)
 
 
@@ -68,13 +66,7 @@ COPIED_LABELS = {"e/t/0-3_0-1_0-1": 3 * LABEL, "e/t/3-5_0-1_0-1": 2 * LABEL}
 
 # Damages that are stated here.
 
-EIGHT = line(8)
-PLANE = Volume([4, 4, 1], [1, 1, 1])
-LONG = line(600)
-LABELLED = line(600, width=4)
-PAIRED = {"chunk": [2, 1, 1]}
-IN_BLOCKS = {"block": (1, 1, 1)}
-TWO_SHARDS = {"sharding": Sharding(shard_bits=1)}
+LONG, LABELLED, PAIRED = line(600), line(600, width=4), {"chunk": [2, 1, 1]}
 ALL_BUT_TWO = [LONG.name((number, 0, 0)) for number in range(598)]
 
 # title, the source, the target's layout, the cells of the source whose files are empty, the cell that is told, and the files that may
@@ -141,12 +133,8 @@ def cubes(source, target):
 TARGET = with_target()
 OBJECT = {"e/t/x": b""}
 PIPE_INSIDE = {"e/t/x.part": b"", "e/t/y": PIPE}
-NO_FIRST = {FIRST: b""}
 SHORT_LONG = {"d/s/0-4194305_0-1_0-1": b""}
 SIXTEEN, TWO = {"data_type": "uint16"}, {"num_channels": 2}
-PADDED = "padded voxels 4194305 over 4194304"
-CELLS = "too many cells 4194305"
-EMPTY = "folder not empty"
 
 # title, what is changed, the line; and source and target, where they are others. First come the words, then the info of the source, that of
 # the target, its voxels, what both scales have alike, and their cells.

@@ -1,17 +1,16 @@
 #!/usr/bin/env python3
-"""Runs the built vol_tool's command generate, and compares what it prints and stores with a list of writes that is made here.
+"""Runs the built vol_tool's command generate, and compares what it prints and stores with a list of writes by docs/statuses.md.
 
     tests/generate.py [PROGRAM]
-
-The list is made from the rules of docs/statuses.md (model/lists.py); what write stores of it is compared too.
 """
+import functools
 import itertools
 import random
 
-from harness import answers, main, memory_limit, open_full, want
-from model import Volume, draw_boxes, generated, infos_of, line, printed, refused, voxels_in
+from harness import answers, leaves, main, memory_limit, open_full, want
+from model import Volume, generated, infos_of, line, printed, refused
 from model.chance import pick_volume
-from runs import leaves, list_run
+from runs import list_run
 
 WORKERS = ([], ["--workers=1"], ["--workers=3"], ["--workers=16"])
 
@@ -62,36 +61,21 @@ OTHERS = {"d/s/x": b"x"}
 # The number of a list whose third write is too large, and the two before it have half of the bytes that there may be.
 LARGE_LIST = 632806
 
-
-def first_large():
-    """The first write of that list with which the values have more than 2^30 bytes."""
-    lengths = (voxels_in(box) * TALL.channels * TALL.width for box in draw_boxes(TALL, LARGE_LIST, 3))
-    return next(write for write, total in enumerate(itertools.accumulate(lengths)) if total > 2**30)
-
-
 # title, scale, number, writes, what stands in its folder, line
 REFUSED = [
     ("too large", HUGE, 1, 1, {}, "box too large 1074790400"),
     ("not empty before too large", HUGE, 1, 1, OTHERS, "folder not empty"),
     ("past the writing limit", PADDED, 1, 1, OTHERS, "padded voxels 4194305 over 4194304"),
-    ("too large a list", TALL, LARGE_LIST, 3, {}, f"write {first_large()}: too large"),
-    ("too many cells", FINE, 7, 220, {}, f"too many cells {sum(map(voxels_in, draw_boxes(FINE, 7, 220)))}"),
+    ("too large a list", TALL, LARGE_LIST, 3, {}, "write 2: too large"),
+    ("too many cells", FINE, 7, 220, {}, "too many cells 4351131"),
 ]
 
 
 def leaves_input(trial):
-    """The input isn't read."""
     trial.lay_out({**infos_of(ROW), "input": b"left"})
     with (trial.folder / "input").open("rb") as feed:
         trial.want("generate d s 1 1", printed("writes 1 objects 1 bytes 4 sum 1"), feed)
         want(feed.read(), b"left", "the input")
-
-
-def sums_in_memory(trial):
-    """A large scale is summed in the memory of one layer of its chunks and 16 MiB; none is stored."""
-    trial.lay_out(infos_of(Volume([512] * 3, [64] * 3)))
-    limit = memory_limit(512 * 512 * 64 + (16 << 20))
-    trial.want("generate d s 0 0", printed("writes 0 objects 0 bytes 0 sum 0"), prepare=limit)
 
 
 def rows():
@@ -109,7 +93,10 @@ def rows():
     run = list_run(WIDE, 3, 5)
     yield "a line to a full device", leaves, run.before, run.words, refused("output fault"), run.put, b"", open_full
     yield "the input", leaves_input
-    yield "a large scale in the memory of a layer", sums_in_memory
+    # one layer of its chunks and 16 MiB
+    in_memory, large = functools.partial(answers, prepare=memory_limit(512 * 512 * 64 + (16 << 20))), infos_of(Volume([512] * 3, [64] * 3))
+    none = printed("writes 0 objects 0 bytes 0 sum 0")
+    yield "a large scale in the memory of a layer", in_memory, large, "generate d s 0 0", none
 
 
 if __name__ == "__main__":

@@ -4,17 +4,14 @@ Those of the README's first screen have to be among them.
 
     tests/guide.py [PROGRAM]
 
-PROGRAM is crates/vol_tool/out/vol_tool if it is left out; vol_serve is crates/vol_serve/out/vol_serve. The page's blocks of `sh` are run
-by one bash in a temporary home; a block of `text` is the output of the block before it. A block of `python` is saved under the name in its
-first line; where a module that it imports isn't installed it is only compiled, and run otherwise, unless a block of `sh` runs it. The
-ports 8080 and 8081 stand for free ones. It wants bash.
-The last line is 'N passed, N failed', and the status is 1 where a line of the README or a block failed.
+The page's blocks of `sh` are run by one bash in a temporary home; a block of `text` is the output of the block before it. A block of
+`python` is saved under the name in its first line; where a module that it imports isn't installed it is only compiled, and run otherwise,
+unless a block of `sh` runs it. The ports 8080 and 8081 stand for free ones.
 """
 import array
 import importlib.util
 import os
 import re
-import signal
 import subprocess
 
 from arrays import save
@@ -76,15 +73,10 @@ def run_guide(program, home, blocks):
     script, out, err = home / "guide.sh", home / "out", home / "err"
     script.write_text("\n".join([*lines, f"echo '-- block {len(blocks)}'", ""]))
     environment = {**os.environ, "HOME": str(home), "VOL_TOOL": str(program), "GUIDE_BIN": str(home / "bin")}
-    with out.open("w") as to_out, err.open("w") as to_err, subprocess.Popen(
-        ["bash", script], cwd=ROOT, env=environment, stdin=subprocess.DEVNULL, stdout=to_out, stderr=to_err, start_new_session=True
-    ) as running:
-        try:
-            status = running.wait(timeout=5 * LIMIT)
-        except subprocess.TimeoutExpired:
-            os.killpg(running.pid, signal.SIGKILL)
-            status = running.wait()
-    return status, out.read_text(), err.read_text()
+    command = ["timeout", str(5 * LIMIT), "bash", script]
+    with out.open("w") as to_out, err.open("w") as to_err:
+        done = subprocess.run(command, cwd=ROOT, env=environment, stdin=subprocess.DEVNULL, stdout=to_out, stderr=to_err)
+    return done.returncode, out.read_text(), err.read_text()
 
 
 def judge_all(trial):

@@ -87,10 +87,15 @@ def want_files(found, wanted, what="file"):
         want(found.get(path), wanted.get(path), f"{what} {path}")
 
 
-def want_added(before, after, due):
-    """Files, as they stand in a folder, are those before as they were, and beside them those that are due."""
-    want_files({path: entry for path, entry in after.items() if path in before}, before)
-    want_files(contents({path: entry for path, entry in after.items() if path not in before}), due)
+def want_put(before, after, put):
+    """Of files, as they stand in a folder, these are put, or gone, which is None; all others are as they were."""
+    want_files(*({path: entry for path, entry in found.items() if path not in put} for found in (after, before)))
+    want_files({path: after[path][2] for path in put if path in after}, {path: due for path, due in put.items() if due is not None})
+
+
+def front_in(files, due):
+    """The first ones of those that are due, as far as they stand."""
+    return dict(itertools.takewhile(lambda item: files.get(item[0]) == item[1], due.items()))
 
 
 def want_front(files, before, due, parts_allowed=0):
@@ -98,7 +103,7 @@ def want_front(files, before, due, parts_allowed=0):
     Files are those before, with a front of those that are put in their place or beside them, in their order, and at most so many whose
     names end in .part. Gives how long that front is.
     """
-    front = dict(itertools.takewhile(lambda item: files.get(item[0]) == item[1], due.items()))
+    front = front_in(files, due)
     parts = [path for path in files if path not in {**before, **front} and path.endswith(".part")]
     want_files({path: content for path, content in files.items() if path not in parts}, {**before, **front})
     want_true(len(parts) <= parts_allowed, f"not finished: {parts}")
@@ -135,6 +140,11 @@ def files_in(folder):
     return {str(path.relative_to(folder)): path.read_bytes() for path in sorted(folder.rglob("*")) if path.is_file()}
 
 
+def objects_in(files):
+    """Files but for the data sets' info documents."""
+    return {path: content for path, content in files.items() if pathlib.PurePath(path).name != "info"}
+
+
 def snapshot(folder):
     """Each path of a folder, with what it is and what it holds."""
     found = {}
@@ -153,6 +163,13 @@ def contents(files):
     return {path: entry[2] for path, entry in files.items()}
 
 
+# Streams that fail.
+
+
+def open_folder():
+    return os.open("/", os.O_RDONLY)
+
+
 def open_full():
     return os.open("/dev/full", os.O_WRONLY)
 
@@ -162,6 +179,20 @@ def open_closed_pipe():
     read_end, write_end = os.pipe()
     os.close(read_end)
     return write_end
+
+
+NO_OUTPUTS = [("a full device", open_full), ("a closed pipe", open_closed_pipe)]
+
+
+@contextlib.contextmanager
+def opened(stream):
+    """A stream of a run, which a function may open."""
+    found = stream() if callable(stream) else stream
+    try:
+        yield found
+    finally:
+        if callable(stream):
+            os.close(found)
 
 
 def memory_limit(count):
@@ -221,30 +252,26 @@ class Trial:
     def run(self, words, feed=b"", output=subprocess.PIPE, prepare=None, **environment):
         """
         What a run ends with: its status, its output where that is a pipe, and its standard error. `words` are a text without blanks
-        in them, or a list. `feed` is what the standard input gives: bytes, or an open file. `output` may be a function that opens it,
-        and `prepare` is called in the new process before the program begins.
+        in them, or a list. `feed` is what the standard input gives: bytes, or an open file; it and `output` may be functions that open
+        them. `prepare` is called in the new process before the program begins.
         """
-        given = {"input": feed} if isinstance(feed, bytes) else {"stdin": feed}
-        stdout = output() if callable(output) else output
-        try:
+        with opened(feed) as stdin, opened(output) as stdout:
+            given = {"input": stdin} if isinstance(stdin, bytes) else {"stdin": stdin}
             done = subprocess.run(
                 [os.fsencode(self.program), *map(os.fsencode, words_in(words))], cwd=self.folder, stdout=stdout,
                 stderr=subprocess.PIPE, timeout=LIMIT, preexec_fn=prepare, env={**os.environ, **environment}, **given,
             )
-        finally:
-            if callable(output):
-                os.close(stdout)
         return done.returncode, done.stdout or b"", done.stderr
 
-    def want(self, words, wanted, feed=b"", **how):
+    def want(self, words, wanted, *streams, **how):
         """A run ends with this status, output and standard error."""
         spelled = " ".join(map(str, words_in(words)))
-        want_ending(self.run(words, feed, **how), wanted, f"{spelled:.120}")
+        want_ending(self.run(words, *streams, **how), wanted, f"{spelled:.120}")
 
-    def want_unchanged(self, words, wanted, feed=b"", **how):
+    def want_unchanged(self, words, wanted, *streams, **how):
         """So does a run that leaves the folder as it is."""
         before = snapshot(self.folder)
-        self.want(words, wanted, feed, **how)
+        self.want(words, wanted, *streams, **how)
         want_true(snapshot(self.folder) == before, "the folder isn't as before")
 
     def start(self, words, **streams):
@@ -255,8 +282,7 @@ class Trial:
         lay_out(self.folder, files)
 
     def files(self):
-        """The files in the folder but for the data sets' info documents."""
-        return {path: content for path, content in files_in(self.folder).items() if pathlib.Path(path).name != "info"}
+        return objects_in(files_in(self.folder))
 
     def write(self, volume, writes, *options):
         """Writes boxes into a scale, whose info it puts; what is due is told and stands. Gives the files."""
@@ -266,37 +292,22 @@ class Trial:
         want_files(self.files(), files)
         return files
 
-    def want_copy(self, words, copy):
+    def want_made(self, words, made, feed=b""):
         """
-        A run that makes a scale of another ends as the model's copy, and adds its files; one that broke off a front of them, and what
-        there is of the next one.
+        A run ends as the model's: its files stand in the place of those before or beside them, or a front of them where it broke off, and
+        perhaps what there is of the next one; all others are as they were.
         """
         before = standing(self.folder)
-        found = self.run(words)
-        after, due, begun = standing(self.folder), copy.files, []
-        if copy.fault is not None:
-            new = [path for path in after if path not in before and not path.endswith(".part")]
-            due = dict(list(due.items())[: len(new)])
-            begun = [f"{path}.part" for path in copy.paths[len(new) : len(new) + 1] if f"{path}.part" not in before]
-        want_added(before, {path: entry for path, entry in after.items() if path not in begun}, due)
-        want_ending(found, copy.answer())
+        want_ending(self.run(words, feed), made.answer)
+        after = standing(self.folder)
+        put = made.files if made.answer[0] == OK else front_in(contents(after), made.files)
+        begun = {f"{path}.part" for path in made.paths[len(put) : len(put) + 1]} - {*before}
+        want_put(before, {path: entry for path, entry in after.items() if path not in begun}, put)
 
     def want_update(self, volume, writes, *options):
-        """
-        An update ends as the model's: its files stand in the place of those before or beside them, or a front of them where it broke off,
-        and perhaps what there is of the next one; all others are as they were. Gives the model's.
-        """
-        before = standing(self.folder)
-        update = update_of(volume, contents(before), writes)
-        want_ending(self.run(volume.words("update", *options), stream_of(writes)), update.answer)
-        after, is_whole = standing(self.folder), update.answer[0] == OK
-        found = contents(after)
-        put = update.files if is_whole else dict(itertools.takewhile(lambda item: found.get(item[0]) == item[1], update.files.items()))
-        begun = [path for path in after if path not in before and path.removesuffix(".part") in update.paths and path.endswith(".part")]
-        want_files({path: found.get(path) for path in put}, put)
-        want_true(len(begun) <= (not is_whole), f"not finished: {begun}")
-        want_files({path: entry for path, entry in after.items() if path not in (*put, *begun)},
-                   {path: entry for path, entry in before.items() if path not in put})
+        """So does an update. Gives the model's."""
+        update = update_of(volume, contents(standing(self.folder)), writes)
+        self.want_made(volume.words("update", *options), update, stream_of(writes))
         return update
 
     def store(self, volume, chunks):
@@ -315,10 +326,18 @@ class Trial:
             self.want(volume.words("cutout", spell(box)), printed(values.of(box)))
 
 
-def answers(trial, files, words, wanted, feed=b"", **how):
+def answers(trial, files, words, wanted, *streams, **how):
     """A run over files ends so, and changes nothing."""
     trial.lay_out(files)
-    trial.want_unchanged(words, wanted, feed, **how)
+    trial.want_unchanged(words, wanted, *streams, **how)
+
+
+def leaves(trial, files, words, wanted, put, *streams, **how):
+    """A run over files ends so, and puts these in their place or beside them."""
+    trial.lay_out(files)
+    before = standing(trial.folder)
+    trial.want(words, wanted, *streams, **how)
+    want_put(before, standing(trial.folder), put)
 
 
 # Pages
@@ -328,8 +347,14 @@ def cells_of(line):
     return [cell.strip() for cell in line.strip().strip("|").split(" | ")]
 
 
-def is_defined(name, text):
-    return re.search(rf"^\s*(?:\w+ )*{re.escape(name)}(?: |$)", text, re.M)
+def module_of(crate, name):
+    return CRATES / crate / "specs" / f"{name}.antt"
+
+
+def is_defined(name, modules):
+    """Whether a name is defined in one of some modules."""
+    texts = (path.read_text() for path in modules if path.exists())
+    return any(re.search(rf"^\s*(?:\w+ )*{re.escape(name)}(?: |$)", text, re.M) for text in texts)
 
 
 def main_of_pages(judge_all):
@@ -367,11 +392,7 @@ def methods_of(cases, base):
     for part in cases.__mro__:
         for name, method in vars(part).items() if not issubclass(base, part) else ():
             if callable(method) and not name.startswith("_"):
-                yield name.replace("_", " "), call_method, cases, method
-
-
-def call_method(trial, cases, method):
-    return method(cases.of(trial))
+                yield name.replace("_", " "), lambda trial, method=method: method(cases.of(trial))
 
 
 # The program and the rows that are judged, for the processes that judge them.

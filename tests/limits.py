@@ -8,9 +8,8 @@ The largest row writes 1 GiB into its folder. The status, the output or its leng
 import subprocess
 import tempfile
 
-from harness import answers, main
+from harness import answers, leaves, main
 from model import (OK, SEGMENTED, SHARDING, Sharding, along, box_in, bytes_of, head_of, info_of, line, printed, refused, stored, stream_of)
-from runs import leaves
 
 # The most cells that a box or a grid of a copy may have, the most pairs of a write and a cell, and the most bytes of a cutout or of
 # the values of a stream.

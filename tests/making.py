@@ -4,7 +4,7 @@ import itertools
 import random
 
 from harness import DEVICE, FOLDER, LOOP, PIPE, answers, contents, standing, want, want_ending, want_files
-from model import Sharding, Values, Volume, box_in, damaged, infos_of, line, refused, sound, stored, voxels_in
+from model import OK, Sharding, Values, Volume, box_in, damaged, infos_of, line, refused, sound, stored, voxels_in
 from model.chance import FORMS, damage_some, pick_box, pick_stored, pick_writes
 from model.pyramids import next_of
 from model.small import FIRST, NO_CHUNKS, NO_FOLDER, SECOND
@@ -24,7 +24,7 @@ def is_made(trial, method, source, target, *options, boxes=()):
     the model's.
     """
     made = want_made(trial, method, source, target, *options)
-    want(made.fault, None, "the model's fault")
+    want(made.answer[0], OK, "the model's status")
     judged = [(target, made.cells)]
     if method is None:
         judged.append((source, len(made.there)))
@@ -107,7 +107,7 @@ def makes_fixed(trial, source, layout, written, method):
             continue
         made = is_made(trial, method, source, target, "--workers=1", boxes=[pick_box(chance, target)])
         if method is None:
-            want(made.values.all(), Values(source, writes).all(), "the values that were written")
+            want(made.values.raw, Values(source, writes).raw, "the values that were written")
 
 
 # Seven voxels with the values 1 to 7, in pairs.
@@ -116,7 +116,6 @@ SEVEN_VALUES = [(SEVEN.whole, bytes(range(1, 8)))]
 
 
 def makes_between(trial, method, source, target):
-    """By any names of the two."""
     trial.write(source, SEVEN_VALUES)
     trial.lay_out(infos_of(source, target))
     is_made(trial, method, source, target)
@@ -126,7 +125,7 @@ def makes_around(trial, method, source, target, is_written):
     """A source in the target's folder is refused and stays where it has a file; of one without there is nothing to make."""
     trial.write(source, SEVEN_VALUES if is_written else [])
     words, _ = made_by(method, source, target, {})
-    answers(trial, infos_of(source, target), words, refused("folder not empty") if is_written else stored(0, 0))
+    answers(trial, infos_of(source, target), words, refused(EMPTY) if is_written else stored(0, 0))
 
 
 # Scales at random
@@ -160,7 +159,7 @@ def makes_damaged(trial, seed, forms, pick):
     files = trial.write(source, pick_boxes(chance, source, like))
     trial.lay_out({**damage_some(chance, source, files), **infos_of(source, target)})
     made = want_made(trial, method, source, target, *pick_workers(chance))
-    if made.fault is None:
+    if made.answer[0] == OK:
         trial.want(target.words("verify"), sound(len(target.cells), made.cells))
 
 
@@ -179,6 +178,10 @@ def rows_at_random(pick, seeds):
 
 # Damages that are stated
 
+EIGHT = line(8)
+PLANE = Volume([4, 4, 1], [1, 1, 1])
+TWO_SHARDS, IN_BLOCKS = {"sharding": Sharding(shard_bits=1)}, {"block": (1, 1, 1)}
+
 
 def tells_damage(trial, source, layout, empty, told, may_stand, method, workers):
     """Of a source that is written whole some cells' files are empty: this one is told, and these files may stand."""
@@ -187,9 +190,17 @@ def tells_damage(trial, source, layout, empty, told, may_stand, method, workers)
     trial.store(source, {**source.chunks_after([(source.whole, values)]), **{cell: b"" for cell in empty}})
     trial.lay_out(infos_of(source, target))
     _, made = made_by(method, source, target, contents(standing(trial.folder)))
-    want_ending(made.answer(), refused(damaged(told, f"chunk length 0 wanted {source.width}")), "the model")
+    want_ending(made.answer, refused(damaged(told, f"chunk length 0 wanted {source.width}")), "the model")
     want(list(made.files), list(map(target.path, may_stand)), "the model's files")
     want_made(trial, method, source, target, f"--workers={workers}")
+
+
+# Runs that are refused, over the small data set.
+
+NO_FIRST = {FIRST: b""}
+PADDED = "padded voxels 4194305 over 4194304"
+CELLS = "too many cells 4194305"
+EMPTY = "folder not empty"
 
 
 def outcomes(info, in_shards, folder):
@@ -197,24 +208,23 @@ def outcomes(info, in_shards, folder):
     What is told of the small data set with the info of a scale that is made of it, in this folder; and where both infos are so, and the
     source is in shards: title, what is changed, and what the run ends with. First comes the target's folder, and then the source's cells.
     """
-    pipe, first = {f"{folder}/x.part": b"", f"{folder}/y": PIPE}, {FIRST: b""}
+    pipe = {f"{folder}/x.part": b"", f"{folder}/y": PIPE}
     told = [
-        ("an object in the target's folder", {f"{folder}/x": b""}, "folder not empty"),
-        ("an object deep in it", {f"{folder}/x/y/z": b""}, "folder not empty"),
-        ("an object in a folder that ends in .part", {f"{folder}/x.part/y": b""}, "folder not empty"),
-        ("an object before a damaged source", {f"{folder}/x": b"", **first}, "folder not empty"),
-        ("an object before a pipe in the source", {f"{folder}/x": b"", SECOND: PIPE}, "folder not empty"),
+        ("an object in the target's folder", {f"{folder}/x": b""}, EMPTY), ("an object deep in it", {f"{folder}/x/y/z": b""}, EMPTY),
+        ("an object in a folder that ends in .part", {f"{folder}/x.part/y": b""}, EMPTY),
+        ("an object before a damaged source", {f"{folder}/x": b"", **NO_FIRST}, EMPTY),
+        ("an object before a pipe in the source", {f"{folder}/x": b"", SECOND: PIPE}, EMPTY),
         ("a pipe in the target's folder", pipe, "store fault"),
-        ("a pipe in it, and a damaged source", {**pipe, **first}, "store fault"),
+        ("a pipe in it, and a damaged source", {**pipe, **NO_FIRST}, "store fault"),
         ("a target's folder that is a file", {folder: b""}, "store fault"),
         ("a chunk that is a pipe", {SECOND: PIPE}, "store fault"),
         ("a chunk that is a device", {FIRST: DEVICE}, "store fault"),
         ("a chunk that is a link to itself", {SECOND: LOOP}, "store fault"),
-        ("a damaged chunk before a pipe", {**first, SECOND: PIPE}, "store fault"),
+        ("a damaged chunk before a pipe", {**NO_FIRST, SECOND: PIPE}, "store fault"),
         ("a shard that is a pipe", {**in_shards, **NO_CHUNKS, "d/s/0.shard": PIPE}, "store fault"),
-        ("a damaged chunk", first, "damaged 0,0,0: chunk length 0 wanted 4"),
+        ("a damaged chunk", NO_FIRST, "damaged 0,0,0: chunk length 0 wanted 4"),
         ("the second chunk damaged", {SECOND: b"12345"}, "damaged 1,0,0: chunk length 5 wanted 4"),
-        ("both chunks damaged", {**first, SECOND: b"12345"}, "damaged 0,0,0: chunk length 0 wanted 4"),
+        ("both chunks damaged", {**NO_FIRST, SECOND: b"12345"}, "damaged 0,0,0: chunk length 0 wanted 4"),
         ("a short shard", {**in_shards, **NO_CHUNKS, "d/s/0.shard": b"short"}, "damaged 0,0,0: shard short index"),
         # the source has no chunk, so nothing is made, and no folder
         ("no chunks", NO_CHUNKS, None),

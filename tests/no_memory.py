@@ -3,12 +3,9 @@
 
     tests/no_memory.py [PROGRAM]
 
-It wants a C compiler, `cc`, for the library that refuses (refuse_memory.c), so it is run by hand and isn't a part of the gate. Where
-the store is asked, an allocation for a path, for a folder's entries or of the system's own library may end as a store fault instead.
-Each refused run has a folder of its own; afterwards whole objects stand there, the first ones that are due, and no half of one, but
-that a copy into shards, or an update of some, may leave one file whose name ends in .part. A cutout may have printed the layers
-before. Peers of a served run get whole replies, the first ones that are due, and behind them nothing, or that the store failed; where
-one says nothing, the run doesn't wait for it. A fetched box has nothing printed.
+It wants a C compiler, `cc`, for the library that refuses (refuse_memory.c). Where the store is asked, an allocation for a path, for a
+folder's entries or of the system's own library may end as a store fault instead. Afterwards whole objects stand, the first ones that are
+due, and no half of one, but that a copy into shards, or an update of some, may leave one file whose name ends in .part.
 """
 import collections
 import contextlib
@@ -36,7 +33,6 @@ FETCHED = [Volume([2 * count, 1, count], [2, 1, 1], channels=2, sharding=shardin
 
 
 def build_library(trial):
-    """The library that refuses."""
     library = trial.folder / "refuse_memory.so"
     source = pathlib.Path(__file__).with_name("refuse_memory.c")
     command = ["cc", "-O1", "-fno-builtin", "-shared", "-fPIC", "-o", library, source]

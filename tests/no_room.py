@@ -13,9 +13,9 @@ import functools
 import itertools
 import random
 
-from harness import file_limit, main, want_files
+from harness import file_limit, main, objects_in, want_files
 from model import Sharding, Volume, refused, voxels_in
-from runs import apart, list_run, made_run, objects_in, update_run, write_run
+from runs import apart, list_run, made_run, update_run, write_run
 
 # Three layers of cells, the last ones clipped on each axis.
 RAW = Volume([5, 3, 5], [2, 2, 2], (-3, 0, 7), 2, 4)

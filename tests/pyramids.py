@@ -10,16 +10,17 @@ byte by byte, is sound and reads as the model's values; the source's files stay.
 import dataclasses
 import itertools
 
-from harness import PIPE, answers, main, want, want_files
+from harness import PIPE, answers, leaves, main, want, want_files
 from model import SEGMENTED, Sharding, Volume, infos_of, line, refused, stored
 from model.chance import pick_scales
 from model.pyramids import METHODS, next_of
 from model.segments import bytes_of
-from model.small import FIRST, NO_CHUNKS, changed, shards, with_next
+from model.small import NO_CHUNKS, changed, shards, with_next
 from making import (
-    FIXED, PAIRS, SEVEN, SEVEN_VALUES, is_made, makes_around, makes_between, makes_fixed, outcomes, rows_at_random, tells_damage,
+    CELLS, EIGHT, EMPTY, FIXED, IN_BLOCKS, NO_FIRST, PADDED, PAIRS, PLANE, SEVEN, SEVEN_VALUES, TWO_SHARDS, is_made, makes_around,
+    makes_between, makes_fixed, outcomes, rows_at_random, tells_damage,
 )
-from runs import WORKERS, leaves, made_run, rows_of_stops
+from runs import WORKERS, made_run, rows_of_stops
 
 # What is stated of next scales
 
@@ -61,7 +62,7 @@ def reduces_stated(trial, source, held, layout, due, method, workers):
     made = is_made(trial, method, source, target, f"--workers={workers}")
     stated = {target.path(name): bytes.fromhex(contents[method == "mean"]) for name, contents in due.items()}
     want_files(made.files, stated, "the model's file")
-    want(made.answer(), stored(len(stated), len(stated)), "the model's answer")
+    want(made.answer, stored(len(stated), len(stated)), "the model's answer")
 
 
 THREES = next_of(SEVEN, key="t", chunk=[3, 1, 1])
@@ -93,12 +94,7 @@ def pick_next(chance, forms):
 
 # Damages that are stated here.
 
-EIGHT = line(8)
-PLANE = Volume([4, 4, 1], [1, 1, 1])
-LONG = line(1200)
-LABELS = line(1200, width=4)
-TWO_SHARDS = {"sharding": Sharding(shard_bits=1)}
-IN_BLOCKS = {"block": (1, 1, 1)}
+LONG, LABELS = line(1200), line(1200, width=4)
 ALL_BUT_ONE = [f"{number}-{number + 1}_0-1_0-1" for number in range(599)]
 
 # title, the source, the target's layout, the cells of the source whose files are empty, the cell that is told, and the files that may
@@ -150,11 +146,7 @@ def lines(source, target, length):
 NEXT = with_next()
 OBJECT = {"d/t/x": b""}
 PIPE_INSIDE = {"d/t/x.part": b"", "d/t/y": PIPE}
-NO_FIRST = {FIRST: b""}
 IN_SHARDS = {**with_next(shards()), **NO_CHUNKS}
-PADDED = "padded voxels 4194305 over 4194304"
-CELLS = "too many cells 4194305"
-EMPTY = "folder not empty"
 SIZE, OFFSET = "differs size", "differs voxel_offset"
 ONE_VOXEL = with_next(along_x(1))
 

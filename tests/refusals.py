@@ -3,15 +3,12 @@
 
     tests/refusals.py [PROGRAM]
 
-The status, the output and the one line on standard error are compared with what is due, and so is the folder afterwards with what
-it held before. The output is empty, but where a cutout breaks off: then it has what lies below the layer of chunks that is damaged
-or can't be read.
+The output is empty, but where a cutout breaks off: then it has what lies below the layer of chunks that is damaged or can't be read.
 """
 import itertools
-import os
 import struct
 
-from harness import DEVICE, FOLDER, LOOP, PIPE, answers, main, open_closed_pipe, open_full
+from harness import DEVICE, FOLDER, LOOP, NO_OUTPUTS, PIPE, answers, main, open_folder
 from model import SEGMENTED, SHARDING, box_in, bytes_of, head_of, info_of, printed, refused, shard_of, stream_of
 from model.small import (
     FAR, FIRST, INFO_PATH, LOW, NO_CHUNKS, NO_FOLDER, SECOND, VALUES, WHOLE, changed, deep_info, padded, shards, wide_info, with_info,
@@ -267,19 +264,6 @@ SERVED = [
 ]
 
 
-def puts_out(trial, opened):
-    answers(trial, changed(), [*CUT, WHOLE], refused("output fault"), output=opened)
-
-
-def takes_folder(trial, change, line):
-    """A folder as the stream."""
-    feed = os.open("/", os.O_RDONLY)
-    try:
-        answers(trial, changed(change), WRITE, refused(line), feed)
-    finally:
-        os.close(feed)
-
-
 def rows():
     for words in no_commands():
         files = changed(with_next(), {"e/info": with_next()[INFO_PATH]})
@@ -305,10 +289,11 @@ def rows():
         yield f"a write {title}", answers, changed(change), WRITE, refused(line), feed
     for title, change, box, output in SERVED:
         yield title, answers, changed(change), [*CUT, box], printed(output)
-    for title, opened in (("a full device", open_full), ("a closed pipe", open_closed_pipe)):
-        yield f"output to {title}", puts_out, opened
-    yield "a folder as the stream", takes_folder, NO_CHUNKS, "feed fault"
-    yield "a folder as the stream of too many voxels", takes_folder, {**NO_CHUNKS, **padded(2**22 + 1)}, TOO_MANY
+    for title, output in NO_OUTPUTS:
+        yield f"output to {title}", answers, changed(), [*CUT, WHOLE], refused("output fault"), b"", output
+    yield "a folder as the stream", answers, changed(NO_CHUNKS), WRITE, refused("feed fault"), open_folder
+    too_many = changed(NO_CHUNKS, padded(2**22 + 1))
+    yield "a folder as the stream of too many voxels", answers, too_many, WRITE, refused(TOO_MANY), open_folder
 
 
 if __name__ == "__main__":

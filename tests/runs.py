@@ -4,13 +4,11 @@ halfway, and kills.
 """
 import contextlib
 import dataclasses
-import itertools
 import pathlib
-import subprocess
 import tempfile
 import time
 
-from harness import FOLDER, contents, open_closed_pipe, open_full, standing, want_files, want_front, wrong_with
+from harness import FOLDER, contents, leaves, objects_in, open_closed_pipe, open_full, standing, want_files, want_front, wrong_with
 from model import answer, copy_of, cutout, generated, infos_of, refused, spell, stored, stream_of, sum_of, update_of, verdict
 from model.pyramids import reduction_of
 
@@ -25,15 +23,6 @@ def pick_workers(chance):
 def apart(trial, name):
     """The same in a folder inside."""
     return dataclasses.replace(trial, folder=pathlib.Path(trial.folder, name))
-
-
-def objects_in(files):
-    """Files but for the data sets' info documents."""
-    return {path: content for path, content in files.items() if pathlib.PurePath(path).name != "info"}
-
-
-def front_of(files, count):
-    return dict(itertools.islice(files.items(), count))
 
 
 # Runs
@@ -70,7 +59,6 @@ def list_run(volume, number, count, *options):
 
 
 def update_run(volume, held, writes, *options):
-    """An update over files."""
     update, parts = update_of(volume, held, writes), int(volume.sharding is not None)
     return Run({**infos_of(volume), **held}, volume.words("update", *options), stream_of(writes), update.answer, update.files, parts)
 
@@ -86,11 +74,10 @@ def made_run(method, source, target, held, *options):
     """A scale that is made of another's files."""
     words, made = made_by(method, source, target, held)
     parts = int(target.sharding is not None)
-    return Run({**infos_of(source, target), **held}, [*words, *options], b"", made.answer(), made.files, parts)
+    return Run({**infos_of(source, target), **held}, [*words, *options], b"", made.answer, made.files, parts)
 
 
 def cutout_run(volume, files, box=None):
-    """A cutout of a box, or of all."""
     box = box or volume.whole
     return Run({**infos_of(volume), **files}, volume.words("cutout", spell(box)), b"", cutout(volume, files, box))
 
@@ -102,42 +89,21 @@ def verify_run(volume, files):
 def want_made(trial, method, source, target, *options):
     """A scale is made as the model has it of what stands. Gives the model's."""
     words, made = made_by(method, source, target, contents(standing(trial.folder)))
-    trial.want_copy([*words, *options], made)
+    trial.want_made([*words, *options], made)
     return made
-
-
-def leaves(trial, files, words, wanted, put, feed=b"", output=subprocess.PIPE, **how):
-    """A run over files ends so, and puts these in their place or beside them; None is one that is gone. The others are as they were."""
-    trial.lay_out(files)
-    before = standing(trial.folder)
-    trial.want(words, wanted, feed, output=output, **how)
-    after = standing(trial.folder)
-    want_files(*({path: entry for path, entry in found.items() if path not in put} for found in (after, before)))
-    want_files({path: after[path][2] for path in put if path in after}, {path: due for path, due in put.items() if due is not None})
-
-
-# title, which file can't be put, what the output is, the line, and how many files stand; None are all
-STOPPED = [
-    ("a folder in the second file's place", 1, subprocess.PIPE, "store fault", 1),
-    ("a folder in the first file's place", 0, subprocess.PIPE, "store fault", 0),
-    ("the line to a full device", None, open_full, "output fault", None),
-    ("the line into a closed pipe", None, open_closed_pipe, "output fault", None),
-]
 
 
 def rows_of_stops(run):
     """A run that stops halfway, and one over what others left: of its own objects it is replaced."""
     paths = list(run.put)
-    for title, stop, output, fault, count in STOPPED:
-        files = run.before if stop is None else {**run.before, paths[stop]: FOLDER}
-        yield title, stops, files, run, output, fault, len(paths) if count is None else count
+    for title, count in (("first", 0), ("second", 1)):
+        files, put = {**run.before, paths[count]: FOLDER}, dict(list(run.put.items())[:count])
+        yield f"a folder in the {title} file's place", leaves, files, run.words, refused("store fault"), put, run.stream
+    for title, output in (("to a full device", open_full), ("into a closed pipe", open_closed_pipe)):
+        yield f"the line {title}", leaves, run.before, run.words, refused("output fault"), run.put, run.stream, output
     folder = pathlib.PurePath(paths[0]).parent
     left = {f"{folder}/a/b": FOLDER, f"{paths[0]}.part": bytes(100), f"{folder}/other.part": b"left"}
     yield "leftovers", leaves, {**run.before, **left}, run.words, run.ending, {**run.put, f"{paths[0]}.part": None}, run.stream
-
-
-def stops(trial, files, run, output, fault, count):
-    leaves(trial, files, run.words, refused(fault), front_of(run.put, count), run.stream, output)
 
 
 # Kills
@@ -159,17 +125,14 @@ def started(trial, run):
             process.wait()
 
 
-def number_of(path):
-    """The number of a file, or None where there is none."""
-    with contextlib.suppress(FileNotFoundError):
-        return path.stat().st_ino
-    return None
-
-
 def await_change(process, path):
     """Waits until a file is put or replaced, or the process has ended."""
-    number = number_of(path)
-    while process.poll() is None and number_of(path) == number:
+    def number():
+        with contextlib.suppress(FileNotFoundError):
+            return path.stat().st_ino
+
+    before = number()
+    while process.poll() is None and number() == before:
         pass
 
 
@@ -192,11 +155,7 @@ def is_killed(trial, run, path, delay, judge):
     return count
 
 
-def passes(_trial):
-    """Nothing more is asked."""
-
-
-def is_killed_often(trial, run, pick, kills, most=None, judge=passes):
+def is_killed_often(trial, run, pick, kills, most=None, judge=lambda own: None):
     """
     A run that isn't killed, and so many kills, and more, up to the most that there may be, until one came between the first file and the
     last. `pick` gives for the number of a kill which file is awaited, or None, and how many seconds behind it the kill comes; `judge` is
@@ -205,15 +164,12 @@ def is_killed_often(trial, run, pick, kills, most=None, judge=passes):
     counts = []
     yield "a run that isn't killed", wrong_with(leaves, apart(trial, "whole"), run.before, run.words, run.ending, run.put, run.stream)
 
-    def kill(number):
-        counts.append(is_killed(trial, run, *pick(number), judge))
-
     def is_between():
         return any(0 < count < len(run.put) for count in counts)
 
     for number in range(most or kills):
         if number >= kills and is_between():
             break
-        yield f"kill {number}", wrong_with(kill, number)
+        yield f"kill {number}", wrong_with(lambda: counts.append(is_killed(trial, run, *pick(number), judge)))
     if most is not None:
         yield "a kill between the first file and the last", None if is_between() else f"there was none: {counts}"

@@ -3,16 +3,14 @@
 
     tests/segmentations.py [PROGRAM [COUNT]]
 
-Each is compared with a plain model. COUNT is the number of scales of each kind, two in three of them in shards; some chunks are
-absent.
+COUNT is the number of scales of each kind, two in three of them in shards; some chunks are absent.
 """
 import array
 import itertools
 import random
 import struct
-import sys
 
-from harness import main, want, want_ending, want_files, want_true
+from harness import leaves, main, want, want_ending
 from model import (
     Values, Volume, answers, breaks, corners, damaged, infos_of, line, printed, refused, sound, spell, stored, stream_of, voxels_in,
 )
@@ -70,26 +68,17 @@ def refuses_cell(trial, volume, chunk, told):
     trial.want_unchanged(volume.words("verify", spell(last)), sound(1, 1))
 
 
-def takes_longest(trial, volume):
-    """A chunk with words behind it that nothing refers to, as long as a chunk may be, is served and sound."""
-    chunks = ascending(volume)
-    trial.store(volume, {**chunks, DAMAGED_CELL: chunks[DAMAGED_CELL].ljust(volume.limit(DAMAGED_CELL), b"\xff")})
-    trial.want_cuts(volume, volume.files(chunks), [volume.whole])
-    trial.want_unchanged(volume.words("verify"), sound(3, 3))
-
-
 CLIPPED_CELL = (2, 0, 0)
 
 
-def takes_clipped(trial, volume, more):
-    """A chunk of a clipped cell may be as long as its own size allows, and no longer."""
-    chunks, limit = ascending(volume), volume.limit(CLIPPED_CELL)
-    want_true(limit < volume.limit(DAMAGED_CELL), "the cell isn't clipped")
-    trial.store(volume, {**chunks, CLIPPED_CELL: chunks[CLIPPED_CELL].ljust(limit + more, b"\xff")})
-    box = volume.box_of(CLIPPED_CELL)
-    due = answers.cutout(volume, volume.files(chunks), box)
-    told = damaged(CLIPPED_CELL, breaks.too_long(volume, limit, limit + more))
-    trial.want(volume.words("cutout", spell(box)), refused(told) if more else due)
+def takes_long(trial, volume, cell, more):
+    """A chunk with words behind it that nothing refers to may be as long as its own size allows, and no longer."""
+    chunks, limit = ascending(volume), volume.limit(cell)
+    trial.store(volume, {**chunks, cell: chunks[cell].ljust(limit + more, b"\xff")})
+    told = refused(damaged(cell, breaks.too_long(volume, limit, limit + more)))
+    for box in (volume.whole, volume.box_of(cell)):
+        trial.want(volume.words("cutout", spell(box)), told if more else answers.cutout(volume, volume.files(chunks), box))
+    trial.want_unchanged(volume.words("verify"), told if more else sound(3, 3))
 
 
 # title, what breaks the chunk, each in a channel, in its last block or its first; the last one's line is told
@@ -123,7 +112,6 @@ def takes_short(trial, sharding, channels, width, words, value):
 
 
 def refuses_one_word(trial):
-    """A chunk of one word that leads behind its end."""
     volume = line(1, width=4, block=(1, 1, 1))
     trial.store(volume, {(0, 0, 0): b"\xff" * 4})
     for command in (volume.words("cutout", spell(volume.whole)), volume.words("verify")):
@@ -135,12 +123,6 @@ LONG = Volume([2**22, 1, 1], [2**22, 1, 1], width=4, block=(1, 1, 1))
 LONG_OF_TWO = Volume([2**21 - 3, 1, 1], [2**40, 7, 7], channels=2, width=8, block=(4, 1, 1))
 
 
-def writes_nothing(trial, volume):
-    trial.lay_out(infos_of(volume))
-    trial.want("write d s", stored(0, 0), stream_of([]))
-    want_files(trial.files(), {})
-
-
 def writes_largest(trial):
     """2^22 values that all differ: the tables of one value follow each other behind the headers."""
     count = LONG.size[0]
@@ -148,9 +130,6 @@ def writes_largest(trial):
     words = array.array("I", bytes(4 * 2 * count))
     words[0::2] = array.array("I", range(2 * count, 3 * count))
     words[1::2] = words[0::2]
-    if sys.byteorder == "big":
-        values.byteswap()
-        words.byteswap()
     trial.lay_out(infos_of(LONG))
     trial.want("write d s", stored(1, 1), stream_of([(LONG.whole, values.tobytes())]))
     chunk = struct.pack("<I", 1) + words.tobytes() + values.tobytes()
@@ -170,13 +149,13 @@ def rows(count):
         for title, two in TWO_BREAKS:
             chunk, lines = breaks.broken(volume, *two)
             yield f"{form}, {title}", refuses_cell, volume, chunk, lines[-1]
-        yield f"{form}, the longest chunk", takes_longest, volume
+        yield f"{form}, the longest chunk", takes_long, volume, DAMAGED_CELL, 0
         for more in (0, 4):
-            yield f"{form}, a clipped chunk, {more} bytes too long", takes_clipped, volume, more
+            yield f"{form}, a clipped chunk, {more} bytes too long", takes_long, volume, CLIPPED_CELL, more
     for (form, sharding), (title, *case) in itertools.product(breaks.SHARDINGS.items(), SHORT):
         yield f"{title}, {form}", takes_short, sharding, *case
-    yield "no writes into 2^22 padded voxels", writes_nothing, LONG
-    yield "no writes into 2^22 padded voxels of two channels", writes_nothing, LONG_OF_TWO
+    for more, volume in (("", LONG), (" of two channels", LONG_OF_TWO)):
+        yield f"no writes into 2^22 padded voxels{more}", leaves, infos_of(volume), "write d s", stored(0, 0), {}, stream_of([])
     yield "the largest chunk", writes_largest
     yield "one word", refuses_one_word
 

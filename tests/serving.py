@@ -1,18 +1,13 @@
 #!/usr/bin/env python3
-"""Serves data sets over the loopback with the built vol_tool, and asks for objects with real clients.
+"""Serves data sets over the loopback with the built vol_tool; raw sockets, Python's HTTP client and curl ask for objects.
 
     tests/serving.py [PROGRAM]
-
-These are Python's HTTP client, raw sockets, and curl where it is there. Each row has a server of its own, which is asked for a free
-port.
 """
 import contextlib
-import functools
 import http.client
 import os
 import shutil
 import signal
-import socket
 import struct
 import subprocess
 import threading
@@ -73,7 +68,6 @@ class Cases(Doors):
 
     @contextlib.contextmanager
     def _client(self):
-        """Python's client of a server of one connection."""
         with self.serving(1) as port, client_at(port) as client:
             yield client
 
@@ -135,7 +129,6 @@ class Cases(Doors):
             want(talk(port, ASK + ASK, 2 * in_halves(ASK), pause=0.6 * PAUSE), REPLY + REPLY, "a slow peer's replies")
 
     def serves_eight_that_keep_their_connections(self):
-        """Eight clients at once, each of which keeps its connection until all are done."""
         done = threading.Barrier(8, timeout=LIMIT)
 
         def fetch_some(port):
@@ -185,34 +178,6 @@ class Cases(Doors):
             want(fetch(client, "/s/large")[1] == large, True, "the whole object")
             want(fetch(client, "/s/large", "bytes=65535-3000000")[1] == large[65535:3000001], True, "a large part")
 
-    def closes_where_it_is_asked(self):
-        """Also where the peer goes on waiting, a reply that ends the connection ends it at once."""
-        close = "Connection: Keep-Alive, CLOSE"
-        rows = [
-            (b"GET /s/x HTTP/1.0\r\n\r\n", REPLY),
-            (b"GET /s/x HTTP/1.0\r\nConnection: keep-alive\r\n\r\n", REPLY),
-            (ask("GET /s/x", "Connection: keep-alive", "connection:\tclose\t,"), REPLY),
-            *((ask(line, *fields, close), reply) for line, *fields, reply in [
-                ("GET /s/x", REPLY), ("HEAD /s/x", HEAD_ALONE), ("GET /s/x", ONCE, PART), ("GET /s/x", BEYOND, NO_PART),
-                ("GET /s/y", ABSENT), ("GET /../x", ABSENT), ("POST /s/x", NOT_ALLOWED),
-            ]),
-        ]
-        with self.serving(len(rows)) as port:
-            for request, reply in rows:
-                with within(0, SILENCE / 2, f"to {request!r}"):
-                    want(talk(port, request + ASK, half_close=False), closing(reply), f"to {request!r}")
-
-    def refuses_at_once(self):
-        """What can't become a head any more is answered without waiting for its end, and so is a front as long as a head may be."""
-        fronts = [
-            b"\0", b"\r\rGET", b"GET /s/x HTTP/1.2", b"GET /s/x HTTP/1.1\r\nX : a", b"GET  /", b"GET /\x7f", b"a" * MOST_HEAD,
-            b"G" * 3 * MOST_HEAD,
-        ]
-        with self.serving(len(fronts)) as port:
-            for front in fronts:
-                with within(0, SILENCE / 2, f"to {front[:60]!r}"):
-                    want(talk(port, front, half_close=False), BAD, f"to {front[:60]!r}")
-
     def answers_before_more_comes(self):
         """A reply leaves once its request's head is there, whatever may come behind it, and the next request is answered then."""
         with self.serving(1) as port, connect(port) as peer:
@@ -224,7 +189,6 @@ class Cases(Doors):
                     want(receive(peer, len(reply)), reply, f"to {request!r}")
 
     def finds_names(self):
-        """What is an object's name, and what isn't though a file stands there."""
         longest = "/".join(["a" * 250, "b" * 250, "c" * (MOST_NAME - len("d/") - 502)])
         self.lay_out({f"d/{name}": OBJECT for name in ("s/y.part", "s/a b", longest, longest + "c", "s/-_.Z9")})
         (self.folder / "d/s/link").symlink_to("x")
@@ -234,39 +198,23 @@ class Cases(Doors):
         self.want_replies(rows + [(ask(f"GET {target}"), ABSENT) for target in targets])
 
     def gives_files_as_they_stand(self):
-        """Files that change between two requests of one connection."""
-        path, other = self.folder / "d/s/x", self.folder / "d/s/other"
-
-        def replace(content):
-            other.write_bytes(content)
-            other.rename(path)
-
-        def replace_folder(content):
-            path.parent.rename(self.folder / "d/t")
-            self.lay_out({"d/s/x": content})
-
-        def append(content):
-            with path.open("ab") as file:
-                file.write(content)
-
-        # what is done, with what, and what the file has then
+        # what is done between two requests of one connection, and what the file has then
         changes = [
-            (replace, b"abcdefghij", b"abcdefghij"), (replace, b"and so on, and on", b"and so on, and on"), (replace, b"abc", b"abc"),
-            (append, b"def", b"abcdef"), (functools.partial(os.truncate, path), 2, b"ab"), (path.write_bytes, b"cd", b"cd"),
-            (functools.partial(os.truncate, path), 0, b""), (path.unlink, True, None), (path.write_bytes, b"anew", b"anew"),
-            (replace_folder, b"newer", b"newer"), (shutil.rmtree, path.parent, None),
+            ("printf abcdefghij >s/y; mv s/y s/x", b"abcdefghij"), ("printf 'and so on, and on' >s/y; mv s/y s/x", b"and so on, and on"),
+            ("printf abc >s/y; mv s/y s/x", b"abc"), ("printf def >>s/x", b"abcdef"), ("truncate -s 2 s/x", b"ab"),
+            ("printf cd >s/x", b"cd"), ("truncate -s 0 s/x", b""), ("rm s/x", None), ("printf anew >s/x", b"anew"),
+            ("mv s t; mkdir s; printf newer >s/x", b"newer"), ("rm -r s", None),
         ]
         with self._client() as client:
             want(fetch(client, "/s/x")[1], OBJECT, "as it was laid out")
-            for number, (change, given, wanted) in enumerate(changes):
-                change(given)
+            for change, wanted in changes:
+                want(call(["sh", "-ec", change], self.folder / "d"), (0, "", ""), change)
                 for method in ("GET", "HEAD", "GET"):
                     found = fetch(client, "/s/x", method=method, field="Content-Length")
                     body = wanted if wanted and method == "GET" else b""
-                    want(found, (404 if wanted is None else 200, body, str(len(wanted or b""))), f"change {number}, {method}")
+                    want(found, (404 if wanted is None else 200, body, str(len(wanted or b""))), f"{change}, {method}")
 
     def judges_ranges_by_the_file_that_stands(self):
-        """A part of a file that got longer, or shorter, between two requests of one connection."""
         with self._client() as client:
             for content, asked, status, body, told in [
                 (b"0123456789", "bytes=10-", 416, b"", "bytes */10"),
@@ -277,11 +225,6 @@ class Cases(Doors):
             ]:
                 self.lay_out({"d/s/x": content})
                 want(fetch(client, "/s/x", asked), (status, body, told), f"{asked} of {content!r}")
-
-    def keeps_the_last_reply(self):
-        """A peer goes on sending behind a request that is refused, and still gets the reply."""
-        with self.serving(1) as port:
-            want(talk(port, ask("POST /s/x", "Content-Length: 50000") + b"x" * 50000, half_close=False), BAD, "the reply")
 
     def passes_over_peers_that_reset(self):
         self.lay_out({"d/s/large": bytes(1 << 24)})
@@ -414,14 +357,45 @@ REPLIES = {
 }
 
 
+CLOSE = "Connection: Keep-Alive, CLOSE"
+
+# What is answered at once, though the peer goes on waiting.
+AT_ONCE = {
+    "closes where it is asked": [
+        (request + ASK, closing(reply)) for request, reply in [
+            (b"GET /s/x HTTP/1.0\r\n\r\n", REPLY), (b"GET /s/x HTTP/1.0\r\nConnection: keep-alive\r\n\r\n", REPLY),
+            (gets("Connection: keep-alive", "connection:\tclose\t,"), REPLY), (gets(CLOSE), REPLY), (ask("HEAD /s/x", CLOSE), HEAD_ALONE),
+            (gets(ONCE, CLOSE), PART), (gets(BEYOND, CLOSE), NO_PART), (ask("GET /s/y", CLOSE), ABSENT), (ask("GET /../x", CLOSE), ABSENT),
+            (ask("POST /s/x", CLOSE), NOT_ALLOWED),
+        ]
+    ],
+    # what can't become a head any more, and a front as long as a head may be
+    "refuses at once": [
+        (front, BAD) for front in [
+            b"\0", b"\r\rGET", b"GET /s/x HTTP/1.2", b"GET /s/x HTTP/1.1\r\nX : a", b"GET  /", b"GET /\x7f", b"a" * MOST_HEAD,
+            b"G" * 3 * MOST_HEAD,
+        ]
+    ],
+    # a peer goes on sending behind a request that is refused, and still gets the reply
+    "keeps the last reply": [(ask("POST /s/x", "Content-Length: 50000") + b"x" * 50000, BAD)],
+}
+
+
 def answers_replies(trial, requests):
     Served.of(trial).want_replies(requests)
 
 
+def answers_at_once(trial, requests):
+    with Served.of(trial).serving(len(requests)) as port:
+        for request, reply in requests:
+            with within(0, SILENCE / 2, f"to {request[:60]!r}"):
+                want(talk(port, request, half_close=False), reply, f"to {request[:60]!r}")
+
+
 def rows():
     yield from methods_of(Cases, Served)
-    for title, requests in REPLIES.items():
-        yield title, answers_replies, requests
+    for judge, table in ((answers_replies, REPLIES), (answers_at_once, AT_ONCE)):
+        yield from ((title, judge, requests) for title, requests in table.items())
 
 
 if __name__ == "__main__":

@@ -3,14 +3,14 @@
 
     tests/sharded.py [PROGRAM [COUNT]]
 
-Each is compared with a plain model. COUNT is the number of scales of each kind; some chunks are absent.
+COUNT is the number of scales of each kind; some chunks are absent.
 """
 import random
 import struct
 
 from harness import main, want
 from model import Sharding, Values, along, infos_of, line, printed, refused, spell
-from model.chance import pick_box, pick_stored, pick_volume, pick_writes, with_numbers
+from model.chance import damage_shard, pick_box, pick_stored, pick_volume, pick_writes, with_numbers
 
 
 def reads_scale(trial, seed, is_written):
@@ -32,21 +32,11 @@ SIX = line(11, 2, sharding=Sharding(minishard_bits=1))
 SIX_CHUNKS = {cell: bytes(range(2 * cell[0] + 1, min(2 * cell[0] + 3, 12))) for cell in SIX.cells}
 
 
-def damage(chance, shard):
-    """A shard of which some numbers are others, or the end is missing."""
-    numbers = {}
-    for _ in range(chance.randint(0, 2)):
-        number = chance.choice([0, 1, 2, 6, 24, 72, 78, 155, 1000, 2**63, 2**64 - 1, 2**64 - 2, chance.getrandbits(64)])
-        rows = 38 + 8 * chance.randrange(9), 115 + 8 * chance.randrange(9)
-        numbers[chance.choice([chance.choice([0, 8, 16, 24]), *rows])] = number
-    length = chance.choice([len(shard)] * 5 + [chance.randrange(len(shard))])
-    return with_numbers(shard, numbers)[:length]
-
-
 def reads_damaged(trial, seed):
-    """A damaged shard, cell by cell and as a whole."""
     chance = random.Random(f"damaged {seed}")
-    files = {path: damage(chance, shard) for path, shard in trial.store(SIX, SIX_CHUNKS).items()}
+    ((path, shard),) = trial.store(SIX, SIX_CHUNKS).items()
+    length = chance.choice([None] * 5 + [chance.randrange(len(shard))])
+    files = {path: damage_shard(chance, SIX, shard)[:length]}
     trial.lay_out(files)
     trial.want_cuts(SIX, files, [SIX.whole, *map(SIX.box_of, SIX.cells)])
 
@@ -112,7 +102,6 @@ def reads_many_rows(trial):
 
 
 def finds_first_and_last(trial):
-    """Of an index of 5,000 rows the chunk of the first and that of the last."""
     volume = line(5000, sharding=ONE_MINISHARD)
     values = random.Random("rows").randbytes(5000)
     (shard,) = trial.write(volume, [(volume.whole, values)]).values()

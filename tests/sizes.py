@@ -11,13 +11,13 @@ import itertools
 import json
 import random
 
-from harness import answers, main, want
+from harness import answers, leaves, main, want
 from model import (SEGMENTED, SHARDING, Values, Volume, info_of, infos_of, line, printed, refused, sound, spell, stored, stream_of, verdict)
 from model.chance import damage_some, pick_box, pick_boxes, pick_writes
 from model.pyramids import METHODS, next_of
 from model.segments import spell_loosely
 from model.small import padded_info
-from runs import leaves, list_run, want_made
+from runs import list_run, want_made
 
 
 def turned(volume):

@@ -3,22 +3,19 @@
 
     tests/system_calls.py [PROGRAM]
 
-It wants `strace`, which makes the calls fail, and is passed over with a word where that isn't installed or isn't allowed; so it is run
-by hand and isn't a part of the gate. Of each call to files, folders and streams that a plain run makes, the first, the second and so
-on fails: with an error of the device, with a full disk, and with a signal, which is tried again or is a fault; and the call fails from
-then on, as on a device that is lost. Each run has a folder of its own; afterwards whole objects stand there, the first ones that are
-due, and no half of one, but that a device that is lost, a copy or a next scale into shards, and an update of some may leave one file whose
-name ends in .part. A cutout may have printed a front of its values. Of a served run the calls to peers fail too: each peer gets a front of
-the replies that are due, or that the store failed in place of one. And of some runs it is counted how many bytes of their objects they
-read.
+It wants `strace`, which makes the calls fail, and is passed over with a word where that isn't installed or isn't allowed. Of each call to
+files, folders and streams that a plain run makes, the first, the second and so on fails: with an error of the device, with a full disk,
+and with a signal, which is tried again or is a fault; and the call fails from then on, as on a device that is lost. Afterwards whole
+objects stand, the first ones that are due, and no half of one, but that a device that is lost, a copy or a next scale into shards, and an
+update of some may leave one file whose name ends in .part. Of a served run the calls to peers fail too.
 """
 import collections
 import functools
+import itertools
 import re
 import shutil
 import subprocess
 import sys
-import typing
 
 from disturbed import DEEP_RUNS, FULL_ROW, RUNS, SIZES_RUNS, in_store, want_front_of
 from harness import LIMIT, Wrong, main, want, want_true, words_in, wrong_with
@@ -130,55 +127,47 @@ def want_failed_served(found, call, _is_lost):
     want_true(is_due, f"status {status}, the peers got {got!r}")
 
 
-class Traced(typing.NamedTuple):
-    """A run that is traced: the calls that fail, what runs it with options of strace, what is due, and what judges a failed one."""
-
-    calls: set
-    trace: typing.Callable
-    due: tuple
-    want_failed: typing.Callable
-
-
-def want_each(run, call, count, failure, statuses):
-    """Each call of a kind fails in turn."""
+def want_each(trace, want_failed_run, call, count, failure, statuses):
     fault, later = failure
     for number in range(1, count + 1):
         options = ["-e", f"trace={call}", "-e", f"inject={call}:error={fault}:when={number}{later}"]
         try:
-            found, lines = run.trace(options)
+            found, lines = trace(options)
             want_true(any("(INJECTED)" in line for line in lines), "it didn't fail")
             statuses[found[0]] += 1
-            run.want_failed(found, call, bool(later))
+            want_failed_run(found, call, bool(later))
         except (subprocess.TimeoutExpired, TimeoutError) as error:
             raise Wrong(f"call {number}: it doesn't end") from error
         except Wrong as wrong:
             raise Wrong(f"call {number}: {wrong}") from wrong
 
 
-def fails_each(title, run):
-    """Each kind of call of a run, and each way to fail."""
-    plain, lines = run.trace([])
-    yield f"{title}, no call fails", wrong_with(want, plain, run.due)
+def fails_each(title, to_fail, trace, due, want_failed_run):
+    """
+    Each kind of call of a run that is to fail, and each way to fail: `trace` runs it with options of strace, and `want_failed_run` judges
+    one of which a call failed.
+    """
+    plain, lines = trace([])
+    yield f"{title}, no call fails", wrong_with(want, plain, due)
     counts = collections.Counter(found[1] for found in (re.match(r"\d+ +(\w+)\(", line) for line in lines) if found)
-    others = sorted(set(counts) - run.calls - TO_OTHERS)
+    others = sorted(set(counts) - to_fail - TO_OTHERS)
     yield f"{title}, the kinds of its calls", f"others: {others}" if others else None
-    statuses, calls = collections.Counter(), sorted(set(counts) & run.calls)
-    for call in calls:
-        for failure in FAILURES:
-            wrong = wrong_with(want_each, run, call, counts[call], failure, statuses)
-            yield f"{title}, {call} {''.join(failure)}", wrong
+    statuses, calls = collections.Counter(), sorted(set(counts) & to_fail)
+    for call, failure in itertools.product(calls, FAILURES):
+        wrong = wrong_with(want_each, trace, want_failed_run, call, counts[call], failure, statuses)
+        yield f"{title}, {call} {''.join(failure)}", wrong
     told = ", ".join(f"{counts[call]} {call}" for call in calls)
     print(f"{title}: {told}; runs by their status: {dict(sorted(statuses.items()))}", flush=True)
 
 
 def fails_each_of(trial, title, run):
     trace = functools.partial(trace_run, trial, run)
-    return fails_each(title, Traced(TO_FILES, trace, (*run.ending, run.after()), functools.partial(want_failed, run)))
+    return fails_each(title, TO_FILES, trace, (*run.ending, run.after()), functools.partial(want_failed, run))
 
 
 def fails_each_served(trial):
     due = (OK, [b"listening"], b"", b"", WHOLE, FULL_ROW)
-    return fails_each("a served run", Traced(TO_FILES | TO_PEERS, functools.partial(trace_served, trial), due, want_failed_served))
+    return fails_each("a served run", TO_FILES | TO_PEERS, functools.partial(trace_served, trial), due, want_failed_served)
 
 
 # A line of 5,000 voxels, each a row of one index, of which 1,024 rows are read at a time.

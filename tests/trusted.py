@@ -5,11 +5,11 @@
     tests/trusted.py
 
 It reads docs/ and crates/, and runs nothing. A module is reached where the contract, a dial's, or a module that is reached, names it in
-a `use` line. The last line is 'N passed, N failed', and the status is 1 where a module is missing, or listed and not reached.
+a `use` line.
 """
 import re
 
-from harness import CRATES, ROOT, cells_of, is_defined, main_of_pages
+from harness import CRATES, ROOT, cells_of, is_defined, main_of_pages, module_of
 
 USE = re.compile(r"^\s*(?:ghost )?use Rattle\.(\w+)\.specs\.(declared\.)?(\w+)", re.M)
 
@@ -17,10 +17,6 @@ CONTRACTS = ("vol_tool/src/top.rt", "vol_serve/src/top.rt", "vol_fetch/src/fetch
 
 # commands, the program's call, a port and a member of a field
 NOT_DEFINED = {"cutout", "write", "update", "generate", "serve", "verify", "vol_serve", "run", "serde_json", "close"}
-
-
-def path_of(crate, module):
-    return CRATES / crate / "specs" / f"{module}.antt"
 
 
 def find_reached():
@@ -32,7 +28,7 @@ def find_reached():
             one = (bool(declared), crate, name)
             if (CRATES / crate).is_dir() and one not in found:
                 found.add(one)
-                waiting += [] if declared else [path_of(crate, name)]
+                waiting += [] if declared else [module_of(crate, name)]
     return found
 
 
@@ -49,7 +45,7 @@ def judge_all():
             listed.add(one)
             yield f"{crate} {one[2]}", [why for why, is_wrong in wrong.items() if is_wrong]
         if not is_type:
-            modules = "\n".join(path.read_text() for path in (path_of(crate, name) for name in names) if path.exists())
+            modules = [module_of(crate, name) for name in names]
             words = [word for word in re.findall(r"`(\w+)`", says) if not is_defined(word, modules) and word not in NOT_DEFINED]
             yield f"{crate} {', '.join(names)}: words", [f"{word} isn't defined there" for word in words]
     for _, crate, name in sorted(reached - listed):

@@ -9,10 +9,9 @@ values are those of a plain array, and all files are the model's, byte by byte, 
 """
 import dataclasses
 import itertools
-import os
 import random
 
-from harness import DEVICE, FOLDER, PIPE, answers, main, want, want_ending, want_files
+from harness import DEVICE, FOLDER, PIPE, answers, leaves, main, open_folder, want, want_ending, want_files
 from model import (
     SEGMENTED, Sharding, Values, Volume, along, box_in, damaged, infos_of, line, refused, stored, stream_of, verdict,
     voxels_in,
@@ -21,7 +20,7 @@ from model.chance import FORMS, damage_some, pick_stored, pick_volume, pick_writ
 from model.segments import bytes_of as chunk_of
 from model.shards import shard_of
 from model.small import FIRST, NO_FOLDER, changed, padded, shards, with_info
-from runs import is_killed_often, leaves, rows_of_stops, update_run
+from runs import is_killed_often, rows_of_stops, update_run
 
 WORKERS = [1, 2, 16]
 
@@ -295,14 +294,6 @@ REFUSED = [
 ]
 
 
-def refuses_folder_as_stream(trial):
-    feed = os.open("/", os.O_RDONLY)
-    try:
-        answers(trial, changed({FIRST: b""}), UPDATE, refused("feed fault"), feed)
-    finally:
-        os.close(feed)
-
-
 # Updates that are killed
 
 KILLS = 8
@@ -339,7 +330,7 @@ def rows(count):
         yield f"kills, {title}", rows_of_kills, volume
     for title, change, feed, told in REFUSED:
         yield title, answers, changed(change), UPDATE, refused(told), feed
-    yield "a folder as the stream", refuses_folder_as_stream
+    yield "a folder as the stream", answers, changed({FIRST: b""}), UPDATE, refused("feed fault"), open_folder
     for (title, *case), workers in itertools.product(STORED, WORKERS):
         yield f"{title}, {workers} workers", leaves_objects, *case, f"--workers={workers}"
     yield "other spellings", takes_other_spellings

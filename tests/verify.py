@@ -4,18 +4,14 @@
     tests/verify.py [PROGRAM [COUNT]]
 
 What is due is stated here, and worked out by a plain model (model/answers.py). COUNT is the number of random scales of each form.
-Each row has the chunks that write stored there; then numbers in its files are changed, or files are cut, longer, exchanged or gone.
-No run changes the folder.
 """
-import array
 import itertools
 import random
 import struct
-import sys
 
-from harness import FOLDER, PIPE, answers, main, open_closed_pipe, open_full, want, want_ending
+from harness import FOLDER, NO_OUTPUTS, PIPE, answers, main, want_ending
 from model import (
-    OK, SEGMENTED, Sharding, Volume, along, box_in, infos_of, line, meets, printed, refused, rows_of, sound, spell, verdict, voxels_in,
+    SEGMENTED, Sharding, Volume, along, box_in, infos_of, line, meets, printed, refused, rows_of, sound, spell, verdict, voxels_in,
 )
 from model.chance import FORMS, damage_some, pick_box, pick_volume, pick_writes, with_numbers
 from model.small import FIRST, NO_CHUNKS, NO_FOLDER, SECOND, WHOLE, changed, padded, shards, with_info
@@ -254,7 +250,7 @@ LARGE = [
     ("the last index", MANY_INDEXES, [entry(2047, 9, 8)], None, "damaged 2047,0,0: shard bad range"),
 ]
 
-# Files that are too large for the model: with holes, or with an index of 2^22 rows.
+# Files that are too large for the model: numbers of eight bytes, or bytes, by their places, with holes between.
 ONE = line(1)
 ONE_IN_A_SHARD = line(1, sharding=Sharding(preshift=64))
 LONGEST = line(1, sharding=Sharding(63, False, 1, 0))
@@ -267,18 +263,17 @@ def far_index(start):
     return {0: [FAR_BEHIND + 1, FAR_BEHIND + 25], 16 + FAR_BEHIND + 1: [0, start, 1]}
 
 
-def longest_index(numbers):
-    """An index of 2^22 rows, with other numbers by column and row. Its ids are 0, 1, 2 and so on; all chunks but the first are empty."""
-    columns = [array.array("Q", [1]) * 2**22, array.array("Q", bytes(2**25)), array.array("Q", bytes(2**25))]
-    for (column, number), value in {(0, 0): 0, (2, 0): 1, **numbers}.items():
-        columns[column][number] = value
-    for column in columns:
-        if sys.byteorder == "big":
-            column.byteswap()
-    return struct.pack("<4Q", 1, 1 + 24 * 2**22, 0, 0) + b"x" + b"".join(column.tobytes() for column in columns)
+# The step from each id of an index of 2^22 rows to the next.
+STEPS = bytes(8) + (2**22 - 1) * struct.pack("<Q", 1)
 
 
-# title, volume, numbers of its one file and where they stand behind holes, line
+def longest_index(column=2, number=0, value=1):
+    """An index of 2^22 rows, of which one has another number. Its ids are 0, 1, 2 and so on; all chunks but the first are empty."""
+    rows = {33: STEPS, 33 + 2**26: [1], 25 + 24 * 2**22: [0], 33 + 8 * (column * 2**22 + number): [value]}
+    return dict(sorted({0: [1, 1 + 24 * 2**22, 0, 0], 32: b"x", **rows}.items()))
+
+
+# title, volume, what its one file holds, line
 ONE_FILE = [
     ("an index behind a hole", ONE_IN_A_SHARD, far_index(FAR_BEHIND), "cells 1 stored 1 absent 0"),
     ("a chunk behind its index", ONE_IN_A_SHARD, far_index(2 * FAR_BEHIND), "damaged 0,0,0: shard short chunk"),
@@ -286,24 +281,15 @@ ONE_FILE = [
     ("2^22 + 1 rows of a hole", ONE_IN_A_SHARD, {0: [0, 24 * (2**22 + 1)], 24 * (2**22 + 1): [0, 0]},
      "damaged 0,0,0: shard too many rows 4194305"),
     ("a chunk of 64 GiB", ONE, {FAR_BEHIND: [0]}, "damaged 0,0,0: chunk length 2 wanted 1"),
-]
-
-# title, numbers of an index of 2^22 rows by column and row, line
-LONGEST_INDEX = [
-    ("an index of 2^22 rows", {}, "cells 1 stored 1 absent 0"),
-    ("a size that passes 64 bits at its end", {(2, LAST_ROW): TOP}, f"damaged 0,0,0: index start {LAST_ROW}"),
-    ("a misplaced id at its end", {(0, LAST_ROW): 2**63}, f"misplaced 0 0 {2**63 + LAST_ROW - 1}"),
+    ("an index of 2^22 rows", LONGEST, longest_index(), "cells 1 stored 1 absent 0"),
+    ("a size that passes 64 bits at its end", LONGEST, longest_index(2, LAST_ROW, TOP), f"damaged 0,0,0: index start {LAST_ROW}"),
+    ("a misplaced id at its end", LONGEST, longest_index(0, LAST_ROW, 2**63), f"misplaced 0 0 {2**63 + LAST_ROW - 1}"),
 ]
 
 
-def is_told_of_one_file(trial, volume, numbers, text):
-    content = {place: struct.pack(f"<{len(values)}Q", *values) for place, values in numbers.items()}
+def is_told_of_one_file(trial, volume, pieces, text):
+    content = {at: piece if isinstance(piece, bytes) else struct.pack(f"<{len(piece)}Q", *piece) for at, piece in pieces.items()}
     trial.lay_out({**infos_of(volume), volume.path_of((0, 0, 0)): content})
-    trial.want(call(), told(text))
-
-
-def is_told_of_longest_index(trial, numbers, text):
-    trial.lay_out({**infos_of(LONGEST), LONGEST.path(SHARD): longest_index(numbers)})
     trial.want(call(), told(text))
 
 
@@ -336,7 +322,7 @@ def judges_form(trial, block, sharding):
 
 
 def judges_random(trial, seed, is_raw, in_shards):
-    """What boxes at random leave is sound; then some files are damaged. Where all is sound, a cutout isn't refused."""
+    """What boxes at random leave is sound; then some files are damaged."""
     chance = random.Random(f"{seed} {is_raw} {in_shards}")
     volume = pick_volume(chance, is_raw, in_shards)
     boxes = [pick_box(chance, volume) for _ in range(3)]
@@ -345,9 +331,7 @@ def judges_random(trial, seed, is_raw, in_shards):
     files = trial.files()
     for box in (None, *boxes):
         trial.want_unchanged(call(box), verdict(volume, files, box))
-    if verdict(volume, files)[0] == OK:
-        status, _, errors = trial.run(volume.words("cutout", spell(volume.whole)))
-        want((status, errors), (OK, b""), "a cutout")
+    trial.want_cuts(volume, files, [volume.whole])
 
 
 # Runs over the small data set.
@@ -359,7 +343,7 @@ IN_ONE = {**with_info(**shards()), FIRST: None}
 CELLS = "too many cells 4194305"
 
 # title, what is changed, words, line. First come the words, then the info, the box, the number of cells, and then the cells.
-REFUSED = [
+SMALL = [
     ("a box outside, of too many cells", LARGEST, [OUTSIDE], f"box {OUTSIDE} outside [0:{2**40},0:{2**40},0:{2**40}]"),
     ("2^22 + 1 cells", TOO_LONG, [], CELLS), ("a box of 2^22 + 1 cells", LARGEST, [f"[7:{2**22 + 8},3:4,9:10]"], CELLS),
     ("2^120 cells", LARGEST, [], f"too many cells {2**120}"),
@@ -373,10 +357,6 @@ REFUSED = [
     ("a short shard", {**IN_ONE, "d/s/0.shard": b"short"}, [], "damaged 0,0,0: shard short index"),
     ("a pipe before a damaged chunk", {FIRST: PIPE, SECOND: b""}, [], "store fault"),
     ("a damaged chunk before a pipe", {FIRST: b"", SECOND: PIPE}, [], "damaged 0,0,0: chunk length 0 wanted 4"),
-]
-
-# title, what is changed, words, line
-SERVED = [
     ("a sound dataset", {}, [], "cells 2 stored 2 absent 0"), ("the whole scale as a box", {}, [WHOLE], "cells 2 stored 2 absent 0"),
     ("a voxel", {}, ["[2:3,1:2,0:1]"], "cells 1 stored 1 absent 0"),
     ("a pipe outside the box", {SECOND: PIPE}, ["[0:2,0:2,0:1]"], "cells 1 stored 1 absent 0"),
@@ -392,16 +372,13 @@ SERVED = [
 ]
 
 
-def puts_out(trial, change, opened, line):
-    answers(trial, changed(change), call(), refused(line), output=opened)
-
-
 def rows(count):
-    for title, change, more, line in REFUSED + SERVED:
+    for title, change, more, line in SMALL:
         yield title, answers, changed(change), [*call(), *more], told(line)
-    for title, opened in (("a full device", open_full), ("a closed pipe", open_closed_pipe)):
-        yield f"the line to {title}", puts_out, {}, opened, "output fault"
-        yield f"no line to {title}", puts_out, {FIRST: b""}, opened, "damaged 0,0,0: chunk length 0 wanted 4"
+    for title, output in NO_OUTPUTS:
+        yield f"the line to {title}", answers, changed(), call(), refused("output fault"), b"", output
+        empty = refused("damaged 0,0,0: chunk length 0 wanted 4")
+        yield f"no line to {title}", answers, changed({FIRST: b""}), call(), empty, b"", output
     for title, *case in IN_FILES:
         yield f"in files, {title}", is_told, PLAIN, *case
     for title, *case in IN_A_SHARD:
@@ -412,8 +389,6 @@ def rows(count):
         yield title, is_told, *case, False
     for title, *case in ONE_FILE:
         yield title, is_told_of_one_file, *case
-    for title, *case in LONGEST_INDEX:
-        yield title, is_told_of_longest_index, *case
     for (encoding, block), sharding in itertools.product(BLOCKS.items(), SHARDINGS):
         yield f"{encoding}, {sharding}", judges_form, block, sharding
     for seed, (is_raw, in_shards) in itertools.product(range(count), FORMS):

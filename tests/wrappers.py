@@ -2,9 +2,6 @@
 """Tries the scripts of bin/, install and demo around the built vol_tool, with a stand-in for `rt` that builds at once, or not.
 
     tests/wrappers.py [PROGRAM]
-
-Each row has a tree of its own: bin/, install, demo, docs/ and examples/ of this one, a source, and what its title says of the program,
-which is called through one of the three scripts of bin/.
 """
 import os
 import pathlib
@@ -98,7 +95,6 @@ class Tree:
             os.utime(self.program, (1, 1))
 
     def put(self, name, text):
-        """A program, or none."""
         path = self.folder / name
         if text is not None:
             path.parent.mkdir(parents=True, exist_ok=True)

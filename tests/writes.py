@@ -2,20 +2,18 @@
 """Runs the built vol_tool on streams of writes: each leaves the objects that are due, and reads back as it was written.
 
     tests/writes.py [PROGRAM]
-
-What is due is stated here, and worked out voxel by voxel. A stream is read no further than its fault, and a cutout of a large scale gets
-by with the memory of one layer of its chunks.
 """
+import functools
 import itertools
 import os
 import random
 import subprocess
 import tempfile
 
-from harness import FOLDER, LIMIT, answers, file_limit, main, memory_limit, want, want_ending, want_files
+from harness import FOLDER, LIMIT, answers, file_limit, leaves, main, memory_limit, want, want_ending, want_files
 from model import MEMORY, OK, Values, Volume, box_in, bytes_of, head_of, infos_of, line, refused, stored, stream_of, voxels_in
 from model.chance import pick_box
-from runs import leaves, rows_of_stops, write_run
+from runs import rows_of_stops, write_run
 
 SMALL = Volume([2, 2, 1], [2, 2, 1])
 EDGE = line(5, 4)
@@ -47,7 +45,6 @@ STORED = [
 
 
 def leaves_objects(trial, volume, writes, objects, *options):
-    """A write leaves these objects, and a cutout of the whole scale gives the values back."""
     due = {volume.path(name): bytes.fromhex(content) for name, content in objects.items()}
     want_files(trial.write(volume, writes, *options), due, "the model's object")
     trial.want_values(volume, Values(volume, writes), [volume.whole])
@@ -59,11 +56,6 @@ TWO_SCALES = {**FOUR, **infos_of(SMALL, Volume([2, 2, 1], [2, 2, 1], key="t/u"))
 WRITE = "write d s"
 
 
-def leaves_no_half(trial, stream):
-    """The system takes a part of an object alone: nothing is left of it."""
-    leaves(trial, infos_of(SMALL), WRITE, refused("store fault"), {}, stream, prepare=file_limit(1))
-
-
 def may_not_write(trial):
     """A folder that lets nobody write. Where the user may write all the same, nothing is asked."""
     trial.lay_out({**infos_of(SMALL), "d/s": FOLDER})
@@ -73,7 +65,6 @@ def may_not_write(trial):
 
 
 def takes_pieces(trial, length):
-    """A stream that comes in pieces is the same stream."""
     run, pipe = write_run(EDGE, [ALL_FIVE, ACROSS]), subprocess.PIPE
     trial.lay_out(run.before)
     process = trial.start(run.words, stdin=pipe, stdout=pipe, stderr=pipe, bufsize=0)
@@ -133,7 +124,6 @@ RANDOM = [
 
 
 def writes_at_random(trial, seed, volume, count, options):
-    """Overlapping boxes at random, and cutouts of other boxes."""
     chance = random.Random(seed)
     boxes = [pick_box(chance, volume) for _ in range(count)]
     writes = [(box, chance.randbytes(voxels_in(box) * volume.channels * volume.width)) for box in boxes]
@@ -150,7 +140,9 @@ def rows():
     last, four = stream_of([LAST]), stream_of([ALL_FOUR])
     yield "a second write", leaves, FOUR, WRITE, refused("folder not empty"), {}, last
     yield "a second scale", leaves, TWO_SCALES, "write d t/u", stored(1, 1), {"d/t/u/0-2_0-2_0-1": bytes([0, 0, 0, 9])}, last
-    yield "a file that can't grow", leaves_no_half, four
+    # the system takes a part of an object alone: nothing is left of it
+    in_a_byte = functools.partial(leaves, prepare=file_limit(1))
+    yield "a file that can't grow", in_a_byte, infos_of(SMALL), WRITE, refused("store fault"), {}, four
     yield "a folder that can't be written", may_not_write
     yield from rows_of_stops(write_run(ROW, [ALL_THREE]))
     for length in (1, 7, 48):

@@ -45,65 +45,42 @@ def judge_index(sharding, place, shard):
             raise Unsound(f"misplaced {number} {minishard} {own}")
 
 
-def is_stored(volume, files, cell):
-    """Whether a cell's chunk is stored; raises what is wrong with it, or on the way to it."""
-    shard = files.get(volume.path_of(cell))
-    if volume.sharding is not None and shard is not None:
-        judge_index(volume.sharding, volume.place(cell), shard)
-    return volume.read(files, cell) is not None
-
-
-def read_values(volume, files, box):
-    """The values of a box by the first chunk size, of which no cell has a fault there."""
-    values = Values(volume)
-    for cell in volume.cells_in(box):
-        if raw := volume.read(files, cell):
-            values.put(volume.box_of(cell), raw)
-    return values
-
-
-def agrees(number, view, values, files, cell, box):
-    """Whether a cell of a further chunk size is stored; raises its fault, or its first value in a box that is another."""
-    raw = view.read(files, cell)
-    own = Values(view)
-    if raw is not None:
-        own.put(view.box_of(cell), raw)
-    common = [(max(a, c), min(b, d)) for (a, b), (c, d) in zip(view.box_of(cell), box)]
-    for channel, z, y, x in itertools.product(range(view.channels), *(range(*common[axis]) for axis in (2, 1, 0))):
-        found, wanted = own.at((x, y, z), channel), values.at((x, y, z), channel)
+def want_alike(number, view, cell, raw, box, values):
+    """What a cell of a further chunk size has in a box are these values."""
+    own = Values(view, [] if raw is None else [(view.box_of(cell), raw)])
+    x, y, z = (range(max(a, c), min(b, d)) for (a, b), (c, d) in zip(view.box_of(cell), box))
+    for channel, k, j, i in itertools.product(range(view.channels), z, y, x):
+        found, wanted = own.at((i, j, k), channel), values.at((i, j, k), channel)
         if found != wanted:
-            raise Unsound(f"conflict {number} {x},{y},{z} {channel} {found} {wanted}")
-    return raw is not None
+            raise Unsound(f"conflict {number} {i},{j},{k} {channel} {found} {wanted}")
 
 
-def judge_cells(judge, cells, number=0):
-    """Of cells of a chunk size whether each is stored, as `judge` tells; raises what is wrong with the first that isn't sound."""
-    for cell in cells:
-        try:
-            yield judge(cell)
-        except Damaged as fault:
-            raise Unsound(damaged(cell, fault, number)) from fault
-
-
-def judge_sizes(volume, files, box):
+def judge_cells(volume, files, box):
     """Of the cells of each chunk size that meet a box whether they are stored; raises what is wrong first."""
-    first, *further = volume.views
-    yield from judge_cells(lambda cell: is_stored(first, files, cell), first.cells_in(box))
-    values = read_values(first, files, box) if further else None
-    for number, view in enumerate(further, 1):
-        judge = functools.partial(agrees, number, view, values, files, box=box)
-        yield from judge_cells(judge, view.cells_in(box), number)
+    for number, view in enumerate(volume.views):
+        if number == 1:
+            values = Values(volume, [(box, cutout(volume, files, box)[1])])
+        for cell in view.cells_in(box):
+            try:
+                shard = files.get(view.path_of(cell))
+                if view.sharding is not None and shard is not None:
+                    judge_index(view.sharding, view.place(cell), shard)
+                raw = view.read(files, cell)
+            except Damaged as fault:
+                raise Unsound(damaged(cell, fault, number)) from fault
+            if number > 0:
+                want_alike(number, view, cell, raw, box, values)
+            yield raw is not None
 
 
 def sound(cells, stored):
-    """What a judgement of a part ends with that is sound."""
     return printed(f"cells {cells} stored {stored} absent {cells - stored}")
 
 
 def verdict(volume, files, box=None):
     """What judging a box, or the whole scale, ends with."""
     try:
-        stored = list(judge_sizes(volume, files, box or volume.whole))
+        stored = list(judge_cells(volume, files, box or volume.whole))
     except Unsound as line:
         return refused(str(line))
     return sound(len(stored), sum(stored))

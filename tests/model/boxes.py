@@ -10,7 +10,6 @@ def box_in(text):
 
 
 def spell(box):
-    """The word of a box."""
     return "[" + ",".join(f"{begin}:{end}" for begin, end in box) + "]"
 
 
@@ -48,6 +47,5 @@ def bytes_of(begin, size):
 
 
 def stream_of(writes):
-    """The stream of writes, each a box and the bytes of its values."""
     boxes = (bytes_of([begin for begin, _ in box], [end - begin for begin, end in box]) + values for box, values in writes)
     return head_of(len(writes)) + b"".join(boxes)

@@ -19,11 +19,8 @@ VOLUMES = {
 def ascending(volume):
     """The chunks of all cells with the values 1, 2, 3 and so on, or these times 2^33 + 1 where they are wide."""
     step = 1 if volume.width == 4 else 2**33 + 1
-    chunks = {}
-    for cell in volume.cells:
-        values = (step * (number + 1) for number in range(volume.shape(cell).count()))
-        chunks[cell] = volume.spell(cell, b"".join(value.to_bytes(volume.width, "little") for value in values))
-    return chunks
+    raws = {cell: bytes_of([step * (at + 1) for at in range(volume.shape(cell).count())], volume.width) for cell in volume.cells}
+    return {cell: volume.spell(cell, raw) for cell, raw in raws.items()}
 
 
 # What is done to the words of a chunk, and with which number.

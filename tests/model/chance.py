@@ -66,7 +66,6 @@ def pick_volume(chance, is_raw, in_shards):
 
 
 def pick_box(chance, volume):
-    """A box inside a scale."""
     return [tuple(sorted(chance.sample(range(begin, end + 1), 2))) for begin, end in volume.whole]
 
 
@@ -110,12 +109,6 @@ def pick_writes(chance, volume, count, like=None):
     elif form > 0.75:
         boxes.append(corners(pick_box(chance, volume))[0])
     return [(box, pick_values(chance, like or volume, box)) for box in boxes]
-
-
-def pick_chunks(chance, volume, spell, like=None):
-    """Chunks of some of the cells, which `spell` makes of a cell and the bytes of its values."""
-    cells = [cell for cell in volume.cells if chance.random() < 0.7]
-    return {cell: spell(cell, pick_values(chance, like or volume, volume.box_of(cell))) for cell in cells}
 
 
 def choose(chance, usual, odd, seldom):
@@ -174,7 +167,6 @@ def damage_shard(chance, volume, shard):
 
 
 def damage_inside(chance, volume, path, content):
-    """A shard, a segmentation chunk or a raw one of which some bytes are others."""
     if volume.sharding is not None:
         return damage_shard(chance, volume, content)
     if volume.block is not None:
@@ -208,7 +200,8 @@ def pick_stored(chance, volume, like=None, is_sound=False):
         loose = spell_loosely(chance, volume.shape(cell), raw)
         return volume.spell(cell, raw) if is_sound and len(loose) > volume.limit(cell) else loose
 
-    return pick_chunks(chance, volume, spell_some, like)
+    cells = [cell for cell in volume.cells if chance.random() < 0.7]
+    return {cell: spell_some(cell, pick_values(chance, like or volume, volume.box_of(cell))) for cell in cells}
 
 
 def some_chunks(volume):

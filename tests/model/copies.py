@@ -9,34 +9,31 @@ with the first such cell of the source, x fastest in its box; the files whose ce
 project's own rule; what chunks and shards say is the format's.)
 """
 import dataclasses
+import itertools
 
 from .faults import Damaged, damaged, refused, stored
 from .volumes import Values
 
 
 @dataclasses.dataclass(frozen=True)
-class Copy:
+class Made:
     """
-    What is read of the source's cells; the values; how many cells are copied; the paths of all files, in their order; those that may
-    stand, with their bytes; and the first fault with its cell.
+    What a run ends with that makes cells; how many, with which values; the paths of all files, in their order; those that may stand,
+    with their bytes; and what is read of the cells that are there.
     """
 
-    there: dict
-    values: Values
+    answer: tuple
     cells: int
+    values: Values
     paths: list
     files: dict
-    fault: tuple = None
-
-    def answer(self):
-        """What the copy ends with."""
-        return stored(len(self.files), self.cells) if self.fault is None else refused(damaged(*self.fault))
+    there: dict
 
 
-def read_cells(volume, files):
-    """Of each cell that is there the bytes of its values, or its fault."""
+def read_cells(volume, files, cells=None):
+    """Of each cell that is there, of all or of these, the bytes of its values, or its fault."""
     found = {}
-    for cell in volume.cells:
+    for cell in volume.cells if cells is None else cells:
         try:
             found[cell] = volume.read(files, cell)
         except Damaged as fault:
@@ -44,29 +41,29 @@ def read_cells(volume, files):
     return {cell: read for cell, read in found.items() if read is not None}
 
 
-def values_of(volume, there):
-    """The values of what is read of a scale's cells; one with a fault counts as zeros."""
-    return Values(volume, [(volume.box_of(cell), raw) for cell, raw in there.items() if isinstance(raw, bytes)])
+def values_of(volume, there, writes=()):
+    """The values of what is read of a scale's cells, and of writes over it; a cell with a fault counts as zeros."""
+    return Values(volume, [*((volume.box_of(cell), raw) for cell, raw in there.items() if isinstance(raw, bytes)), *writes])
+
+
+def make(volume, met, there, values):
+    """Cells are made in their order, each with cells that it is made of, by what is read of these: up to the first that has a fault."""
+    paths = {cell: volume.path_of(cell) for cell in volume.in_order(met)}
+    faults = ((own, damaged(cell, there[cell])) for own in paths for cell in met[own] if isinstance(there.get(cell), Damaged))
+    stopped, fault = next(faults, (None, None))
+    front = itertools.takewhile(lambda own: paths[own] != paths.get(stopped), paths)
+    files = volume.files({own: volume.spell(own, values.of(volume.box_of(own))) for own in front})
+    answer = stored(len(files), len(met)) if fault is None else refused(fault)
+    return Made(answer, len(met), values, list(dict.fromkeys(paths.values())), files, there)
 
 
 def made_of(source, target, there, values, box_over=lambda box: box):
-    """The files with these values that are made of what is read of the source's cells, each under the box that `box_over` gives."""
-    # each cell that is made, with the cells of the source that it is made of, x fastest
+    """What is made with these values of what is read of the source's cells, each under the box that `box_over` gives."""
     met = {}
     for cell in there:
         for own in target.cells_in(box_over(source.box_of(cell))):
             met.setdefault(own, []).append(cell)
-    ordered = target.in_order(met)
-    faults = ((own, cell) for own in ordered for cell in met[own] if not isinstance(there[cell], bytes))
-    stopped, first = next(faults, (None, None))
-    chunks = {}
-    for own in ordered:
-        if stopped is not None and target.path_of(own) == target.path_of(stopped):
-            break
-        chunks[own] = target.spell(own, values.of(target.box_of(own)))
-    paths = list(dict.fromkeys(map(target.path_of, ordered)))
-    fault = None if stopped is None else (first, there[first])
-    return Copy(there, values, len(met), paths, target.files(chunks), fault)
+    return make(target, met, there, values)
 
 
 def copy_of(source, target, files):

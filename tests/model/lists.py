@@ -15,22 +15,14 @@ def draws(state):
     return below
 
 
-def draw_boxes(volume, number, count):
-    """The boxes of the list of a number."""
-    below, boxes = draws(number), []
-    for _ in range(count):
+def generated(volume, number, count):
+    """The list: boxes with the bytes of their values."""
+    below, writes, zeros = draws(number), [], bytes(volume.width - 1)
+    for write in range(count):
         box = []
         for offset, size in zip(volume.offset, volume.size):
             begin = below(size)
             box.append((offset + begin, offset + begin + 1 + below(min(64, size - begin))))
-        boxes.append(box)
-    return boxes
-
-
-def generated(volume, number, count):
-    """The list: boxes with the bytes of their values."""
-    writes, zeros = [], bytes(volume.width - 1)
-    for write, box in enumerate(draw_boxes(volume, number, count)):
         first, length = (number + 31 * write) % 256, voxels_in(box) * volume.channels
         values = (bytes(range(256)) * (length // 256 + 2))[first : first + length]
         writes.append((box, b"".join(bytes([value]) + zeros for value in values) if zeros else values))
@@ -38,8 +30,7 @@ def generated(volume, number, count):
 
 
 def sum_of(volume, writes):
-    """The sum of all values after writes."""
-    raw, width = Values(volume, writes).all(), volume.width
+    raw, width = Values(volume, writes).raw, volume.width
     return sum(sum(raw[byte::width]) << (8 * byte) for byte in range(width)) % 2**64
 
 

@@ -24,7 +24,6 @@ def head_of(status, count, *lines):
 
 
 def whole_of(content):
-    """The reply that has a whole object."""
     return head_of("200 OK", len(content)) + content
 
 

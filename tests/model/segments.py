@@ -36,30 +36,17 @@ class Shape:
         return math.prod(self.size) * self.channels
 
 
-def words_of(chunk):
-    return [int.from_bytes(chunk[at : at + 4], "little") for at in range(0, len(chunk), 4)]
+def words_of(chunk, width=4):
+    """The words of bytes, or numbers of another width."""
+    return [int.from_bytes(chunk[at : at + width], "little") for at in range(0, len(chunk), width)]
 
 
-def bytes_of(words):
-    return b"".join(word.to_bytes(4, "little") for word in words)
-
-
-def values_in(shape, raw):
-    """The values of raw bytes, in their order."""
-    return [int.from_bytes(raw[at : at + shape.width], "little") for at in range(0, len(raw), shape.width)]
-
-
-def words_in(number, count):
-    """The words of a number, the low one first."""
-    return [number >> (32 * word) & 0xFFFFFFFF for word in range(count)]
-
-
-def words_of_table(shape, values):
-    return [word for value in values for word in words_in(value, shape.width // 4)]
+def bytes_of(words, width=4):
+    return b"".join(word.to_bytes(width, "little") for word in words)
 
 
 def number_of(words):
-    return sum(word << (32 * at) for at, word in enumerate(words))
+    return int.from_bytes(bytes_of(words), "little")
 
 
 def packed_words(voxels, bits):
@@ -67,8 +54,13 @@ def packed_words(voxels, bits):
     return -(-voxels * bits // 32)
 
 
+def pack(shape, bits, indices):
+    """The words of the indices of a block, by the numbers of its voxels."""
+    packed = sum(index << (number * bits) for number, index in indices.items())
+    return words_of(packed.to_bytes(4 * packed_words(shape.block_voxels(), bits), "little"))
+
+
 def encode_channel(shape, values, channel):
-    """The words of a channel: headers, and behind them each block's indices and, where it is new, its table."""
     blocks = shape.blocks()
     headers, behind, tables = [], [], {}
     for begin in blocks:
@@ -76,19 +68,18 @@ def encode_channel(shape, values, channel):
         table = tuple(sorted(set(own.values())))
         index = {value: place for place, value in enumerate(table)}
         bits = next(bits for bits in BITS if len(table) <= 2**bits)
-        packed = sum(index[value] << (number * bits) for number, value in own.items())
         indices = 2 * len(blocks) + len(behind)
-        behind += words_in(packed, packed_words(shape.block_voxels(), bits))
+        behind += pack(shape, bits, {number: index[value] for number, value in own.items()})
         if table not in tables:
             tables[table] = 2 * len(blocks) + len(behind)
-            behind += words_of_table(shape, table)
+            behind += words_of(bytes_of(table, shape.width))
         headers += [tables[table] | bits << 24, indices]
     return headers + behind
 
 
 def encode(shape, raw):
     """This project's spelling of the values of raw bytes."""
-    values = values_in(shape, raw)
+    values = words_of(raw, shape.width)
     channels = [encode_channel(shape, values, channel) for channel in range(shape.channels)]
     starts = itertools.accumulate(map(len, channels[:-1]), initial=shape.channels)
     return bytes_of([*starts, *itertools.chain(*channels)])
@@ -114,7 +105,6 @@ def decode_block(shape, words, channel, number, begin, start, found):
 
 
 def decode(shape, chunk):
-    """The raw bytes of a chunk's values, or the first fault."""
     words = words_of(chunk[: len(chunk) // 4 * 4])
     if len(chunk) % 4 or len(words) < shape.channels:
         raise Damaged(f"seg length {len(chunk)}")
@@ -126,7 +116,7 @@ def decode(shape, chunk):
             raise Damaged(f"seg channel {channel}")
         for number, begin in enumerate(blocks):
             decode_block(shape, words, channel, number, begin, start, found)
-    return b"".join(value.to_bytes(shape.width, "little") for value in found)
+    return bytes_of(found, shape.width)
 
 
 # Another program's spelling.
@@ -137,16 +127,14 @@ def spell_block(chance, shape, own):
     table = list(set(own.values())) + chance.choices(list(own.values()), k=chance.randint(0, 2))
     chance.shuffle(table)
     bits = chance.choice([bits for bits in BITS if len(table) <= 2**bits])
-    packed = 0
-    for number in range(shape.block_voxels()):
-        index = table.index(own[number]) if number in own else chance.getrandbits(32)
-        packed |= (index & (2**bits - 1)) << (number * bits)
-    return bits, words_in(packed, packed_words(shape.block_voxels(), bits)), words_of_table(shape, table)
+    indices = (table.index(own[number]) if number in own else chance.getrandbits(32) for number in range(shape.block_voxels()))
+    packed = pack(shape, bits, {number: index % 2**bits for number, index in enumerate(indices)})
+    return bits, packed, words_of(bytes_of(table, shape.width))
 
 
 def spell_loosely(chance, shape, raw):
     """The values of raw bytes with all headers in front, and behind them indices and tables in any order, with gaps."""
-    values, blocks = values_in(shape, raw), shape.blocks()
+    values, blocks = words_of(raw, shape.width), shape.blocks()
     spelled = []
     for channel, begin in itertools.product(range(shape.channels), blocks):
         own = {number: values[place] for place, number in shape.voxels_of(channel, begin)}

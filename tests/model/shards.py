@@ -17,7 +17,6 @@ class Sharding:
     shard_bits: int = 0
 
     def member(self):
-        """The scale's member `sharding`."""
         return {
             "@type": "neuroglancer_uint64_sharded_v1",
             "preshift_bits": self.preshift,
@@ -33,7 +32,6 @@ class Sharding:
         return (hashed >> self.minishard_bits) % 2**self.shard_bits, hashed % 2**self.minishard_bits
 
     def file(self, shard):
-        """The last part of a shard's name."""
         return f"{shard:0{max(1, math.ceil(self.shard_bits / 4))}x}.shard"
 
 
@@ -106,20 +104,13 @@ def walk_rows(shard, begin, rows):
         yield number, start, size
 
 
-def find_row(shard, begin, rows, wanted):
-    """The start and the size of a chunk by its id, or None: rows up to the first whose id isn't below."""
-    for number, start, size in walk_rows(shard, begin, rows):
-        if number >= wanted:
-            return (start, size) if number == wanted else None
-    return None
-
-
 def stored_in(minishard_bits, minishard, wanted, limit, shard):
     """The bytes of a chunk of at most so many bytes, or None where it is absent."""
-    found = find_row(shard, *rows_of(minishard_bits, minishard, shard), wanted)
-    if found is None:
+    rows = walk_rows(shard, *rows_of(minishard_bits, minishard, shard))
+    # rows up to the first whose id isn't below
+    number, start, size = next((row for row in rows if row[0] >= wanted), (None, None, None))
+    if number != wanted:
         return None
-    start, size = found
     begin = (16 << minishard_bits) + start
     if size > limit:
         raise Damaged(f"chunk too long {size} limit {limit}")

@@ -8,20 +8,9 @@ made in the order of their keys, of what their chunk holds, or of zeros, and of 
 fault ends the update; the files whose cells all come before may stand. (All of this is this project's own rule; what chunks and shards
 say is the format's.)
 """
-import dataclasses
-
-from .faults import Damaged, damaged, refused, stored
+from .copies import Made, make, read_cells, values_of
+from .faults import Damaged, refused
 from .shards import rows_of, walk_rows
-from .volumes import Values
-
-
-@dataclasses.dataclass(frozen=True)
-class Update:
-    """What an update ends with; the paths of all files that it is to put, in their order; and those that may stand, with their bytes."""
-
-    answer: tuple
-    paths: list
-    files: dict
 
 
 def kept_in(volume, shard, content):
@@ -43,35 +32,14 @@ def cells_after(volume, files, met):
             content = files.get(volume.path(volume.sharding.file(shard)))
             if content is not None:
                 cells.update(kept_in(volume, shard, content))
-    return volume.in_order(cells)
-
-
-def read_front(volume, files, cells):
-    """What cells hold, each a box and its bytes, up to the first that has a fault; and this one with its fault, or None twice."""
-    found = []
-    for cell in cells:
-        try:
-            raw = volume.read(files, cell)
-        except Damaged as fault:
-            return found, cell, fault
-        if raw is not None:
-            found.append((volume.box_of(cell), raw))
-    return found, None, None
+    return cells
 
 
 def update_of(volume, files, writes):
     """What putting writes over a scale's files does."""
-    met = {cell for box, _ in writes for cell in volume.cells_in(box)}
     try:
-        cells = cells_after(volume, files, met)
+        cells = cells_after(volume, files, {cell for box, _ in writes for cell in volume.cells_in(box)})
     except Damaged as fault:
-        return Update(refused(str(fault)), [], {})
-    held, stopped, fault = read_front(volume, files, cells)
-    values, chunks = Values(volume, [*held, *writes]), {}
-    for cell in cells:
-        if stopped is not None and volume.path_of(cell) == volume.path_of(stopped):
-            break
-        chunks[cell] = volume.spell(cell, values.of(volume.box_of(cell)))
-    due = volume.files(chunks)
-    answer = stored(len(due), len(cells)) if stopped is None else refused(damaged(stopped, fault))
-    return Update(answer, list(dict.fromkeys(map(volume.path_of, cells))), due)
+        return Made(refused(str(fault)), 0, values_of(volume, {}), [], {}, {})
+    there = read_cells(volume, files, cells)
+    return make(volume, {cell: [cell] for cell in cells}, there, values_of(volume, there, writes))

@@ -52,7 +52,6 @@ class Volume:
         return [dataclasses.replace(self, chunk=chunk, more=()) for chunk in (self.chunk, *self.more)]
 
     def words(self, command, *more):
-        """The words of a command that has this scale."""
         return [command, self.dataset, self.key, *more]
 
     def path(self, name):
@@ -99,7 +98,6 @@ class Volume:
         return self.sharding.place(self.number(cell))
 
     def path_of(self, cell):
-        """The path of the file that has a cell's chunk."""
         return self.path(self.name(cell) if self.sharding is None else self.sharding.file(self.place(cell)[0]))
 
     def in_order(self, cells):
@@ -162,9 +160,8 @@ class Volume:
 
     def chunks_after(self, writes):
         """The chunks of the cells that some write meets."""
-        values = Values(self, writes)
-        met = [cell for cell in self.cells if values.has_any(self.box_of(cell))]
-        return {cell: self.spell(cell, values.of(self.box_of(cell))) for cell in met}
+        values, met = Values(self, writes), {cell for box, _ in writes for cell in self.cells_in(box)}
+        return {cell: self.spell(cell, values.of(self.box_of(cell))) for cell in self.in_order(met)}
 
     def files_after(self, writes):
         """
@@ -204,46 +201,28 @@ class Values:
         self.volume = volume
         self.count = math.prod(volume.size)
         self.raw = bytearray(self.count * volume.channels * volume.width)
-        self.written = bytearray(self.count)
         for box, raw in writes:
             self.put(box, raw)
 
-    def rows(self, box):
-        """The number of the first voxel of each row of a box."""
-        (x, y, z), (wide, high, _) = self.volume.offset, self.volume.size
-        (begin, _), *others = box
-        rows, planes = (range(first, last) for first, last in others)
-        return [begin - x + wide * (row - y + high * (plane - z)) for plane in planes for row in rows]
-
     def places(self, box, channels):
         """Where the values of each row of a box begin, channel by channel; and how many bytes a row has."""
-        width, rows = self.volume.width, self.rows(box)
-        begins = [width * (row + self.count * channel) for channel in range(channels) for row in rows]
-        return begins, width * (box[0][1] - box[0][0])
+        (x, y, z), (wide, high, _), width = self.volume.offset, self.volume.size, self.volume.width
+        (begin, end), *others = box
+        rows, planes = (range(first, last) for first, last in others)
+        firsts = [begin - x + wide * (row - y + high * (plane - z)) for plane in planes for row in rows]
+        return [width * (first + self.count * channel) for channel in range(channels) for first in firsts], width * (end - begin)
 
     def put(self, box, raw):
         begins, length = self.places(box, self.volume.channels)
         for number, begin in enumerate(begins):
             self.raw[begin : begin + length] = raw[number * length : (number + 1) * length]
-        marks = b"\1" * (box[0][1] - box[0][0])
-        for row in self.rows(box):
-            self.written[row : row + len(marks)] = marks
 
     def of(self, box, channels=None):
         """The bytes of a box, of all channels or the first ones."""
         begins, length = self.places(box, self.volume.channels if channels is None else channels)
         return b"".join(self.raw[begin : begin + length] for begin in begins)
 
-    def all(self):
-        return bytes(self.raw)
-
     def at(self, voxel, channel):
-        """The value of a voxel, as a number."""
         (begin,), width = self.places([(at, at + 1) for at in voxel], 1)
         begin += width * self.count * channel
         return int.from_bytes(self.raw[begin : begin + width], "little")
-
-    def has_any(self, box):
-        """Whether some voxel of a box was written."""
-        length = box[0][1] - box[0][0]
-        return any(1 in self.written[row : row + length] for row in self.rows(box))
