@@ -30,12 +30,8 @@ def told(line):
     return printed(line) if line.startswith("cells ") else refused(line)
 
 
-# What is done to the files of a scale: each change is given the volume, and the bytes of each file by the last part of its name; it
-# gives the files that are others, or None where they are gone.
-
-
-def put(name, content):
-    return lambda _volume, _files: {name: content}
+# What is done to the files of a scale: the files that are others by the last parts of their names, or None where they are gone; or what
+# gives these for the volume and the files.
 
 
 def cut_to(name, length):
@@ -74,7 +70,7 @@ def is_told(trial, volume, changes, box, line, is_modelled=True):
     files = trial.write(volume, [(volume.whole, b"".join(values))])
     named = {path.removeprefix("d/s/"): content for path, content in files.items()}
     for change in changes:
-        named.update(change(volume, named))
+        named.update(change if isinstance(change, dict) else change(volume, named))
     trial.lay_out({volume.path(name): content for name, content in named.items()})
     if is_modelled:
         want_ending(verdict(volume, trial.files(), box), told(line), "the model")
@@ -91,21 +87,21 @@ ALL = "cells 12 stored 12 absent 0"
 IN_FILES = [
     ("as it is", [], None, ALL), ("a box of a voxel", [], box_in("2:3,2:3,8:9"), "cells 1 stored 1 absent 0"),
     ("a box across cells", [], box_in("-1:1,1:3,7:8"), "cells 4 stored 4 absent 0"),
-    ("no chunk", [put(P000, None), put(P110, None)], None, "cells 12 stored 10 absent 2"),
-    ("no chunk in a box", [put(P000, None)], box_in("-2:-1,0:1,7:8"), "cells 1 stored 0 absent 1"),
+    ("no chunk", [{P000: None, P110: None}], None, "cells 12 stored 10 absent 2"),
+    ("no chunk in a box", [{P000: None}], box_in("-2:-1,0:1,7:8"), "cells 1 stored 0 absent 1"),
     ("a byte less", [cut_to(P100, 15)], None, "damaged 1,0,0: chunk length 15 wanted 16"),
     ("a byte more", [longer(P100, b"x")], None, "damaged 1,0,0: chunk length 17 wanted 16"),
     ("many bytes more", [longer(P100, bytes(1000))], None, "damaged 1,0,0: chunk length 17 wanted 16"),
-    ("an empty file", [put(P100, b"")], None, "damaged 1,0,0: chunk length 0 wanted 16"),
+    ("an empty file", [{P100: b""}], None, "damaged 1,0,0: chunk length 0 wanted 16"),
     ("an edge cell that isn't clipped", [copied(P200, P000)], None, "damaged 2,0,0: chunk length 9 wanted 8"),
     ("a clipped cell's bytes in a whole one", [copied(P000, P110)], None, "damaged 0,0,0: chunk length 8 wanted 16"),
     ("other values", [copied(P000, P100)], None, ALL),
-    ("files that no cell has", [put("-2-0", b""), put(f"{P000}.part", b"x"), put(SHARD, b"")], None, ALL),
-    ("x before y", [put(P010, b""), put(P200, b"1")], None, "damaged 2,0,0: chunk length 1 wanted 8"),
-    ("y before z", [put(P001, b""), put(P110, b"1")], None, "damaged 1,1,0: chunk length 1 wanted 8"),
-    ("the first in the box", [put(P000, b""), put(P110, b"1")], box_in("0:3,0:3,7:9"), "damaged 1,1,0: chunk length 1 wanted 8"),
-    ("a fault outside the box", [put(P100, b"")], box_in("-2:0,0:3,7:9"), "cells 4 stored 4 absent 0"),
-    ("a fault at the box's edge", [put(P100, b"")], box_in("-2:1,1:3,7:9"), "damaged 1,0,0: chunk length 0 wanted 16"),
+    ("files that no cell has", [{"-2-0": b"", f"{P000}.part": b"x", SHARD: b""}], None, ALL),
+    ("x before y", [{P010: b"", P200: b"1"}], None, "damaged 2,0,0: chunk length 1 wanted 8"),
+    ("y before z", [{P001: b"", P110: b"1"}], None, "damaged 1,1,0: chunk length 1 wanted 8"),
+    ("the first in the box", [{P000: b"", P110: b"1"}], box_in("0:3,0:3,7:9"), "damaged 1,1,0: chunk length 1 wanted 8"),
+    ("a fault outside the box", [{P100: b""}], box_in("-2:0,0:3,7:9"), "cells 4 stored 4 absent 0"),
+    ("a fault at the box's edge", [{P100: b""}], box_in("-2:1,1:3,7:9"), "damaged 1,0,0: chunk length 0 wanted 16"),
 ]
 
 # A row of six cells of two bytes, the last of one, in two minishards of one shard: six bytes of chunks stand before the first index,
@@ -116,13 +112,13 @@ SOUND = "cells 6 stored 6 absent 0"
 IN_A_SHARD = [
     ("as it is", [], None, SOUND), ("a box in one cell", [], along(10, 11), "cells 1 stored 1 absent 0"),
     ("a box over two cells", [], along(3, 5), "cells 2 stored 2 absent 0"),
-    ("no shard", [put(SHARD, None)], None, "cells 6 stored 0 absent 6"), ("bytes behind the shard", [longer(SHARD, b"more")], None, SOUND),
+    ("no shard", [{SHARD: None}], None, "cells 6 stored 0 absent 6"), ("bytes behind the shard", [longer(SHARD, b"more")], None, SOUND),
     # the way to an index
     ("an empty shard", [cut_to(SHARD, 0)], None, "damaged 0,0,0: shard short index"),
     ("a byte less than an entry", [cut_to(SHARD, 15)], None, "damaged 0,0,0: shard short index"),
-    ("one entry", [put(SHARD, bytes(16))], None, "damaged 1,0,0: shard short index"),
-    ("a byte less than two entries", [put(SHARD, bytes(31))], None, "damaged 1,0,0: shard short index"),
-    ("two entries of nothing", [put(SHARD, bytes(32))], None, "cells 6 stored 0 absent 6"),
+    ("one entry", [{SHARD: bytes(16)}], None, "damaged 1,0,0: shard short index"),
+    ("a byte less than two entries", [{SHARD: bytes(31)}], None, "damaged 1,0,0: shard short index"),
+    ("two entries of nothing", [{SHARD: bytes(32)}], None, "cells 6 stored 0 absent 6"),
     ("no index", [entry(0, 0, 0)], None, "cells 6 stored 3 absent 3"),
     ("no index behind the end", [entry(0, 1000, 1000)], None, "cells 6 stored 3 absent 3"),
     ("no index at the greatest number", [entry(0, TOP, TOP)], None, "cells 6 stored 3 absent 3"),
@@ -202,11 +198,11 @@ EIGHT = "cells 8 stored 8 absent 0"
 # title, volume, changes, box, line
 IN_SHARDS = [
     ("four shards", FOUR_SHARDS, [], None, EIGHT),
-    ("a shard that is gone", FOUR_SHARDS, [put("1.shard", None)], None, "cells 8 stored 6 absent 2"),
+    ("a shard that is gone", FOUR_SHARDS, [{"1.shard": None}], None, "cells 8 stored 6 absent 2"),
     ("shards that are exchanged", FOUR_SHARDS, [copied("1.shard", "2.shard", "2.shard", "1.shard")], None, "misplaced 1 0 2"),
     ("a shard in another's place", FOUR_SHARDS, [copied("3.shard", SHARD)], None, "misplaced 3 0 0"),
     ("an id of another shard", FOUR_SHARDS, [row(0, 0, id=3)], None, "misplaced 0 0 3"),
-    ("shards that no cell has", FOUR_SHARDS, [put("4.shard", b"x"), put("00.shard", b"x")], None, EIGHT),
+    ("shards that no cell has", FOUR_SHARDS, [{"4.shard": b"x", "00.shard": b"x"}], None, EIGHT),
     ("a short shard", FOUR_SHARDS, [cut_to("2.shard", 3)], None, "damaged 2,0,0: shard short index"),
     ("a short shard outside the box", FOUR_SHARDS, [cut_to("2.shard", 3)], along(3, 6), "cells 3 stored 3 absent 0"),
     ("a short shard and a misplaced row", FOUR_SHARDS, [cut_to("3.shard", 3), row(0, 1, "1.shard", id=5)], None, "misplaced 1 0 6"),

@@ -15,7 +15,7 @@ import struct
 import sys
 
 from arrays import SCRIPT, in_order, load, save, variables
-from harness import FOLDER, Trial, call, call_on_terminal, contents, main, methods_of, snapshot, want, want_true, words_in
+from harness import FOLDER, Trial, call, call_on_terminal, contents, main, methods_of, put_program, snapshot, want, want_true, words_in
 from model import REQUEST, spell
 
 # What calls tell that end well.
@@ -85,9 +85,7 @@ class Folder(Trial):
 
     def script(self, name, text):
         """A stand-in for the program. Gives its path."""
-        self.lay_out({name: f"#!/bin/sh\n{text}\n".encode()})
-        (self.folder / name).chmod(0o755)
-        return self.folder / name
+        return put_program(self.folder / name, f"#!/bin/sh\n{text}\n")
 
     def on_terminal(self, words):
         return call_on_terminal([sys.executable, SCRIPT, *words.split()], self.folder, **variables(self.program))

@@ -7,7 +7,7 @@ import os
 import pathlib
 import shutil
 
-from harness import ROOT, call, call_on_terminal, main, want, want_true
+from harness import ROOT, call, call_on_terminal, main, put_program, want, want_true
 
 # A program that tells its arguments and its folder, and ends with status 3; and one that ends with the status in the file beside it.
 TELLS = '#!/bin/sh\necho "{}:$*"\npwd\nexit 3\n'
@@ -90,16 +90,10 @@ class Tree:
         (folder / f"crates/{name}/source.rt").touch()
         (folder / "crates.txt").touch()
         for path, text in ("tools/rt", builder), (self.program, program), (f"{self.program}.old", aside):
-            self.put(path, text)
+            if text is not None:
+                put_program(folder / path, text)
         if is_old:
             os.utime(self.program, (1, 1))
-
-    def put(self, name, text):
-        path = self.folder / name
-        if text is not None:
-            path.parent.mkdir(parents=True, exist_ok=True)
-            path.write_text(text)
-            path.chmod(0o755)
 
     def call(self, *words):
         """What the script says with some words, and how often a build was called for."""
@@ -156,7 +150,7 @@ def helps_on_a_terminal(trial, name):
 def installs(trial):
     tree, prefix = Tree(trial.folder / "tree"), trial.folder / "prefix"
     for name in HELP:
-        tree.put(f"crates/{name}/out/{name}", TELLS.format(f"own {name}"))
+        put_program(tree.folder / f"crates/{name}/out/{name}", TELLS.format(f"own {name}"))
     status, out, errors = call([trial.folder / "tree/install", prefix], trial.folder)
     want_true(status == 0 and f"{prefix}/bin isn't in PATH" in out, f"install: {status} {out!r} {errors!r}")
     shutil.rmtree(trial.folder / "tree")

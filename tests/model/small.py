@@ -20,10 +20,7 @@ NO_FOLDER = {**NO_CHUNKS, "d/s": b""}
 
 def changed(*changes):
     """The files of the data set, each change over those before; None is no file."""
-    files = dict(FILES)
-    for change in changes:
-        files.update(change)
-    return files
+    return {path: content for change in (FILES, *changes) for path, content in change.items()}
 
 
 def with_info(volume=None, **scale):
