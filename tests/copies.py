@@ -39,8 +39,7 @@ NAMES = [
 
 # title, data set and key of the source, and of the target: where the source has a file, the target's folder has it too
 AROUND = [
-    ("a source in the target's folder", ("d", "s/t"), ("d", "s")),
-    ("a source deep in it", ("d", "s/t/u/v"), ("d", "s")),
+    ("a source in the target's folder", ("d", "s/t"), ("d", "s")), ("a source deep in it", ("d", "s/t/u/v"), ("d", "s")),
     ("one folder by two names", ("d", "a/b"), ("d/a", "b")),
 ]
 
@@ -183,8 +182,7 @@ REFUSED = [
 
 # title, what is changed, and source and target, where they are others: the source has no chunk, so the copy has none, and no folder is made
 EMPTY_SOURCES = [
-    ("an empty source as the target", NO_CHUNKS, FROM, FROM),
-    ("2^22 cells of the target", {**NO_CHUNKS, **lines(4, 1, 2**22)}),
+    ("an empty source as the target", NO_CHUNKS, FROM, FROM), ("2^22 cells of the target", {**NO_CHUNKS, **lines(4, 1, 2**22)}),
     ("2^22 + 1 padded voxels of the source", {**padded(2**22 + 1), **with_target({"data_type": "uint32"}, size=[2**22 + 1, 1, 1])}),
     ("2^40 voxels in 2^13 chunks, and in 2^22", {**NO_CHUNKS, **lines(2**27, 2**18, 2**40)}),
 ]

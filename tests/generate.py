@@ -33,11 +33,9 @@ WIDE = Volume([9, 8, 3], [4, 3, 2], (5, -6, 7), 3, 8)
 
 # title, scale, number, writes, line
 KNOWN = [
-    ("one voxel", line(1), 5, 2, "writes 2 objects 1 bytes 1 sum 36"),
-    ("four voxels", ROW, 1, 1, "writes 1 objects 1 bytes 4 sum 1"),
+    ("one voxel", line(1), 5, 2, "writes 2 objects 1 bytes 1 sum 36"), ("four voxels", ROW, 1, 1, "writes 1 objects 1 bytes 4 sum 1"),
     ("no writes", ROW, 1, 0, "writes 0 objects 0 bytes 0 sum 0"),
-    ("two channels", Volume([3, 2, 1], [2, 2, 1], (-5, 7, 0), 2, 2), 9, 2, None),
-    ("the largest number", WIDE, 2**31 - 1, 7, None),
+    ("two channels", Volume([3, 2, 1], [2, 2, 1], (-5, 7, 0), 2, 2), 9, 2, None), ("the largest number", WIDE, 2**31 - 1, 7, None),
     ("as many writes as there may be", Volume([7, 5, 3], [3, 3, 3]), 11, 4096, None),
 ]
 
@@ -63,11 +61,9 @@ LARGE_LIST = 632806
 
 # title, scale, number, writes, what stands in its folder, line
 REFUSED = [
-    ("too large", HUGE, 1, 1, {}, "box too large 1074790400"),
-    ("not empty before too large", HUGE, 1, 1, OTHERS, "folder not empty"),
+    ("too large", HUGE, 1, 1, {}, "box too large 1074790400"), ("not empty before too large", HUGE, 1, 1, OTHERS, "folder not empty"),
     ("past the writing limit", PADDED, 1, 1, OTHERS, "padded voxels 4194305 over 4194304"),
-    ("too large a list", TALL, LARGE_LIST, 3, {}, "write 2: too large"),
-    ("too many cells", FINE, 7, 220, {}, "too many cells 4351131"),
+    ("too large a list", TALL, LARGE_LIST, 3, {}, "write 2: too large"), ("too many cells", FINE, 7, 220, {}, "too many cells 4351131"),
 ]
 
 

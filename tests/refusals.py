@@ -152,10 +152,8 @@ CUTOUTS = [
 
 # title, what is changed, the data set and the key that are named, what is told of the info
 ABSENT = [
-    ("a dataset that is missing", {}, "e", "s", "absent"),
-    ("DATASET of 200 bytes", {}, "d" * 200, "s", "absent"),
-    ("a dataset that is a file", {"e": b""}, "e", "s", "absent"),
-    ("a key that no scale has", {}, "d", "t", "scale absent"),
+    ("a dataset that is missing", {}, "e", "s", "absent"), ("DATASET of 200 bytes", {}, "d" * 200, "s", "absent"),
+    ("a dataset that is a file", {"e": b""}, "e", "s", "absent"), ("a key that no scale has", {}, "d", "t", "scale absent"),
 ]
 
 # Layers of chunks of 2 x 2 x 1 voxels, of one channel and of two, and of chunks with two planes. FIRST and SECOND are the lowest

@@ -95,8 +95,7 @@ TWO_BREAKS = [
 # title, channels, bytes of a value, words of a chunk of one block without bits, and the value of all voxels. The table is among the
 # words of the header, so the headers end with the chunk, and the place of the indices lies behind it.
 SHORT = [
-    ("three words", 1, 4, [1, 1, 12345], 12345),
-    ("three words of a wide value", 1, 8, [1, 0, 12345], 12345 << 32),
+    ("three words", 1, 4, [1, 1, 12345], 12345), ("three words of a wide value", 1, 8, [1, 0, 12345], 12345 << 32),
     ("two channels that share their words", 2, 4, [2, 2, 1, 12345], 12345),
     ("two channels that share wide words", 2, 8, [2, 2, 0, 12345], 12345 << 32),
 ]

@@ -77,8 +77,7 @@ def takes_pieces(trial, length):
 
 # title, a faulty stream behind which more stands, how many of its bytes are read, the line
 FAULTY = [
-    ("a wrong magic", b"PVW2", 4, "stream: bad magic"),
-    ("too many writes", head_of(65537), 8, "stream: too many writes 65537"),
+    ("a wrong magic", b"PVW2", 4, "stream: bad magic"), ("too many writes", head_of(65537), 8, "stream: too many writes 65537"),
     ("an empty box", head_of(1) + bytes_of([0, 0, 0], [0, 1, 1]), 56, "write 0: empty box"),
     ("a box outside", head_of(1) + bytes_of([0, 0, 0], [3, 1, 1]), 56, "write 0: outside scale"),
     ("a byte behind", stream_of([ALL_FOUR]), 61, "stream: trailing bytes"),

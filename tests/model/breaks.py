@@ -25,13 +25,8 @@ def ascending(volume):
 
 # What is done to the words of a chunk, and with which number.
 BREAKS = {
-    "headers behind the end": ("channel", 0),
-    "3 bits": ("bits", 3),
-    "33 bits": ("bits", 33),
-    "255 bits": ("bits", 255),
-    "indices behind the end": ("values", 0),
-    "a table behind the end": ("table", 0),
-    "a table's second entry behind the end": ("table", 1),
+    "headers behind the end": ("channel", 0), "3 bits": ("bits", 3), "33 bits": ("bits", 33), "255 bits": ("bits", 255),
+    "indices behind the end": ("values", 0), "a table behind the end": ("table", 0), "a table's second entry behind the end": ("table", 1),
 }
 
 

@@ -4,14 +4,8 @@ OK, USAGE, INFO, REQUEST, DAMAGED, STORE, FEED, OUTPUT, MEMORY, DOOR = range(10)
 
 # What a line of standard error begins with, by its status; each other line is of a request that is refused.
 BEGINS = {
-    USAGE: ("usage",),
-    INFO: ("info of ",),
-    DAMAGED: ("damaged ", "misplaced ", "shard ", "conflict "),
-    STORE: ("store fault",),
-    FEED: ("feed fault",),
-    OUTPUT: ("output fault",),
-    MEMORY: ("out of memory",),
-    DOOR: ("door fault",),
+    USAGE: ("usage",), INFO: ("info of ",), DAMAGED: ("damaged ", "misplaced ", "shard ", "conflict "), STORE: ("store fault",),
+    FEED: ("feed fault",), OUTPUT: ("output fault",), MEMORY: ("out of memory",), DOOR: ("door fault",),
 }
 
 

@@ -18,11 +18,8 @@ class Sharding:
 
     def member(self):
         return {
-            "@type": "neuroglancer_uint64_sharded_v1",
-            "preshift_bits": self.preshift,
-            "hash": "murmurhash3_x86_128" if self.murmur else "identity",
-            "minishard_bits": self.minishard_bits,
-            "shard_bits": self.shard_bits,
+            "@type": "neuroglancer_uint64_sharded_v1", "hash": "murmurhash3_x86_128" if self.murmur else "identity",
+            "preshift_bits": self.preshift, "minishard_bits": self.minishard_bits, "shard_bits": self.shard_bits,
         }
 
     def place(self, number):
