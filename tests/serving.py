@@ -348,10 +348,7 @@ REPLIES = {
         (ask("POST /s/x", BEYOND), NOT_ALLOWED), (ask("GET /s/y", "Range: bytes=0-"), ABSENT), (ask("HEAD /s/y"), ABSENT),
         (ask("HEAD /s/x", ONCE), HEAD_ALONE), (ask("HEAD /s/x", BEYOND), HEAD_ALONE),
     ],
-    "passes over ranges": [
-        *((gets(*fields), REPLY) for fields in PASSED_OVER),
-        *((gets(*fields), PART) for fields in NOT_PASSED_OVER),
-    ],
+    "passes over ranges": [*((gets(*fields), REPLY) for fields in PASSED_OVER), *((gets(*fields), PART) for fields in NOT_PASSED_OVER)],
     # also with lines that end in LF alone
     "judges no host": [(ended + ASK, REPLY + REPLY) for head in HOSTS for ended in (head, head.replace(b"\r\n", b"\n"))],
 }
