@@ -3,6 +3,7 @@ pub mod BlockSteps
 pub mod CountSteps
 pub mod GridSteps
 pub mod JobOrder
+pub mod KnownScales
 pub mod LayoutSteps
 pub mod ListSteps
 pub mod ListingSteps

@@ -85,26 +85,48 @@ dash h = let low = h.0 in omega arith
 line : IsStop 95
 line h = let high = h.1 in omega arith
 
-read_span : (a b : Box3) (axis : ℕ) (r t : List ℕ) → IsSmallOn a axis → IsSmallOn b axis → span_text a axis ++ 95 ∷ r ≡ span_text b axis ++ 95 ∷ t
-    → (at a.begin axis ≡ at b.begin axis) × (r ≡ t)
+-- where an interval begins and ends tells its length
+same_length : (a b : ℤ) (m n : ℕ) → a ≡ b → (a +ℤ pos m) ≡ (b +ℤ pos n) → m ≡ n
+same_length a b m n begins ends = omega (arith, ints)
+
+-- the span of an axis tells where a box begins there, and its size
+record IsSameOn (a b : Box3) (axis : ℕ) : Type 0 where
+  begins : at a.begin axis ≡ at b.begin axis
+  sizes : size a axis ≡ size b axis
+
+read_span : (a b : Box3) (axis : ℕ) (r t : List ℕ) → IsSmallOn a axis → IsSmallOn b axis → span_text a axis ++ 95 ∷ r ≡ span_text b axis ++ 95 ∷ t → IsSameOn a b axis × (r ≡ t)
 read_span a b axis r t ha hb e =
     let apart : signed_decimal (at a.begin axis) ++ 45 ∷ (signed_decimal (end a axis) ++ 95 ∷ r) ≡ signed_decimal (at b.begin axis) ++ 45 ∷ (signed_decimal (end b axis) ++ 95 ∷ t) =
     sym (append_assoc (signed_decimal (at a.begin axis)) (45 ∷ signed_decimal (end a axis)) (95 ∷ r)) ∙ e ∙ append_assoc (signed_decimal (at b.begin axis)) (45 ∷ signed_decimal (end b axis)) (95 ∷ t) in
     let begins = read_signed (at a.begin axis) (at b.begin axis) (signed_decimal (end a axis) ++ 95 ∷ r) (signed_decimal (end b axis) ++ 95 ∷ t) 45 (begin_short (at a.begin axis) ha.low ha.high) (begin_short (at b.begin axis) hb.low hb.high) dash apart in
     let ends = read_signed (end a axis) (end b axis) r t 95 (end_short (at a.begin axis) (size a axis) ha.sized ha.low ha.high) (end_short (at b.begin axis) (size b axis) hb.sized hb.low hb.high) line begins.1 in
-    (begins.0, ends.1)
+    (record { begins = begins.0; sizes = same_length (at a.begin axis) (at b.begin axis) (size a axis) (size b axis) begins.0 ends.0 }, ends.1)
 
 abbrev IsSmall : Box3 → Type 0
 IsSmall b = (axis : ℕ) → axis < 3 → IsSmallOn b axis
 
-same_begins : (a b : Box3) → IsSmall a → IsSmall b → box_name a ≡ box_name b → (at a.begin 0 ≡ at b.begin 0) × (at a.begin 1 ≡ at b.begin 1) × (at a.begin 2 ≡ at b.begin 2)
-same_begins a b ha hb e =
+-- the name of a box tells all of it
+same_box : (a b : Box3) → IsSmall a → IsSmall b → box_name a ≡ box_name b → IsSameOn a b 0 × IsSameOn a b 1 × IsSameOn a b 2
+same_box a b ha hb e =
     let x = read_span a b 0 (span_text a 1 ++ 95 ∷ span_text a 2) (span_text b 1 ++ 95 ∷ span_text b 2) (ha 0 (lit< tt)) (hb 0 (lit< tt)) e in
     let y = read_span a b 1 (span_text a 2) (span_text b 2) (ha 1 (lit< tt)) (hb 1 (lit< tt)) x.1 in
-    let az = ha 2 (lit< tt) in
-    let bz = hb 2 (lit< tt) in
-    let z = read_signed (at a.begin 2) (at b.begin 2) (signed_decimal (end a 2)) (signed_decimal (end b 2)) 45 (begin_short (at a.begin 2) az.low az.high) (begin_short (at b.begin 2) bz.low bz.high) dash y.1 in
+    let z = read_span a b 2 [] [] (ha 2 (lit< tt)) (hb 2 (lit< tt)) (ap (λ l. l ++ 95 ∷ []) y.1) in
     (x.0, y.0, z.0)
+
+cell_small : (s : Scale) (cell : List ℕ) → IsCell s cell → IsSmall (cell_box s cell)
+cell_small s cell h = Inside-small s (cell_box s cell) (cell_box-Inside s cell h)
+
+-- so cells of two scales in one folder whose objects have one name have one box
+pub cell_name-box : (dataset : List ℕ) (u v : Scale) (a b : List ℕ) → u.key ≡ v.key → IsCell u a → IsCell v b → cell_name dataset u a ≡ cell_name dataset v b → cell_box u a ≡ cell_box v b
+cell_name-box dataset u v a b keys ha hb e =
+    let folders : folder_of dataset u ≡ folder_of dataset v = ap (λ key. dataset ++ 47 ∷ key) keys in
+    let named : folder_of dataset v ++ 47 ∷ box_name (cell_box u a) ≡ folder_of dataset v ++ 47 ∷ box_name (cell_box v b) = sym (ap (λ folder. folder ++ 47 ∷ box_name (cell_box u a)) folders) ∙ e in
+    let boxes : box_name (cell_box u a) ≡ box_name (cell_box v b) = ap (drop 1) (append_cancel_left (folder_of dataset v) (47 ∷ box_name (cell_box u a)) (47 ∷ box_name (cell_box v b)) named) in
+    let on = same_box (cell_box u a) (cell_box v b) (cell_small u a ha) (cell_small v b hb) boxes in
+    λ i. record {
+      begin = on.0.begins i ∷ on.1.begins i ∷ on.2.begins i ∷ [];
+      size = on.0.sizes i ∷ on.1.sizes i ∷ on.2.sizes i ∷ [];
+    }
 
 -- where cells begin tells which they are
 same_places : (o : ℤ) (m n : ℕ) → (o +ℤ pos m) ≡ (o +ℤ pos n) → m ≡ n
@@ -115,16 +137,13 @@ same_on o chunk j k some e =
     let same : j * chunk ≡ k * chunk = same_places o (j * chunk) (k * chunk) e in
     sym (mul-div_cancel j some) ∙ ap (λ q. q / chunk) same ∙ mul-div_cancel k some
 
-cell_small : (s : Scale) (cell : List ℕ) → IsCell s cell → IsSmall (cell_box s cell)
-cell_small s cell h = Inside-small s (cell_box s cell) (cell_box-Inside s cell h)
-
 pub cell_name-injective : (dataset : List ℕ) (s : Scale) (a b : List ℕ) → IsCell s a → IsCell s b → cell_name dataset s a ≡ cell_name dataset s b → a ≡ b
 cell_name-injective dataset s a b ha hb e =
-    let boxes : box_name (cell_box s a) ≡ box_name (cell_box s b) = ap (drop 1) (append_cancel_left (folder_of dataset s) (47 ∷ box_name (cell_box s a)) (47 ∷ box_name (cell_box s b)) e) in
-    let begins = same_begins (cell_box s a) (cell_box s b) (cell_small s a ha) (cell_small s b hb) boxes in
-    let x : slice_index a 0 ≡ slice_index b 0 = same_on (at s.offset 0) (slice_index s.chunk 0) (slice_index a 0) (slice_index b 0) (s.chunk_ok 0 (lit< tt)).0 begins.0 in
-    let y : slice_index a 1 ≡ slice_index b 1 = same_on (at s.offset 1) (slice_index s.chunk 1) (slice_index a 1) (slice_index b 1) (s.chunk_ok 1 (lit< tt)).0 begins.1 in
-    let z : slice_index a 2 ≡ slice_index b 2 = same_on (at s.offset 2) (slice_index s.chunk 2) (slice_index a 2) (slice_index b 2) (s.chunk_ok 2 (lit< tt)).0 begins.2 in
+    let boxes : cell_box s a ≡ cell_box s b = cell_name-box dataset s s a b refl ha hb e in
+    let begins : (axis : ℕ) → at (cell_box s a).begin axis ≡ at (cell_box s b).begin axis = λ axis. ap (λ (box : Box3). at box.begin axis) boxes in
+    let x : slice_index a 0 ≡ slice_index b 0 = same_on (at s.offset 0) (slice_index s.chunk 0) (slice_index a 0) (slice_index b 0) (s.chunk_ok 0 (lit< tt)).0 (begins 0) in
+    let y : slice_index a 1 ≡ slice_index b 1 = same_on (at s.offset 1) (slice_index s.chunk 1) (slice_index a 1) (slice_index b 1) (s.chunk_ok 1 (lit< tt)).0 (begins 1) in
+    let z : slice_index a 2 ≡ slice_index b 2 = same_on (at s.offset 2) (slice_index s.chunk 2) (slice_index a 2) (slice_index b 2) (s.chunk_ok 2 (lit< tt)).0 (begins 2) in
     three a (slice_index b 0) (slice_index b 1) (slice_index b 2) ha.axes x y z
     ∙ sym (three b (slice_index b 0) (slice_index b 1) (slice_index b 2) hb.axes refl refl refl)
 

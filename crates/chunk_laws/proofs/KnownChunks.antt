@@ -5,9 +5,7 @@ use Rattle.std.specs.FinMap as fin
 use Rattle.std.specs.Fmt.{digits}
 use Rattle.std.specs.List.{range_with_len}
 use Rattle.std.specs.Option.{option_map}
-use Rattle.std.proofs.lemmas.Int.{ints}
-use Rattle.vol_base.proofs.Axes.{by_axis}
-use Rattle.vol_base.specs.Grids.{AreSizes, pairs}
+use Rattle.vol_base.specs.Grids.{pairs}
 use Rattle.vol_base.specs.Boxes.{from_begin}
 use Rattle.vol_base.specs.Outside.{Objects}
 use Rattle.vol_base.specs.declared.boxes.Box3.{Box3}
@@ -20,13 +18,13 @@ use Rattle.vol_spec.specs.BoxValues.{before_fault, bytes_of, first_some}
 use Rattle.vol_spec.specs.Chunks.{chunk_in, fault_of, judged, value_of}
 use Rattle.vol_spec.specs.Costs.{cost, cost_by}
 use Rattle.vol_spec.specs.Cut.{cut, first_fault}
-use Rattle.vol_spec.specs.Encodings.{blocks_of, cell_limit, encoded}
+use Rattle.vol_spec.specs.Encodings.{cell_limit, encoded}
 use Rattle.vol_spec.specs.Entries.{entry_bytes, entry_of}
 use Rattle.vol_spec.specs.FoundChunks.{found}
 use Rattle.vol_spec.specs.IndexBytes.{eight, numbers}
 use Rattle.vol_spec.specs.Grid.{numbers_on, whole}
 use Rattle.vol_spec.specs.LastWrite.{last}
-use Rattle.vol_spec.specs.Limits.{AreBlocks, AreOffsets, IsSeg, cell_counts}
+use Rattle.vol_spec.specs.Limits.{cell_counts}
 use Rattle.vol_spec.specs.Places.{id_of}
 use Rattle.vol_spec.specs.Rows.{number_at}
 use Rattle.vol_spec.specs.SegChunks.{entry, field, word}
@@ -41,7 +39,6 @@ use Rattle.vol_spec.specs.StoredLists.{cell_key, in_key_order, stored_list}
 use Rattle.vol_spec.specs.StoredShards.{objects_in}
 use Rattle.vol_spec.specs.Verdicts.{Wrong, damage, index_wrong, judge}
 use Rattle.vol_spec.specs.Verdicts.Wrong.{Damaged, Misplaced}
-use Rattle.vol_spec.specs.Views.{no_more}
 use Rattle.vol_spec.specs.declared.encoding.Encoding.{Encoding}
 use Rattle.vol_spec.specs.declared.encoding.Encoding.TheVariants.{Raw, Seg}
 use Rattle.vol_spec.specs.declared.scale.Scale.{Scale}
@@ -49,13 +46,11 @@ use Rattle.vol_spec.specs.declared.sharding.HashKind.TheVariants.{Identity, Murm
 use Rattle.vol_spec.specs.Hashes.{loaded, stirred, mixed, all_mixed, hash8}
 use Rattle.vol_spec.specs.declared.sharding.Sharding.{Sharding}
 use Rattle.vol_spec.proofs.PlacedSteps.{in_order-put}
+use Rattle.chunk_grid.proofs.KnownScales.{known, unsharded}
 
 -- `d` and `s`
 abbrev dataset : List ℕ
 dataset = 100 ∷ []
-
-abbrev key : List ℕ
-key = 115 ∷ []
 
 abbrev ones : List ℕ
 ones = 1 ∷ 1 ∷ 1 ∷ []
@@ -63,93 +58,17 @@ ones = 1 ∷ 1 ∷ 1 ∷ []
 abbrev no_offset : List ℤ
 no_offset = pos 0 ∷ pos 0 ∷ pos 0 ∷ []
 
-ones_ok : AreSizes ones
-ones_ok = by_axis (λ axis. (1 ≤ slice_index ones axis) × (slice_index ones axis ≤ 2 ^ 40)) (lit≤ tt, lit≤ tt) (lit≤ tt, lit≤ tt) (lit≤ tt, lit≤ tt)
-
-pair_ok : AreSizes (2 ∷ 1 ∷ 1 ∷ [])
-pair_ok = by_axis (λ axis. (1 ≤ slice_index (2 ∷ 1 ∷ 1 ∷ []) axis) × (slice_index (2 ∷ 1 ∷ 1 ∷ []) axis ≤ 2 ^ 40)) (lit≤ tt, lit≤ tt) (lit≤ tt, lit≤ tt) (lit≤ tt, lit≤ tt)
-
-square_ok : AreSizes (2 ∷ 2 ∷ 1 ∷ [])
-square_ok = by_axis (λ axis. (1 ≤ slice_index (2 ∷ 2 ∷ 1 ∷ []) axis) × (slice_index (2 ∷ 2 ∷ 1 ∷ []) axis ≤ 2 ^ 40)) (lit≤ tt, lit≤ tt) (lit≤ tt, lit≤ tt) (lit≤ tt, lit≤ tt)
-
-zero_ok : (neg_ℤ (pos (2 ^ 40)) ≤ℤ pos 0) × (pos 0 ≤ℤ pos (2 ^ 40))
-zero_ok = (omega (arith, ints), omega (arith, ints))
-
-no_offset_ok : AreOffsets no_offset
-no_offset_ok = by_axis (λ axis. (neg_ℤ (pos (2 ^ 40)) ≤ℤ slice_index_or no_offset axis (pos 0)) × (slice_index_or no_offset axis (pos 0) ≤ℤ pos (2 ^ 40))) zero_ok zero_ok zero_ok
-
-abbrev is_raw : Encoding → Bool
-is_raw Raw = true
-is_raw (Seg block) = false
-
-not_seg : {A : Type 0} (block : List ℕ) → IsSeg Raw block → A
-not_seg block e = absurd (cc e)
-
-no_sharding : {A : Type 0} (x : Sharding) → None ≡ Some x → A
-no_sharding x e = absurd (cc e)
-
 pub two_codes : length (pairs (cell_counts (2 ∷ 1 ∷ 1 ∷ []) ones)) ≤ 64
 unfolding pairs
 two_codes = lit≤ tt
 
-pub ones_blocks : (block : List ℕ) → IsSeg (Seg ones) block → AreBlocks block
-ones_blocks block e = subst AreBlocks (ap blocks_of e) (by_axis (λ axis. (1 ≤ slice_index ones axis) × (slice_index ones axis ≤ 2 ^ 24)) (lit≤ tt, lit≤ tt) (lit≤ tt, lit≤ tt) (lit≤ tt, lit≤ tt))
-
 -- one chunk of 2 by 2 voxels, not sharded
 abbrev square : Scale
-square = record {
-  key = key;
-  width = 1;
-  channels = 1;
-  size = 2 ∷ 2 ∷ 1 ∷ [];
-  offset = no_offset;
-  chunk = 2 ∷ 2 ∷ 1 ∷ [];
-  encoding = Raw;
-  sharding = None;
-  more = [];
-  key_ok = lit≤ tt;
-  width_ok = ∣ inl refl ∣₁;
-  some_channels = lit≤ tt;
-  channels_ok = lit≤ tt;
-  size_ok = square_ok;
-  offset_ok = no_offset_ok;
-  chunk_ok = square_ok;
-  first_ok = lit≤ tt;
-  wide_ok = λ block e. not_seg block e;
-  block_ok = λ block e. not_seg block e;
-  padded_ok = lit≤ tt;
-  codes_ok = λ x e. no_sharding x e;
-  more_ok = no_more _;
-  alone_ok = λ x e. refl;
-}
+square = unsharded 1 1 (2 ∷ 2 ∷ 1 ∷ []) no_offset (2 ∷ 2 ∷ 1 ∷ []) Raw refl
 
 -- two chunks of a voxel, in a shard of so many minishards
 abbrev sharded_by : Sharding → Scale
-sharded_by sharding = record {
-  key = key;
-  width = 1;
-  channels = 1;
-  size = 2 ∷ 1 ∷ 1 ∷ [];
-  offset = no_offset;
-  chunk = ones;
-  encoding = Raw;
-  sharding = Some sharding;
-  more = [];
-  key_ok = lit≤ tt;
-  width_ok = ∣ inl refl ∣₁;
-  some_channels = lit≤ tt;
-  channels_ok = lit≤ tt;
-  size_ok = pair_ok;
-  offset_ok = no_offset_ok;
-  chunk_ok = ones_ok;
-  first_ok = lit≤ tt;
-  wide_ok = λ block e. not_seg block e;
-  block_ok = λ block e. not_seg block e;
-  padded_ok = lit≤ tt;
-  codes_ok = λ x e. two_codes;
-  more_ok = no_more _;
-  alone_ok = λ x e. refl;
-}
+sharded_by sharding = known 1 1 (2 ∷ 1 ∷ 1 ∷ []) no_offset ones Raw (Some sharding) refl (λ x e. two_codes)
 
 abbrev plain : Sharding
 plain = record { preshift = 0; hash = Identity; minishard_bits = 0; shard_bits = 0; preshift_ok = lit≤ tt; minishard_ok = lit≤ tt; bits_ok = lit≤ tt }
@@ -159,31 +78,7 @@ halved = record { preshift = 0; hash = Identity; minishard_bits = 1; shard_bits 
 
 -- two segmentations of a voxel of four bytes, in a shard
 abbrev segments : Scale
-segments = record {
-  key = key;
-  width = 4;
-  channels = 1;
-  size = 2 ∷ 1 ∷ 1 ∷ [];
-  offset = no_offset;
-  chunk = ones;
-  encoding = Seg ones;
-  sharding = Some plain;
-  more = [];
-  key_ok = lit≤ tt;
-  width_ok = ∣ inr (inr (inl refl)) ∣₁;
-  some_channels = lit≤ tt;
-  channels_ok = lit≤ tt;
-  size_ok = pair_ok;
-  offset_ok = no_offset_ok;
-  chunk_ok = ones_ok;
-  first_ok = lit≤ tt;
-  wide_ok = λ block e. ∣ inl refl ∣₁;
-  block_ok = ones_blocks;
-  padded_ok = lit≤ tt;
-  codes_ok = λ x e. two_codes;
-  more_ok = no_more _;
-  alone_ok = λ x e. refl;
-}
+segments = known 4 1 (2 ∷ 1 ∷ 1 ∷ []) no_offset ones (Seg ones) (Some plain) refl (λ x e. two_codes)
 
 -- the cells
 abbrev first : List ℕ
@@ -499,39 +394,12 @@ unfolding in_key_order pairs loaded stirred mixed all_mixed hash8
 hashed_jobs = ap (map (λ (entry : List ℕ × List ℕ). entry.1)) (in_order-put ((8 ∷ 1 ∷ 0 ∷ [], first) ∷ (3 ∷ 2 ∷ 1 ∷ [], second) ∷ []))
 
 -- three voxels in chunks of two: the second chunk is clipped to one
-triple_ok : AreSizes (3 ∷ 1 ∷ 1 ∷ [])
-triple_ok = by_axis (λ axis. (1 ≤ slice_index (3 ∷ 1 ∷ 1 ∷ []) axis) × (slice_index (3 ∷ 1 ∷ 1 ∷ []) axis ≤ 2 ^ 40)) (lit≤ tt, lit≤ tt) (lit≤ tt, lit≤ tt) (lit≤ tt, lit≤ tt)
-
 pub clipped_codes : length (pairs (cell_counts (3 ∷ 1 ∷ 1 ∷ []) (2 ∷ 1 ∷ 1 ∷ []))) ≤ 64
 unfolding pairs
 clipped_codes = lit≤ tt
 
 abbrev clipped : Option Sharding → Scale
-clipped sharding = record {
-  key = key;
-  width = 1;
-  channels = 1;
-  size = 3 ∷ 1 ∷ 1 ∷ [];
-  offset = no_offset;
-  chunk = 2 ∷ 1 ∷ 1 ∷ [];
-  encoding = Raw;
-  sharding = sharding;
-  more = [];
-  key_ok = lit≤ tt;
-  width_ok = ∣ inl refl ∣₁;
-  some_channels = lit≤ tt;
-  channels_ok = lit≤ tt;
-  size_ok = triple_ok;
-  offset_ok = no_offset_ok;
-  chunk_ok = pair_ok;
-  first_ok = lit≤ tt;
-  wide_ok = λ block e. not_seg block e;
-  block_ok = λ block e. not_seg block e;
-  padded_ok = lit≤ tt;
-  codes_ok = λ x e. clipped_codes;
-  more_ok = no_more _;
-  alone_ok = λ x e. refl;
-}
+clipped sharding = known 1 1 (3 ∷ 1 ∷ 1 ∷ []) no_offset (2 ∷ 1 ∷ 1 ∷ []) Raw sharding refl (λ x e. clipped_codes)
 
 -- d/s/2-3_0-1_0-1
 clipped_name : object_of dataset (clipped None) second ≡ 100 ∷ 47 ∷ 115 ∷ 47 ∷ 50 ∷ 45 ∷ 51 ∷ 95 ∷ 48 ∷ 45 ∷ 49 ∷ 95 ∷ 48 ∷ 45 ∷ 49 ∷ []
@@ -566,38 +434,8 @@ unfolding found entry_of number_at eight pairs
 cost_clipped_1 = refl
 
 -- segmentations of four bytes in blocks of 2 by 2 voxels: the second chunk is clipped to 1 by 2
-clipped_segments_ok : AreSizes (3 ∷ 2 ∷ 1 ∷ [])
-clipped_segments_ok = by_axis (λ axis. (1 ≤ slice_index (3 ∷ 2 ∷ 1 ∷ []) axis) × (slice_index (3 ∷ 2 ∷ 1 ∷ []) axis ≤ 2 ^ 40)) (lit≤ tt, lit≤ tt) (lit≤ tt, lit≤ tt) (lit≤ tt, lit≤ tt)
-
-square_blocks : (block : List ℕ) → IsSeg (Seg (2 ∷ 2 ∷ 1 ∷ [])) block → AreBlocks block
-square_blocks block e = subst AreBlocks (ap blocks_of e) (by_axis (λ axis. (1 ≤ slice_index (2 ∷ 2 ∷ 1 ∷ []) axis) × (slice_index (2 ∷ 2 ∷ 1 ∷ []) axis ≤ 2 ^ 24)) (lit≤ tt, lit≤ tt) (lit≤ tt, lit≤ tt) (lit≤ tt, lit≤ tt))
-
 abbrev clipped_segments : Scale
-clipped_segments = record {
-  key = key;
-  width = 4;
-  channels = 1;
-  size = 3 ∷ 2 ∷ 1 ∷ [];
-  offset = no_offset;
-  chunk = 2 ∷ 2 ∷ 1 ∷ [];
-  encoding = Seg (2 ∷ 2 ∷ 1 ∷ []);
-  sharding = None;
-  more = [];
-  key_ok = lit≤ tt;
-  width_ok = ∣ inr (inr (inl refl)) ∣₁;
-  some_channels = lit≤ tt;
-  channels_ok = lit≤ tt;
-  size_ok = clipped_segments_ok;
-  offset_ok = no_offset_ok;
-  chunk_ok = square_ok;
-  first_ok = lit≤ tt;
-  wide_ok = λ block e. ∣ inl refl ∣₁;
-  block_ok = square_blocks;
-  padded_ok = lit≤ tt;
-  codes_ok = λ x e. no_sharding x e;
-  more_ok = no_more _;
-  alone_ok = λ x e. refl;
-}
+clipped_segments = unsharded 4 1 (3 ∷ 2 ∷ 1 ∷ []) no_offset (2 ∷ 2 ∷ 1 ∷ []) (Seg (2 ∷ 2 ∷ 1 ∷ [])) refl
 
 -- 3 above 5, which is number 2 of its block: the words 1, 0x01000003, 2, 4, 3 and 5
 abbrev three_five : List ℕ
@@ -617,31 +455,7 @@ three_five_value = refl
 
 -- the same cells in blocks of one voxel: the second one, of 1 by 2 voxels, has a smaller limit than the first
 abbrev fine_segments : Scale
-fine_segments = record {
-  key = key;
-  width = 4;
-  channels = 1;
-  size = 3 ∷ 2 ∷ 1 ∷ [];
-  offset = no_offset;
-  chunk = 2 ∷ 2 ∷ 1 ∷ [];
-  encoding = Seg ones;
-  sharding = None;
-  more = [];
-  key_ok = lit≤ tt;
-  width_ok = ∣ inr (inr (inl refl)) ∣₁;
-  some_channels = lit≤ tt;
-  channels_ok = lit≤ tt;
-  size_ok = clipped_segments_ok;
-  offset_ok = no_offset_ok;
-  chunk_ok = square_ok;
-  first_ok = lit≤ tt;
-  wide_ok = λ block e. ∣ inl refl ∣₁;
-  block_ok = ones_blocks;
-  padded_ok = lit≤ tt;
-  codes_ok = λ x e. no_sharding x e;
-  more_ok = no_more _;
-  alone_ok = λ x e. refl;
-}
+fine_segments = unsharded 4 1 (3 ∷ 2 ∷ 1 ∷ []) no_offset (2 ∷ 2 ∷ 1 ∷ []) (Seg ones) refl
 
 first_limit : cell_limit fine_segments first ≡ 68
 first_limit = refl

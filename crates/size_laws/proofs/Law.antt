@@ -28,7 +28,7 @@ use Rattle.vol_spec.specs.declared.encoding.Encoding.{Encoding}
 use Rattle.vol_spec.specs.declared.scale.Scale.{Scale}
 use Rattle.chunk_grid.proofs.GridSteps.{cell_at-IsCell}
 use Rattle.chunk_grid.proofs.ListingSteps.{cells_in-IsCell}
-use Rattle.chunk_grid.proofs.NameSteps.{get-absent_cell}
+use Rattle.chunk_grid.proofs.NameSteps.{cell_name-box, get-absent_cell}
 use Rattle.chunk_grid.proofs.OrderSteps.{AreInOrder-met_cells}
 use Rattle.chunk_grid.proofs.StoredSteps.{Contains-met_cells, cell_objects, met-listed}
 use Rattle.chunk_laws.proofs.Law.{stored_outside}
@@ -36,7 +36,6 @@ use Rattle.chunk_laws.proofs.ShardLaw.{Contains-map}
 use Rattle.chunk_laws.proofs.WrittenSteps.{chunks_are, written_sound, written_value}
 use Rattle.chunk_laws.specs.Storable.{with_bytes}
 use Rattle.chunk_laws.specs.Told.{HasLastWrites, HasNoFault}
-use Rattle.size_laws.proofs.BoxNames.{cell_name-box}
 use Rattle.size_laws.proofs.PutAgain.{All-flat_map, Contains-flat_map, Tells, put_in-told}
 use Rattle.size_laws.specs.Sizes.{Agrees, AllSound, CanWriteViews, IsView, stored_all}
 

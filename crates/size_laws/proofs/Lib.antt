@@ -1,4 +1,3 @@
-pub mod BoxNames
 pub mod FindingLaw
 pub mod Law
 pub mod PutAgain

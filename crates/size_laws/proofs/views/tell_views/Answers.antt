@@ -1,4 +1,4 @@
-use Rattle.size_laws.proofs.BoxNames.{cell_name-box}
+use Rattle.chunk_grid.proofs.NameSteps.{cell_name-box}
 use Rattle.size_laws.proofs.FindingLaw.{sound_from, sound_none}
 use Rattle.size_laws.proofs.Law.{all_faultless, all_outside, own_values, written_all_sound}
 use Rattle.std.proofs.Common.{◌∙◌, sym}
