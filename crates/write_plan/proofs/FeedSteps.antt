@@ -5,14 +5,14 @@ use Rattle.std.proofs.Math.Seq.{take-add, take-append-add}
 use Rattle.std.proofs.lemmas.List.{take-append-le}
 use Rattle.std.proofs.lemmas.Grind.{common_steps}
 use Rattle.std.proofs.lemmas.Bool.Decides.{nat_tests}
+use Rattle.vol_base.specs.Causes.{HasCauseOf}
 use Rattle.vol_base.specs.Outside.{Gives}
-use Rattle.vol_spec.specs.Raw.{raw_len}
 use Rattle.chunk_grid.proofs.MeetSteps.{true_from}
 use Rattle.write_plan.specs.Stream.{box_of}
-use Rattle.write_plan.specs.Reading.{◌>>=◌, front, limited, judged, box_at, write_at}
-use Rattle.write_plan.specs.Readers.{IsFront, Came, Took, gives, Gave, Refused, Answers, of_stream}
+use Rattle.write_plan.specs.Reading.{◌>>=◌, limited, judged}
+use Rattle.write_plan.specs.Readers.{IsFront, Took, gives, Gave, Reading, Reads, Refused, Answers, of_stream}
 use Rattle.write_plan.specs.declared.fault.PlanFault.{PlanFault}
-use Rattle.write_plan.specs.declared.fault.PlanFault.TheVariants.{FeedFault, TooManyWrites, Truncated}
+use Rattle.write_plan.specs.declared.fault.PlanFault.TheVariants.{FeedFault, OutOfMemory, TooManyWrites}
 use Rattle.vol_base.specs.declared.boxes.Box3.{Box3}
 use Rattle.vol_spec.specs.declared.scale.Scale.{Scale}
 use borrow.Rule.Slice.PartMut.{put_mid, post_of}
@@ -67,10 +67,76 @@ answer_ok f None p a e = tt
 answer_ok f (Some x) None a e = absurd (cc e)
 answer_ok f (Some x) (Some y) a e = cc
 
--- a buffer that is filled from its front
-front_kept : (n k : ℕ) (buffer out bytes : List ℕ) → n ≤ length buffer → IsFront n buffer bytes → IsFront n (put_mid n k buffer out) bytes
-front_kept n k buffer out bytes l h = record { same = (grind (arith, common_steps)) ∙ h.same; within = h.within }
+-- at most so many bytes were taken
+took_within : (a m : ℕ) (x y : Option (List ℕ)) → Took a x y → a ≤ m → Took m x y
+took_within a m x y h l = record { count = h.count; small = omega (arith, h.small); left = h.left }
 
+took_none : (m : ℕ) (x : Option (List ℕ)) → Took m x x
+took_none m None = record { count = 0; small = omega arith; left = refl }
+took_none m (Some w) = record { count = 0; small = omega arith; left = refl }
+
+-- the cause of a fault stays where another call passes it on
+cause_first : {A B : Type 0} (e : PlanFault) (a b : ℕ) → HasCauseOf {T = A} FeedFault a b (Err e) → HasCauseOf {T = B} FeedFault a b (Err e)
+cause_first e a b h = record { later = h.later; failed = λ is. (let same : e ≡ FeedFault = cc in h.failed (ap Err same)); stands = tt }
+
+-- a call that reads, as the first one of several, where it refuses
+pub read_first : {F A B C D : Type 0} (left : F → Option (List ℕ)) (faults : F → ℕ) (old new : F) (m n : ℕ) (r : List ℕ → Result (A × List ℕ) PlanFault) (k : A × List ℕ → Result (B × List ℕ) PlanFault) (see : C → A) (all : D → B) (e : PlanFault)
+    → Reads left faults old new m r see (Err e) → m ≤ n → Reads left faults old new n (λ bytes. r bytes >>= k) all (Err e)
+read_first left faults old new m n r k see all e h l = record {
+  answer = refused_first r k (left old) e h.answer;
+  took = took_within m n (left old) (left new) h.took l;
+  cause = cause_first e (faults old) (faults new) h.cause;
+}
+
+-- a reader that goes on behind what was taken
+reading_on : {B D : Type 0} (whole rest : List ℕ → Result (B × List ℕ) PlanFault) (all : D → B) (o p q : Option (List ℕ)) (result : Result D PlanFault) → option_map whole o ≡ option_map rest p → Reading rest all p q result → Reading whole all o q result
+reading_on whole rest all o p q (Ok d) e h = e ∙ h
+reading_on whole rest all o p q (Err fault) e h = refused_along whole rest o p fault e h
+
+pub read_on : {F B D : Type 0} (left : F → Option (List ℕ)) (faults : F → ℕ) (old mid new : F) (m n most : ℕ) (whole rest : List ℕ → Result (B × List ℕ) PlanFault) (all : D → B) (result : Result D PlanFault)
+    → option_map whole (left old) ≡ option_map rest (left mid) → Took m (left old) (left mid) → faults mid ≡ faults old → Reads left faults mid new n rest all result → m + n ≤ most → Reads left faults old new most whole all result
+read_on left faults old mid new m n most whole rest all result e took same next l = record {
+  answer = reading_on whole rest all (left old) (left mid) (left new) result e next.answer;
+  took = took_more m n most (left old) (left mid) (left new) took next.took l;
+  cause = subst (λ w. HasCauseOf FeedFault w (faults new) result) same next.cause;
+}
+
+pub read_then : {F A B C D : Type 0} (left : F → Option (List ℕ)) (faults : F → ℕ) (old mid new : F) (m n most : ℕ) (r : List ℕ → Result (A × List ℕ) PlanFault) (k : A × List ℕ → Result (B × List ℕ) PlanFault) (see : C → A) (all : D → B) (c : C) (result : Result D PlanFault)
+    → Reads left faults old mid m r see (Ok c) → Reads left faults mid new n (λ rest. k (see c, rest)) all result → m + n ≤ most → Reads left faults old new most (λ bytes. r bytes >>= k) all result
+read_then left faults old mid new m n most r k see all c result h next l =
+    read_on left faults old mid new m n most (λ bytes. r bytes >>= k) (λ rest. k (see c, rest)) all result (gave_then r k (left old) (left mid) (see c) h.answer) h.took h.cause.stands next l
+
+-- what needs nothing more of the feed
+pub read_given : {F B D : Type 0} (left : F → Option (List ℕ)) (faults : F → ℕ) (feed : F) (n : ℕ) (read : List ℕ → Result (B × List ℕ) PlanFault) (all : D → B) (d : D) → ((rest : List ℕ) → read rest ≡ gives (all d) rest) → Reads left faults feed feed n read all (Ok d)
+read_given left faults feed n read all d h = record {
+  answer = map_same (left feed) read (gives (all d)) h;
+  took = took_none n (left feed);
+  cause = record { later = omega arith; failed = λ is. absurd (cc is); stands = refl };
+}
+
+pub read_stopped : {F B D : Type 0} (left : F → Option (List ℕ)) (faults : F → ℕ) (feed : F) (n : ℕ) (read : List ℕ → Result (B × List ℕ) PlanFault) (all : D → B) (e : PlanFault) → (e ≡ FeedFault → ⊥) → (IsTrue (of_stream e) → (rest : List ℕ) → read rest ≡ Err e) → Reads left faults feed feed n read all (Err e)
+read_stopped left faults feed n read all e other h = record {
+  answer = λ t. if_some_each (left feed) (λ rest. read rest ≡ Err e) (h t);
+  took = took_none n (left feed);
+  cause = record { later = omega arith; failed = λ is. (let same : e ≡ FeedFault = cc in absurd (other same)); stands = tt };
+}
+
+pub read_no_memory : {F B D : Type 0} (left : F → Option (List ℕ)) (faults : F → ℕ) (old new : F) (most : ℕ) (read : List ℕ → Result (B × List ℕ) PlanFault) (all : D → B) → Took most (left old) (left new) → faults new ≡ faults old → Reads left faults old new most read all (Err OutOfMemory)
+read_no_memory left faults old new most read all took same = record {
+  answer = λ t. absurd (cc t);
+  took = took;
+  cause = record { later = omega arith; failed = λ is. absurd (cc is); stands = tt };
+}
+
+-- a reader that is the same as another
+pub read_alike : {F B D : Type 0} (left : F → Option (List ℕ)) (faults : F → ℕ) (old new : F) (n : ℕ) (f g : List ℕ → Result (B × List ℕ) PlanFault) (all : D → B) (result : Result D PlanFault) → ((rest : List ℕ) → f rest ≡ g rest) → Reads left faults old new n g all result → Reads left faults old new n f all result
+read_alike left faults old new n f g all result same h = read_on left faults old old new 0 n n f g all result (map_same (left old) f g same) (took_none 0 (left old)) refl h (omega arith)
+
+-- a fault of the stream is none of the feed
+pub not_feed : (e : PlanFault) → IsTrue (of_stream e) → e ≡ FeedFault → ⊥
+not_feed e t is = cc (ap of_stream is, true_from (of_stream e) t)
+
+-- a buffer that is filled from its front
 front_more : (n m k : ℕ) (buffer out bytes : List ℕ) → n + m ≤ length buffer → m ≤ k → m ≤ length out → IsFront n buffer bytes → Gives m out (drop n bytes) → IsFront (n + m) (put_mid n k buffer out) bytes
 front_more n m k buffer out bytes l j i h g =
     let e : length (take n buffer) ≡ n = omega (arith, length-take n buffer) in
@@ -81,22 +147,9 @@ front_more n m k buffer out bytes l j i h g =
       within = grind (arith, common_steps, g.within);
     }
 
-pub came_kept : (o : Option (List ℕ)) (n k : ℕ) (buffer out : List ℕ) → n ≤ length buffer → Came n o buffer → Came n o (put_mid n k buffer out)
-came_kept None n k buffer out l h = tt
-came_kept (Some bytes) n k buffer out l h = front_kept n k buffer out bytes l h
-
-pub came_more : (o p : Option (List ℕ)) (n m k : ℕ) (buffer out : List ℕ) → p ≡ option_map (drop n) o → n + m ≤ length buffer → m ≤ k → m ≤ length out → Came n o buffer → IfSome p (Gives m out) → Came (n + m) o (put_mid n k buffer out)
+pub came_more : (o p : Option (List ℕ)) (n m k : ℕ) (buffer out : List ℕ) → p ≡ option_map (drop n) o → n + m ≤ length buffer → m ≤ k → m ≤ length out → IfSome o (IsFront n buffer) → IfSome p (Gives m out) → IfSome o (IsFront (n + m) (put_mid n k buffer out))
 came_more None p n m k buffer out e l j i h g = tt
 came_more (Some bytes) p n m k buffer out e l j i h g = front_more n m k buffer out bytes l j i h (subst (λ q. IfSome q (Gives m out)) e g)
-
-nothing_more : (n m : ℕ) (bytes : List ℕ) → m ≡ 0 → (0 < length (drop n bytes) → 0 < m) → length bytes ≤ n
-nothing_more n m bytes z f = grind (arith, common_steps)
-
-pub at_end : (o p : Option (List ℕ)) (n m : ℕ) (out : List ℕ) → m ≡ 0 → p ≡ option_map (drop n) o → IfSome p (Gives m out) → IfSome o (λ bytes. length bytes ≤ n)
-at_end None p n m out z e g = tt
-at_end (Some bytes) p n m out z e g =
-    let h : Gives m out (drop n bytes) = subst (λ q. IfSome q (Gives m out)) e g in
-    nothing_more n m bytes z h.some
 
 -- the count
 pub limited_err : (m n : ℕ) (rest : List ℕ) → n ≡ m → 65536 < n → limited m rest ≡ Err (TooManyWrites n)
@@ -112,20 +165,6 @@ box_refused s i before head b e rest q j = ap (λ r. r >>= λ b. gives b rest) (
 
 pub box_gave : (s : Scale) (i before : ℕ) (head : List ℕ) (b : Box3) (rest : List ℕ) → b ≡ box_of head → judged s i before b ≡ Ok b → (judged s i before (box_of head) >>= λ b. gives b rest) ≡ gives b rest
 box_gave s i before head b rest q j = ap (λ r. r >>= λ b. gives b rest) (ap (judged s i before) (sym q) ∙ j)
-
-pub not_feed : {A : Type 0} (r : Result A PlanFault) (e : PlanFault) → IsTrue (of_stream e) → r ≡ Err e → r ≡ Err FeedFault → ⊥
-not_feed r e t q h = let k : e ≡ FeedFault = cc in cc (ap of_stream k, true_from (of_stream e) t)
-
--- a write: its box, and then its values
-pub write_refused : (s : Scale) (i before : ℕ) (o p : Option (List ℕ)) (b : Box3) (len : ℕ) (e : PlanFault) → Gave (box_at s i before) o p b → len ≡ raw_len b s.channels s.width → Refused (front len (Truncated i)) p e → Refused (write_at s i before) o e
-unfolding write_at
-write_refused s i before o p b len e g q h =
-    refused_then (box_at s i before) _ o p b e g (refused_first (front (raw_len b s.channels s.width) (Truncated i)) _ p e (subst (λ n. Refused (front n (Truncated i)) p e) q h))
-
-pub write_gave : (s : Scale) (i before : ℕ) (o p r : Option (List ℕ)) (b : Box3) (len : ℕ) (bytes : List ℕ) → Gave (box_at s i before) o p b → len ≡ raw_len b s.channels s.width → Gave (front len (Truncated i)) p r bytes → Gave (write_at s i before) o r (b, bytes)
-unfolding write_at
-write_gave s i before o p r b len bytes g q h =
-    gave_then (box_at s i before) _ o p b g ∙ gave_then (front (raw_len b s.channels s.width) (Truncated i)) _ p r bytes (subst (λ n. Gave (front n (Truncated i)) p r bytes) q h)
 
 pub if_some_any : {A : Type 0} (o : Option A) (P : A → Type 0) → ((x : A) → P x) → IfSome o P
 if_some_any None P h = tt

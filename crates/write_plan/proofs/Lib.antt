@@ -4,6 +4,7 @@ pub mod FillSteps
 pub mod FoundSteps
 pub mod KeySteps
 pub mod ListSteps
+pub mod MarkSteps
 pub mod NumberSteps
 pub mod OrderSteps
 pub mod PlanSteps

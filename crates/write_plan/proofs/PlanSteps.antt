@@ -167,6 +167,19 @@ ready_at : (s : Scale) (ws : List BoxWrite) (job n : ℕ) (b : Bool) → b ≡ t
 ready_at s ws job n true e len = length-written_raw s zeros ws (cell_of (in_key_order s (met_cells s ws)) job) ∙ sym len
 ready_at s ws job n false e len = absurd (cc e)
 
+-- the bytes of a job that is filled in are those that are ready
+pub filled : (plan : Planned) (s : Scale) (ws : List BoxWrite) (jobs : List Job) (own : Job) (job n : ℕ) (raw : List ℕ) → plan ≡ record { scale = s; writes = ws } → jobs ≡ jobs_of s (in_key_order s (met_cells s ws)) → own ≡ job_at jobs job
+    → IsSomeAnd (ready_of plan job) (λ bytes. length bytes ≡ n) → raw ≡ written_raw plan.scale zeros plan.writes own.cell → ready_of plan job ≡ Some raw
+filled plan s ws jobs own job n raw is all own_is h e =
+    let whole : Planned = record { scale = s; writes = ws } in
+    let ready : IsSomeAnd (ready_of whole job) (λ bytes. length bytes ≡ n) = subst (λ (p : Planned). IsSomeAnd (ready_of p job) (λ bytes. length bytes ≡ n)) is h in
+    let low : job < length (in_key_order s (met_cells s ws)) = ready_low whole job n (nat_lt job (length (planned_cells whole))) refl ready in
+    let t : nat_lt job (length (in_key_order s (met_cells s ws))) ≡ true = below_true _ _ low in
+    let own_raw : raw ≡ written_raw s zeros ws own.cell = subst (λ (p : Planned). raw ≡ written_raw p.scale zeros p.writes own.cell) is e in
+    let cell : own.cell ≡ cell_of (in_key_order s (met_cells s ws)) job = own_cell s ws jobs own job all own_is low in
+    let same : ready_of whole job ≡ Some raw = rw t (ap Some (sym (own_raw ∙ ap (λ (c : List ℕ). written_raw s zeros ws c) cell))) in
+    subst (λ (p : Planned). ready_of p job ≡ Some raw) (sym is) same
+
 pub job_room : (plan : Planned) (jobs : List Job) (own : Job) (job n : ℕ) → jobs ≡ jobs_of plan.scale (planned_cells plan) → own ≡ job_at jobs job → job < length (planned_cells plan)
     → n ≡ raw_len (cell_box plan.scale own.cell) plan.scale.channels plan.scale.width → IsSomeAnd (ready_of plan job) (λ bytes. length bytes ≡ n)
 job_room plan jobs own job n all is low len =

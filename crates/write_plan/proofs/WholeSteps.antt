@@ -1,30 +1,46 @@
 -- The whole of a stream.
-use Rattle.std.proofs.Common.{◌≡◌, ℕ, zero, suc, ◌<◌, ◌≤◌, ◌^◌, List, [], length, Option, Some, None, IfSome, Ok, Err, false, refl, ap, sym, arith, inl, inr}
+use Rattle.std.proofs.Common.{◌≡◌, ℕ, zero, suc, ◌<◌, ◌≤◌, ◌^◌, List, [], length, Option, Some, None, Ok, Err, Bool, true, false, refl, ap, sym, arith, inl, inr}
 use Rattle.std.specs.Prelude.{◌==◌}
 use Rattle.std.specs.List.{All}
 use Rattle.std.specs.Option.{option_map}
-use Rattle.std.proofs.lemmas.Bool.Decides.{nat_tests}
 use Rattle.std.proofs.lemmas.Grind.{not_there}
 use Rattle.std.proofs.lemmas.List.{length-map}
 use Rattle.std.proofs.lemmas.List.Elements.{All-weaker}
 use Rattle.vol_spec.specs.Limits.{IsWidth}
 use Rattle.vol_spec.specs.declared.scale.Scale.{Scale}
-use Rattle.write_plan.specs.Reading.{ended}
+use Rattle.write_plan.specs.Reading.{end_at, ended}
+use Rattle.write_plan.specs.Readers.{Gave, Refused, gives}
 use Rattle.write_plan.specs.WriteLists.{BoxWrite, AreWrites, IsWrite, IsWriteOf, writes_in, total}
 use Rattle.write_plan.specs.declared.fault.PlanFault.{PlanFault}
-use Rattle.write_plan.specs.declared.fault.PlanFault.TheVariants.{TrailingBytes}
 use Rattle.write_plan.specs.declared.writes.Write.{Write}
 
-not_empty : (n : ℕ) → 0 < n → (n == 0) ≡ false
-not_empty n h = grind (arith, nat_tests)
+same_rest : (a b c d : List ℕ) → gives a b ≡ gives c d → b ≡ d
+same_rest a b c d e = let pair : (a, b) ≡ (c, d) = cc in ap (λ (r : List ℕ × List ℕ). r.1) pair
 
-pub ended_refused : (ws : List BoxWrite) (p : Option (List ℕ)) (e : PlanFault) → e ≡ TrailingBytes → IfSome p (λ bytes. 0 < length bytes) → IfSome p (λ rest. ended ws rest ≡ Err e)
-ended_refused ws None e q h = tt
-ended_refused ws (Some x) e q h = rw (not_empty (length x) h) (ap Err (sym q))
+-- nothing follows, or something does
+pub end_all : (ws : List BoxWrite) (p q : Option (List ℕ)) → Gave end_at p q [] → (option_map (ended ws) p ≡ option_map (λ _. Ok ws) p) × (q ≡ option_map (λ _. []) p)
+end_all ws None None e = (refl, refl)
+end_all ws None (Some y) e = absurd (cc e)
+end_all ws (Some x) None e = absurd (cc e)
+end_all ws (Some x) (Some y) e = by (length x == 0) refl
+  where
+    read : end_at x ≡ Ok ([], y)
+    read = cc
 
-pub ended_all : (ws : List BoxWrite) (p : Option (List ℕ)) → p ≡ option_map (λ _. []) p → option_map (ended ws) p ≡ option_map (λ _. Ok ws) p
-ended_all ws None h = refl
-ended_all ws (Some x) h = let e : x ≡ [] = cc in ap Some (ap (ended ws) e)
+    by : (b : Bool) → (length x == 0) ≡ b → (Some (ended ws x) ≡ Some (Ok ws)) × (Some y ≡ Some [])
+    by true t = let same = rw t at read in (rw t refl, ap Some (sym (same_rest [] [] [] y same)))
+    by false t = let other = rw t at read in absurd (cc)
+
+pub end_stopped : (ws : List BoxWrite) (p : Option (List ℕ)) (e : PlanFault) → Refused end_at p e → Refused (ended ws) p e
+end_stopped ws None e h t = tt
+end_stopped ws (Some x) e h t = by (length x == 0) refl
+  where
+    read : end_at x ≡ Err e
+    read = h t
+
+    by : (b : Bool) → (length x == 0) ≡ b → ended ws x ≡ Err e
+    by true u = let other = rw u at read in absurd (cc)
+    by false u = let same = rw u at read in rw u cc
 
 no_width : IsWidth 0 → ⊥
 no_width (inl h) = cc h

@@ -1,5 +1,5 @@
 -- The jobs of a writer, and what preparing them answers (this project's).
-use Rattle.std.specs.Prelude.{◌≡◌, ◌≢◌, ℕ, ◌/◌, ◌^◌, ◌≤◌, ◌<◌, min, max, List, [], length, map, slice_index_or, Option, Some, None, Result, Ok, Err, ⊤}
+use Rattle.std.specs.Prelude.{◌≡◌, ◌≢◌, ℕ, ◌/◌, ◌^◌, ◌≤◌, ◌<◌, min, max, ◌↔◌, Contains, List, [], length, map, slice_index_or, Option, Some, None, Result, Ok, Err, ⊤}
 use Rattle.std.specs.FinMap as fin
 use Rattle.std.specs.List.{range_with_len}
 use Rattle.vol_base.specs.Outside.{Objects}
@@ -46,6 +46,10 @@ pub record IsJob (s : Scale) (job : Job) : Type 0 where
 
 abbrev pub cells_in : List Job → List Cell
 cells_in jobs = map (λ (job : Job). job.cell) jobs
+
+-- jobs of these cells, in some order
+abbrev pub HaveCells : List Job → List Cell → Type 0
+HaveCells jobs cells = (cell : Cell) → Contains (cells_in jobs) cell ↔ Contains cells cell
 
 -- a job of a list of jobs
 abbrev pub job_at : List Job → ℕ → Job

@@ -2,6 +2,7 @@
 use Rattle.std.specs.Prelude.{◌≡◌, ℕ, ◌+◌, ◌*◌, ◌<◌, ◌==◌, List, [], ◌∷◌, ◌++◌, length, map, filter, slice_index_or}
 use Rattle.std.specs.List.{All, Contains}
 use Rattle.std.specs.List.Sorted.{IsNonDecreasingBy}
+use Rattle.vol_base.specs.declared.boxes.Box3.{Box3}
 use Rattle.vol_spec.specs.Grid.{IsCell, cells_in, cells_on, meets}
 use Rattle.vol_spec.specs.StoredCells.{AreInOrder, cell_number, met_cells}
 use Rattle.vol_spec.specs.StoredLists.{in_key_order}
@@ -19,10 +20,14 @@ cell_count s = cells_on s 0 * cells_on s 1 * cells_on s 2
 abbrev pub pair_of : Scale → ℕ → List ℕ → Pair
 pair_of s write cell = record { number = cell_number s cell; write = write }
 
--- of writes that are numbered from a first number on: each cell that each write meets
+-- of a write: each cell that its box meets
+abbrev pub pairs_of : Scale → ℕ → Box3 → List Pair
+pairs_of s write part = map (pair_of s write) (cells_in s part)
+
+-- of writes that are numbered from a first number on
 abbrev pub pairs_from : Scale → ℕ → List BoxWrite → List Pair
 pairs_from s first [] = []
-pairs_from s first (w ∷ ws) = map (pair_of s first) (cells_in s w.0) ++ pairs_from s (first + 1) ws
+pairs_from s first (w ∷ ws) = pairs_of s first w.0 ++ pairs_from s (first + 1) ws
 
 -- the pairs of a cell, by its number
 abbrev pub run_of : List Pair → ℕ → List Pair

@@ -1,12 +1,17 @@
 -- What readers of a feed do (this project's). What is left before and after a call is an option: it is there
 -- where the feed tells it.
-use Rattle.std.specs.Prelude.{◌≡◌, ℕ, ◌+◌, ◌^◌, ◌≤◌, IsTrue, Bool, true, false, List, length, take, drop, Option, IfSome, Result, Ok, Err}
+use Rattle.std.specs.Prelude.{◌≡◌, ℕ, ◌+◌, ◌-◌, ◌^◌, ◌≤◌, IsTrue, Bool, true, false, List, length, take, drop, Option, IfSome, Result, Ok, Err}
+use Rattle.std.specs.List.{All}
 use Rattle.std.specs.Option.{option_map}
+use Rattle.vol_base.specs.Bytes.{AreBytes}
+use Rattle.vol_base.specs.Causes.{HasCauseOf}
 use Rattle.vol_base.specs.declared.boxes.Box3.{Box3}
 use Rattle.vol_spec.specs.Grid.{Inside}
 use Rattle.vol_spec.specs.Raw.{raw_len}
 use Rattle.vol_spec.specs.declared.scale.Scale.{Scale}
 use Rattle.write_plan.specs.Reading.{judged}
+use Rattle.write_plan.specs.WriteLists.{BoxWrite, IsWriteOf, total}
+use Rattle.write_plan.specs.declared.writes.Write.{Write}
 use Rattle.write_plan.specs.declared.fault.PlanFault.{PlanFault}
 use Rattle.write_plan.specs.declared.fault.PlanFault.TheVariants.{FeedFault, BadMagic, TooManyWrites, EmptyBox, OutsideBox, WritesTooLarge, Truncated, TrailingBytes, OutOfMemory}
 
@@ -27,9 +32,6 @@ pub record IsFront (n : ℕ) (buffer bytes : List ℕ) : Type 0 where
   pub same : take n buffer ≡ take n bytes
   pub within : n ≤ length bytes
 
-abbrev pub Came : ℕ → Option (List ℕ) → List ℕ → Type 0
-Came n before buffer = IfSome before (IsFront n buffer)
-
 -- at most so many bytes were taken
 pub record Took (most : ℕ) (before now : Option (List ℕ)) : Type 0 where
   pub count : ℕ
@@ -48,6 +50,20 @@ Gave read before now value = option_map read before ≡ option_map (gives value)
 abbrev pub Refused : {A : Type 0} → (List ℕ → Result A PlanFault) → Option (List ℕ) → PlanFault → Type 0
 Refused read before fault = IsTrue (of_stream fault) → IfSome before (λ bytes. read bytes ≡ Err fault)
 
+-- a call gives the value that is seen of its answer, or refuses
+abbrev pub Reading : {A B : Type 0} → (List ℕ → Result (B × List ℕ) PlanFault) → (A → B) → Option (List ℕ) →
+    Option (List ℕ) → Result A PlanFault → Type 0
+Reading read see before now (Ok value) = Gave read before now (see value)
+Reading read see before now (Err fault) = Refused read before fault
+
+-- what a call does with a feed, of which is told what is left and how often it failed: it reads, takes at most so
+-- many bytes, and answers `FeedFault` only where the feed failed
+pub record Reads {F A B : Type 0} (left : F → Option (List ℕ)) (faults : F → ℕ) (old new : F) (most : ℕ)
+    (read : List ℕ → Result (B × List ℕ) PlanFault) (see : A → B) (result : Result A PlanFault) : Type 0 where
+  pub answer : Reading read see (left old) (left new) result
+  pub took : Took most (left old) (left new)
+  pub cause : HasCauseOf FeedFault (faults old) (faults new) result
+
 -- what was answered is what reading gives, but for faults of the feed and want of memory
 abbrev pub Answers : {A : Type 0} → Result A PlanFault → Result A PlanFault → Type 0
 Answers (Ok value) read = read ≡ Ok value
@@ -63,3 +79,26 @@ pub record IsSized (s : Scale) (before : ℕ) (b : Box3) (len : ℕ) : Type 0 wh
 pub record IsJudged (s : Scale) (i before : ℕ) (b : Box3) (len : ℕ) : Type 0 where
   pub sound : judged s i before b ≡ Ok b
   pub sized : IsSized s before b len
+
+-- the length of a box's values, or its fault
+abbrev pub Judges : Scale → ℕ → ℕ → Box3 → Result ℕ PlanFault → Type 0
+Judges s i before b (Ok len) = IsJudged s i before b len
+Judges s i before b (Err fault) = IsTrue (of_stream fault) × (judged s i before b ≡ Err fault)
+
+-- a write that was read behind so many bytes of values
+pub record IsReadWrite (s : Scale) (before : ℕ) (w : BoxWrite) : Type 0 where
+  pub fits : IsWriteOf s w
+  pub bytes : AreBytes w.1
+  pub room : before + length w.1 ≤ 2 ^ 30
+
+-- so many writes that were read
+pub record AreReadWrites (s : Scale) (count : ℕ) (ws : List BoxWrite) : Type 0 where
+  pub fit : All (IsWriteOf s) ws
+  pub bytes : All (λ w. AreBytes w.1) ws
+  pub small : total ws ≤ 2 ^ 30
+  pub len : length ws ≡ count
+
+-- how many bytes reading a write behind so many bytes of values takes at most: its head and its values, or all for which there is room
+abbrev pub most_of : ℕ → Result Write PlanFault → ℕ
+most_of before (Ok write) = 48 + length write.bytes.items
+most_of before (Err fault) = 48 + (2 ^ 30 - before)

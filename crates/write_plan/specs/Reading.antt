@@ -68,6 +68,10 @@ count_at bytes = do
 abbrev pub ended : {A : Type 0} → A → List ℕ → Result A PlanFault
 ended value bytes = if length bytes == 0 then Ok value else Err TrailingBytes
 
+-- nothing, where nothing follows
+abbrev pub end_at : List ℕ → Result (List ℕ × List ℕ) PlanFault
+end_at = ended ([], [])
+
 -- the writes of a stream, or its first fault
 unfoldable pub writes_read : List ℕ → Scale → Result (List BoxWrite) PlanFault
 writes_read bytes s = do

@@ -41,3 +41,8 @@ pub record AreWrites (ws : List BoxWrite) : Type 0 where
 pub record IsWriteOf (s : Scale) (w : BoxWrite) : Type 0 where
   pub inside : Inside s w.0
   pub bytes : length w.1 ≡ raw_len w.0 s.channels s.width
+
+-- writes of a scale, within the limits of a list of writes
+pub record AreWritesOf (s : Scale) (ws : List BoxWrite) : Type 0 where
+  pub each : All (IsWriteOf s) ws
+  pub limits : AreWrites ws

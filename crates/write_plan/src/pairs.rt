@@ -1,11 +1,11 @@
 //! Pairs of a cell and a write that meets it.
-ghost use Rattle.std.specs.Prelude.{◌≡◌, ◌≢◌, ◌≤◌, ◌<◌, ◌^◌, ◌++◌, ◌↔◌, List, ℕ, length, map, IfOk, OnOk, All, AllPairs, Contains};
+ghost use Rattle.std.specs.Prelude.{◌≡◌, ◌≤◌, ◌<◌, ◌^◌, ◌++◌, IfOk, OnOk, All};
 ghost use Rattle.std.specs.List.Sorted.{IsNonDecreasingBy};
-ghost use Rattle.vol_spec.specs.Grid.{Inside, IsCell, cells_in};
+ghost use Rattle.vol_spec.specs.Grid.{Inside, IsCell};
 ghost use Rattle.vol_spec.specs.StoredCells.{cell_number};
-ghost use Rattle.write_plan.specs.Pairs.{ArePairs, AreRead, cell_count, pair_of, pairs_from, run_of};
+ghost use Rattle.write_plan.specs.Pairs.{ArePairs, AreRead, cell_count, pairs_of, run_of};
 ghost use Rattle.write_plan.specs.Plans.{pairs as count_of};
-ghost use Rattle.write_plan.specs.WriteLists.{IsWriteOf, total, writes_in};
+ghost use Rattle.write_plan.specs.WriteLists.{AreWritesOf, writes_in};
 
 use crate::writes::Write;
 use chunk_grid::{cells as cells_in_box, count_cells, grid};
@@ -23,8 +23,7 @@ pub(crate) struct Pair {
 /// The number of a cell in the grid: x fastest, then y, then z.
 pub(crate) fn find_number(scale: &Scale, cell: [u64; 3]) -> u128
     requires { IsCell scale.now cell }
-    ensures number { result ≡ cell_number scale.now cell }
-    ensures below { result < cell_count scale.now }
+    ensures { result ≡ cell_number scale.now cell }
 {
     let [columns, rows, _] = grid(scale).size;
     let row = cell[1] as u128 + rows as u128 * cell[2] as u128;
@@ -48,8 +47,7 @@ fn find_cell(scale: &Scale, number: u128) -> [u64; 3]
 
 /// How many pairs of a write and a cell that it meets there are.
 pub(crate) fn count_pairs(scale: &Scale, writes: &[Write]) -> u64
-    requires fits { All (IsWriteOf scale.now) (writes_in writes.now) }
-    requires small { total (writes_in writes.now) ≤ 2 ^ 30 }
+    requires { AreWritesOf scale.now (writes_in writes.now) }
     ensures { result ≡ count_of scale.now (writes_in writes.now) }
 {
     let mut count = 0;
@@ -67,33 +65,13 @@ fn push_pairs(
     pairs: &mut Vec<Pair>,
 ) -> Result<(), AllocError>
     requires { Inside scale.now part.now }
-    ensures { OnOk result (pairs.new.items ≡ pairs.old.items
-        ++ map (pair_of scale.now write) (cells_in scale.now part.now)) }
+    ensures { OnOk result (pairs.new.items ≡ pairs.old.items ++ pairs_of scale.now write part.now) }
 {
     for cell in cells_in_box(scale, part) {
         let number = find_number(scale, cell);
         pairs.push(Pair { number, write })?;
     }
     Ok(())
-}
-
-// So many pairs, write by write.
-fn list_pairs(
-    alloc: Global,
-    scale: &Scale,
-    writes: &[Write],
-    count: u64,
-) -> Result<Vec<Pair>, AllocError>
-    requires fits { All (IsWriteOf scale.now) (writes_in writes.now) }
-    requires few { length writes.now ≤ 65536 }
-    requires count { count ≤ 2 ^ 22 }
-    ensures { IfOk result (λ ps. ps.items ≡ pairs_from scale.now 0 (writes_in writes.now)) }
-{
-    let mut pairs = Vec::with_capacity(alloc, count as usize)?;
-    for (number, write) in writes.iter().enumerate() {
-        push_pairs(scale, &write.part, number as u32, &mut pairs)?;
-    }
-    Ok(pairs)
 }
 
 /// So many pairs in the order of the grid, those of one cell in the order of their writes.
@@ -103,12 +81,14 @@ pub(crate) fn find_pairs(
     writes: &[Write],
     count: u64,
 ) -> Result<Vec<Pair>, AllocError>
-    requires fits { All (IsWriteOf scale.now) (writes_in writes.now) }
-    requires few { length writes.now ≤ 65536 }
+    requires writes { AreWritesOf scale.now (writes_in writes.now) }
     requires count { count ≤ 2 ^ 22 }
     ensures { IfOk result (λ ps. ArePairs scale.now (writes_in writes.now) ps.items) }
 {
-    let mut pairs = list_pairs(alloc, scale, writes, count)?;
+    let mut pairs = Vec::with_capacity(alloc, count as usize)?;
+    for (number, write) in writes.iter().enumerate() {
+        push_pairs(scale, &write.part, number as u32, &mut pairs)?;
+    }
     pairs.sort_by_key(|pair| pair.number)?;
     Ok(pairs)
 }

@@ -1,6 +1,5 @@
 //! Plans of overlapping writes.
 ghost use Rattle.std.specs.Prelude.{◌≡◌, ◌<◌, ◌^◌, ◌↔◌, ℕ, Err, All, IfOk, length};
-ghost use Rattle.vol_base.specs.Causes.{HasCauseOf};
 ghost use Rattle.vol_spec.specs.Encodings.{raw_size};
 ghost use Rattle.vol_spec.specs.Grid.{IsCell, cell_box};
 ghost use Rattle.vol_spec.specs.Raw.{raw_at};
@@ -10,10 +9,11 @@ ghost use Rattle.write_plan.specs.Plans.{pairs as count_of};
 ghost use Rattle.write_plan.specs.WriteLists.{IsWriteOf};
 
 use crate::chunks::{Chunks, PrepareFault};
-use crate::fills::{fill_cell, is_met, overlay_cell};
+use crate::fills::{apply_run, clear};
 use crate::jobs::JobList;
-use crate::pairs::{Pair, count_pairs, find_cells, find_pairs};
+use crate::pairs::{Pair, count_pairs, find_cells, find_number, find_pairs, find_run};
 use crate::writes::Writes;
+use chunk_grid::cell_box;
 use std::alloc::{AllocError, Global};
 use std::marker::Model;
 use vol_base::{OutOfMemory, Store};
@@ -86,7 +86,17 @@ impl Plan {
         ensures { raw.new ≡ written_raw self.now.scale
             (raw_at (cell_box self.now.scale cell) self.now.scale.width raw.old) self.now.writes cell }
     {
-        overlay_cell(&self.scale, self.writes.list(), &self.pairs, cell, raw);
+        let scale = &self.scale;
+        let run = find_run(&self.pairs, find_number(scale, cell));
+        let part = cell_box(scale, cell);
+        apply_run(
+            self.writes.list(),
+            run,
+            &part,
+            raw,
+            scale.channels,
+            scale.width,
+        );
     }
 
     /// The writes, handed back.
@@ -101,7 +111,7 @@ impl Plan {
         requires { IsCell self.now.scale cell }
         ensures { result ≡ met self.now.scale self.now.writes cell }
     {
-        is_met(&self.scale, &self.pairs, cell)
+        !find_run(&self.pairs, find_number(&self.scale, cell)).is_empty()
     }
 }
 
@@ -126,8 +136,8 @@ impl From<OutOfMemory> for PlanRefusal {
 }
 
 impl Chunks for Plan {
-    ghost use Rattle.std.specs.Prelude.{◌≡◌, ◌-◌, ◌≤◌, ℕ, IsOk, IsSome, OnOk, IfSome, length};
-    ghost use Rattle.write_plan.specs.Jobs.{AreReady, Prepares, jobs_fault};
+    ghost use Rattle.std.specs.Prelude.{◌≡◌, ◌-◌, ◌≤◌, IsOk, IfSome, length};
+    ghost use Rattle.write_plan.specs.Jobs.{Prepares, jobs_fault};
     ghost use Rattle.write_plan.specs.Plans.{planned_cells, ready_of, work_of};
     ghost use Rattle.write_plan.specs.PlanLaws.{met_jobs, plan_fits, plan_keeps, ready_fits};
 
@@ -165,16 +175,10 @@ impl Chunks for Plan {
     ) -> Result<(), PrepareFault>
         requires within { _to ≤ length (planned_cells self.old) }
         ensures done { IsOk result }
-        ensures prepared { OnOk result ((job : ℕ) → _from ≤ job → job < _to →
-            IsSome (ready_of self.new job)) }
-        ensures ready { OnOk result (IfSome (S.objects _store.old) (λ m.
-            AreReady (ready_of self.new) ((work_of self.old).raw m) _from _to)) }
+        ensures plan { self.new ≡ self.old }
+        ensures store { _store.new ≡ _store.old }
         ensures answer { IfSome (S.objects _store.old) (λ m.
             Prepares result (jobs_fault (work_of self.old) m _from (_to - _from))) }
-        ensures work { work_of self.new ≡ work_of self.old }
-        ensures objects { S.objects _store.new ≡ S.objects _store.old }
-        ensures draft { S.draft _store.new ≡ S.draft _store.old }
-        ensures cause { HasCauseOf PrepareFault.StoreFault (S.faults _store.old) (S.faults _store.new) result }
     {
         Ok(())
     }
@@ -182,6 +186,7 @@ impl Chunks for Plan {
     /// Puts the raw bytes of a job's cell. It takes no memory.
     fn fill(&self, job: u64, raw: &mut [u8]) {
         let cell = self.jobs.get(job).cell;
-        fill_cell(&self.scale, self.writes.list(), &self.pairs, cell, raw);
+        clear(raw);
+        self.overlay(cell, raw);
     }
 }

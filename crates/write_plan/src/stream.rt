@@ -1,21 +1,17 @@
 //! The stream of box writes, this project's own format (docs/statuses.md).
-ghost use Rattle.std.specs.Prelude.{◌≡◌, ◌+◌, ◌-◌, ◌*◌, ◌<◌, ◌≤◌, ◌^◌, ℕ, [], false, IsTrue, Ok, Err, Some, length, IfOk, IfErr, IfSome, OnOk, OnErr};
+ghost use Rattle.std.specs.Prelude.{◌≡◌, ◌+◌, ◌*◌, ◌<◌, ◌≤◌, ◌^◌, [], false, IsTrue, IfOk, IfSome, OnOk};
 ghost use Rattle.vol_base.specs.Causes.{HasCauseOf};
-ghost use Rattle.std.specs.Int.{w64, from_le_bytes};
 ghost use Rattle.std.specs.List.{All};
 ghost use Rattle.std.specs.Option.{option_map};
-ghost use Rattle.std.specs.Result.{MatchResult};
 ghost use Rattle.std.specs.Str.{bytes_eq};
 ghost use Rattle.vol_base.specs.Bytes.{AreBytes};
 ghost use Rattle.vol_spec.specs.Grid.{Inside};
-ghost use Rattle.vol_spec.specs.Raw.{raw_len};
 ghost use Rattle.write_plan.specs.Stream.{is_empty, is_within, magic, head_number, box_of, writes_of};
-ghost use Rattle.write_plan.specs.Reading.{judged, box_at, write_at, writes_at, marked, count_at};
-ghost use Rattle.write_plan.specs.Readers.{Took, Gave, Refused, Answers, IsJudged, IsSized, of_stream};
-ghost use Rattle.write_plan.specs.WriteLists.{IsWriteOf, write_in, writes_in, total};
-ghost use Rattle.write_plan.specs.declared.fault.PlanFault.TheVariants.{TrailingBytes};
+ghost use Rattle.write_plan.specs.Reading.{box_at, write_at, writes_at, count_at, end_at};
+ghost use Rattle.write_plan.specs.Readers.{Took, Reads, Answers, AreReadWrites, IsReadWrite, IsSized, Judges, most_of};
+ghost use Rattle.write_plan.specs.WriteLists.{IsWriteOf, write_in, writes_in};
 
-use crate::bytes::{read_front, read_values};
+use crate::bytes::read_front;
 use crate::fault::PlanFault;
 use crate::writes::{Write, Writes};
 use chunk_grid::{byte_len, inside};
@@ -28,9 +24,8 @@ const MOST_WRITES: u32 = 65_536;
 // The most bytes of all values together.
 const MOST_BYTES: u64 = 1 << 30;
 
-fn find_word(head: &[u8], n: usize) -> u64
-    requires head { length head.now ≡ 48 }
-    requires n { n < 6 }
+fn find_word(head: &[u8; 48], n: usize) -> u64
+    requires { n < 6 }
     ensures { result ≡ head_number head.now n }
 {
     let bytes = &head[8 * n..8 * n + 8];
@@ -39,8 +34,7 @@ fn find_word(head: &[u8], n: usize) -> u64
     ])
 }
 
-fn read_box(head: &[u8]) -> Box3
-    requires { length head.now ≡ 48 }
+fn read_box(head: &[u8; 48]) -> Box3
     ensures { result ≡ box_of head.now }
 {
     Box3 {
@@ -73,8 +67,7 @@ fn lies_inside(scale: &Scale, part: &Box3) -> bool
 #[tactic(auto, unfolding(crate::specs::Reading::judged))]
 fn judge(scale: &Scale, number: u32, before: u64, part: &Box3) -> Result<usize, PlanFault>
     requires { before ≤ 2 ^ 30 }
-    ensures { MatchResult result (λ len. IsJudged scale.now number before part.now len) (λ e.
-        IsTrue (of_stream e) × (judged scale.now number before part.now ≡ Err e)) }
+    ensures { Judges scale.now number before part.now result }
 {
     if has_empty_axis(part) {
         return Err(PlanFault::EmptyBox { write: number });
@@ -97,12 +90,9 @@ fn read_part<F: Feed>(
     before: u64,
 ) -> Result<(Box3, usize), PlanFault>
     requires { before ≤ 2 ^ 30 }
-    ensures gave { IfOk result (λ r. Gave (box_at scale.now number before) (F.left feed.old)
-        (F.left feed.new) r.0) }
-    ensures refused { IfErr result (Refused (box_at scale.now number before) (F.left feed.old)) }
+    ensures read { Reads F.left F.faults feed.old feed.new 48 (box_at scale.now number before)
+        (λ r. r.0) result }
     ensures fits { IfOk result (λ r. IsSized scale.now before r.0 r.1) }
-    ensures took { Took 48 (F.left feed.old) (F.left feed.new) }
-    ensures cause { HasCauseOf PlanFault.FeedFault (F.faults feed.old) (F.faults feed.new) result }
 {
     let mut head = [0; 48];
     read_front(feed, &mut head, PlanFault::Truncated { write: number })?;
@@ -120,19 +110,13 @@ fn read_write<F: Feed>(
     before: u64,
 ) -> Result<Write, PlanFault>
     requires { before ≤ 2 ^ 30 }
-    ensures gave { IfOk result (λ write. Gave (write_at scale.now number before) (F.left feed.old)
-        (F.left feed.new) (write_in write)) }
-    ensures refused { IfErr result (Refused (write_at scale.now number before) (F.left feed.old)) }
-    ensures fits { IfOk result (λ write. IsWriteOf scale.now (write_in write)) }
-    ensures bytes { IfOk result (λ write. AreBytes write.bytes.items) }
-    ensures small { IfOk result (λ write. before + length write.bytes.items ≤ 2 ^ 30) }
-    ensures took { IfOk result (λ write. Took (48 + length write.bytes.items) (F.left feed.old)
-        (F.left feed.new)) }
-    ensures took_err { OnErr result (Took (48 + (2 ^ 30 - before)) (F.left feed.old) (F.left feed.new)) }
-    ensures cause { HasCauseOf PlanFault.FeedFault (F.faults feed.old) (F.faults feed.new) result }
+    ensures read { Reads F.left F.faults feed.old feed.new (most_of before result)
+        (write_at scale.now number before) write_in result }
+    ensures fits { IfOk result (λ write. IsReadWrite scale.now before (write_in write)) }
 {
     let (part, len) = read_part(feed, scale, number, before)?;
-    let bytes = read_values(alloc, feed, len, PlanFault::Truncated { write: number })?;
+    let mut bytes = vec![in alloc; 0; len]?;
+    read_front(feed, &mut bytes, PlanFault::Truncated { write: number })?;
     Ok(Write { part, bytes })
 }
 
@@ -144,15 +128,9 @@ fn read_list<F: Feed>(
     count: u32,
 ) -> Result<Vec<Write>, PlanFault>
     requires { count ≤ 65536 }
-    ensures gave { IfOk result (λ writes. Gave (writes_at scale.now count []) (F.left feed.old)
-        (F.left feed.new) (writes_in writes.items)) }
-    ensures refused { IfErr result (Refused (writes_at scale.now count []) (F.left feed.old)) }
-    ensures fits { IfOk result (λ writes. All (IsWriteOf scale.now) (writes_in writes.items)) }
-    ensures bytes { IfOk result (λ writes. All (λ w. AreBytes w.1) (writes_in writes.items)) }
-    ensures small { IfOk result (λ writes. total (writes_in writes.items) ≤ 2 ^ 30) }
-    ensures count { IfOk result (λ writes. length writes.items ≡ count) }
-    ensures took { Took (48 * 65536 + 2 ^ 30) (F.left feed.old) (F.left feed.new) }
-    ensures cause { HasCauseOf PlanFault.FeedFault (F.faults feed.old) (F.faults feed.new) result }
+    ensures read { Reads F.left F.faults feed.old feed.new (48 * 65536 + 2 ^ 30)
+        (writes_at scale.now count []) (λ writes. writes_in writes.items) result }
+    ensures fit { IfOk result (λ writes. AreReadWrites scale.now count (writes_in writes.items)) }
 {
     let mut writes = Vec::new(alloc);
     let mut before = 0;
@@ -170,30 +148,16 @@ fn is_mark(head: &[u8]) -> bool
     head == b"PVW1".as_slice()
 }
 
-// The four bytes that a stream begins with.
-fn read_mark<F: Feed>(feed: &mut F) -> Result<(), PlanFault>
-    ensures gave { OnOk result (option_map marked (F.left feed.old) ≡ option_map Ok (F.left feed.new)) }
-    ensures refused { IfErr result (Refused marked (F.left feed.old)) }
-    ensures took { Took 4 (F.left feed.old) (F.left feed.new) }
-    ensures cause { HasCauseOf PlanFault.FeedFault (F.faults feed.old) (F.faults feed.new) result }
+// How many writes a stream has, behind the four bytes that it begins with.
+fn read_count<F: Feed>(feed: &mut F) -> Result<u32, PlanFault>
+    ensures read { Reads F.left F.faults feed.old feed.new 8 count_at (λ count. count) result }
+    ensures small { IfOk result (λ count. count ≤ 65536) }
 {
     let mut head = [0; 4];
     read_front(feed, &mut head, PlanFault::BadMagic)?;
     if !is_mark(&head) {
         return Err(PlanFault::BadMagic);
     }
-    Ok(())
-}
-
-// How many writes a stream has.
-fn read_count<F: Feed>(feed: &mut F) -> Result<u32, PlanFault>
-    ensures gave { IfOk result (Gave count_at (F.left feed.old) (F.left feed.new)) }
-    ensures refused { IfErr result (Refused count_at (F.left feed.old)) }
-    ensures small { IfOk result (λ count. count ≤ 65536) }
-    ensures took { Took 8 (F.left feed.old) (F.left feed.new) }
-    ensures cause { HasCauseOf PlanFault.FeedFault (F.faults feed.old) (F.faults feed.new) result }
-{
-    read_mark(feed)?;
     let mut bytes = [0; 4];
     read_front(feed, &mut bytes, PlanFault::Truncated { write: 0 })?;
     let count = u32::from_le_bytes(bytes);
@@ -205,12 +169,7 @@ fn read_count<F: Feed>(feed: &mut F) -> Result<u32, PlanFault>
 
 // That nothing is left.
 fn read_end<F: Feed>(feed: &mut F) -> Result<(), PlanFault>
-    ensures ended { OnOk result (F.left feed.old ≡ option_map (λ _. []) (F.left feed.old)) }
-    ensures end { OnOk result (F.left feed.new ≡ F.left feed.old) }
-    ensures refused { IfErr result (λ e. IsTrue (of_stream e) → (e ≡ TrailingBytes) ×
-        IfSome (F.left feed.old) (λ bytes. 0 < length bytes)) }
-    ensures took { Took 1 (F.left feed.old) (F.left feed.new) }
-    ensures cause { HasCauseOf PlanFault.FeedFault (F.faults feed.old) (F.faults feed.new) result }
+    ensures { Reads F.left F.faults feed.old feed.new 1 end_at (λ _. []) result }
 {
     let mut byte = [0];
     match feed.read(&mut byte)? {

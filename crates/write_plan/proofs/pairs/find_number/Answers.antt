@@ -7,6 +7,3 @@ overflow_mul-result c = let fits = number_fits c.args.scale.now c.args.cell c.gr
 
 pub overflow_add-result : goal.overflow_add-result
 overflow_add-result c = let fits = number_fits c.args.scale.now c.args.cell c.grid.result.size c.grid.ensures c.requires in omega (arith, fits.whole)
-
-pub returns-clause-below : goal.returns-clause-below
-returns-clause-below c = (number_fits c.args.scale.now c.args.cell c.grid.result.size c.grid.ensures c.requires).below

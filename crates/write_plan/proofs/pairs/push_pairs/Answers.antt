@@ -23,7 +23,7 @@ pub loop-cell-preserved : goal.loop-cell-preserved
 loop-cell-preserved c = record {
   left = one_on c.loop-cell.yielded c.loop-cell.cell-iterator c.next.new.self (cells_in c.args.scale.now c.args.part.now) c.in-Some.cell c.in-Some.ensures.steps c.loop-cell.invariant.left;
   pushed = c.in_ok-push.ensures.items
-      ∙ ap (λ n. c.loop-cell.pairs.items ++ record { number = n; write = c.args.write } ∷ []) c.find_number-number.ensures.number
+      ∙ ap (λ n. c.loop-cell.pairs.items ++ record { number = n; write = c.args.write } ∷ []) c.find_number-number.ensures
       ∙ pushed_more (pair_of c.args.scale.now c.args.write) c.args.pairs.now.items c.loop-cell.pairs.items c.loop-cell.yielded c.in-Some.cell c.loop-cell.invariant.pushed;
 }
 
