@@ -3,7 +3,7 @@ use Rattle.std.proofs.Common.{◌≡◌, ◌∙◌, ℕ, ◌+◌, ◌-◌, ◌<�
 use Rattle.std.proofs.Math.Seq.{drop-append_seam, drop-append-add, take-append-add}
 use Rattle.std.proofs.lemmas.Bool.{cases_lt, eqb-true}
 use Rattle.std.proofs.Math.ListN.{drop_of_length-le}
-use borrow.Rule.Slice.PartMut.{post_of}
+use borrow.Rule.Slice.PartMut.{mid_of, post_of}
 use Rattle.std.proofs.lemmas.List.{drop-append-le, take-append-le}
 use Rattle.vol_base.specs.Outside.{part}
 use Rattle.std.proofs.lemmas.Grind.{common_steps}
@@ -251,8 +251,39 @@ taken_true {E = E} {n = n} {at = at} {got = got} {body = body} {old = old} {new 
     let bytes : true ≡ true → new ≡ part body at (length old) = subst (λ r. IfOk {E = E} r (λ whole. whole ≡ true → new ≡ part body at (length old))) e t.bytes in
     (eqb-true got n (sym whole), bytes refl)
 
-pub three_long : (f a b : List ℕ) (got more : ℕ) → length a ≡ got → length b ≡ more → length (f ++ (a ++ b)) ≡ length f + got + more
-three_long f a b got more x y = omega (arith, x, y, length-append f (a ++ b), length-append a b)
+-- the front of a body is copied, and what stands behind it is received in two calls, of which the first gave all that it was to give
+module _ {E : Type 0} (front whole out : List ℕ) (len at copied : ℕ) {before got more : ℕ} {piece a b : List ℕ} {r0 r1 r2 left0 left1 left2 : Option (List ℕ)} {line0 line1 line2 : Option Line} {ends0 ends1 ends2 : ℕ} {first : Result Bool E} {last : Result (Unit {0}) E}
+    (long : length whole ≡ length out) (copies : copied ≡ min (length front - at) (length out)) (bytes : take copied whole ≡ part front at copied) (behind : before ≡ at - length front) (few : length front ≤ len) (fits : at + length out ≤ len) (yes : first ≡ Ok true)
+    (taken : Taken (before + length (mid_of copied (length whole - copied) whole)) before got a (mid_of copied (length whole - copied) whole) piece first)
+    (passed : Passed (before + length (mid_of copied (length whole - copied) whole)) a r0 r1 left0 left1 line0 line1 ends0 ends1 first)
+    (b_long : length b ≡ more) (rest : Passed (len - (length front + got)) b r1 r2 left1 left2 line1 line2 ends1 ends2 last) where
+  sub_long : length (mid_of copied (length whole - copied) whole) ≡ length out - copied
+  sub_long = omega (arith, length-take (length whole - copied) (drop copied whole), length-drop copied whole, long, copies)
+
+  all_got : (got ≡ before + length (mid_of copied (length whole - copied) whole)) × (piece ≡ part a before (length (mid_of copied (length whole - copied) whole)))
+  all_got = taken_true yes taken
+
+  all_fits : got + (len - (length front + got)) ≤ len - length front
+  all_fits = omega (arith, all_got.0, sub_long, behind, copies, few, fits)
+
+  all_long : length (front ++ (a ++ b)) ≡ length front + got + more
+  all_long = omega (arith, taken.long, b_long, length-append front (a ++ b), length-append a b)
+
+  pub stretch_ok : last ≡ Ok tt
+      → Taken {E = E} len at (length front + got + more) (front ++ (a ++ b)) out (take copied whole ++ (piece ++ post_of copied (length whole - copied) whole)) (Ok (length front + got + more == len))
+      × Passed {T = Bool} {E = E} (len - length front) (a ++ b) r0 r2 left0 left2 line0 line2 ends0 ends2 (Ok (length front + got + more == len))
+  stretch_ok is = (
+    record {
+      long = all_long;
+      whole = refl;
+      bytes = λ _. stretch_put front a b whole piece (mid_of copied (length whole - copied) whole) at (length out) copied before copies long bytes behind sub_long (taken.long ∙ all_got.0) all_got.1;
+    },
+    more_ok (len - length front) _ _ is (sofar_of got true yes taken.long passed) all_fits passed.later rest (λ less. omega (arith, less, taken.long, length-append a b)),
+  )
+
+  pub stretch_err : (e : E) (new : List ℕ)
+      → Taken {E = E} len at (length front + got + more) (front ++ (a ++ b)) out new (Err e) × Passed {T = Bool} {E = E} (len - length front) (a ++ b) r0 r2 left0 left2 line0 line2 ends0 ends2 (Err e)
+  stretch_err e new = (record { long = all_long; whole = tt; bytes = tt }, more_err (len - length front) e (sofar_of got true yes taken.long passed) all_fits passed.later rest)
 
 -- what came into the front of a buffer, behind what was there
 pub joined : (stop t0 t1 : ℕ) (old buf : List ℕ) → t0 ≤ t1 → t1 ≤ length buf → t0 ≤ stop → take t0 buf ≡ take t0 (take stop old) → take t1 (buf ++ drop stop old) ≡ take t0 old ++ drop t0 (take t1 buf)

@@ -250,6 +250,9 @@ counted_head wanted g spans parts body of few is = record {
 pub counted_none : (wanted : Wanted) (g : List ℕ) → length g ≤ 8192 → ((head : ResponseHead) (rest : List ℕ) → ¬ (HasHead g head rest)) → IsCounted wanted g 0
 counted_none wanted g few never = record { behind = λ head rest x. absurd (never head rest x); none = λ _. refl; most = λ many. absurd (omega (arith, many, few)) }
 
+pub counted_nothing : (wanted : Wanted) → IsCounted wanted [] 0
+counted_nothing wanted = counted_none wanted [] (omega arith) (λ head rest x. head_there head rest x.0)
+
 pub counted_partial : (wanted : Wanted) (g : List ℕ) → length g ≤ 8192 → HasNoResponse g → IsCounted wanted g 0
 counted_partial wanted g few none = counted_none wanted g few (λ head rest x. none head rest x.0)
 

@@ -10,6 +10,7 @@ pub mod Places
 pub mod Bodies
 pub mod Stretches
 pub mod HeardParts
+pub mod FilledFronts
 pub mod HeadFields
 pub mod Fitting
 pub mod AskedHeads

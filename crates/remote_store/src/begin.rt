@@ -3,7 +3,7 @@ ghost use Rattle.std.specs.Prelude.{◌≡◌, ◌+◌, ◌<◌, ◌≤◌, min,
 ghost use Rattle.vol_base.specs.Causes.{HasCause};
 ghost use Rattle.vol_base.specs.Gains.{Gains};
 ghost use Rattle.remote_store.specs.Answers.{IsAsked};
-ghost use Rattle.remote_store.specs.Bodies.{Came, IsBegun, IsHeard};
+ghost use Rattle.remote_store.specs.Bodies.{Came, IsBegun};
 ghost use Rattle.remote_store.specs.Dials.{SamePeer};
 ghost use Rattle.remote_store.specs.Talks.{Unfit};
 
@@ -14,39 +14,6 @@ use crate::wait::{Front, wait_head};
 use crate::wanted::{Begun, Wanted};
 use httparse::spans::HeaderSpan;
 use vol_base::Failed;
-
-/// Receives the head of a reply: what it says, or None where what came doesn't fit. `there` is how many bytes came.
-fn hear<D: Dial>(
-    dial: &mut D,
-    received: &mut [u8],
-    there: &mut usize,
-    spans: &mut [HeaderSpan],
-    wanted: Wanted,
-) -> Result<Option<Begun>, Failed>
-    requires held { IsTrue (D.holds dial.old) }
-    requires size { length received.old ≡ 8192 }
-    requires room { 4096 ≤ length spans.old }
-    requires some { IsAsked wanted }
-    ensures within { there.new ≤ 8192 }
-    ensures received { Gains (D.received dial.old) (D.received dial.new) (take there.new received.new) }
-    ensures heard { IfOk result (λ o. IfSome o (λ b. IsHeard wanted (take there.new received.new) b)) }
-    ensures unfit { IfOk result (λ o. o ≡ None → Unfit wanted (take there.new received.new)
-        (D.ends dial.old) (D.ends dial.new) (D.left dial.old)) }
-    ensures came { IfOk result (λ _. Came (take there.new received.new) (D.left dial.old) (D.left dial.new)
-        (D.line dial.old) (D.line dial.new)) }
-    ensures ends { D.ends dial.old ≤ D.ends dial.new }
-    ensures held { D.holds dial.new ≡ D.holds dial.old }
-    ensures same { SamePeer (D.peer dial.old) (D.peer dial.new) (D.dialled dial.old) (D.dialled dial.new) }
-    ensures cause { HasCause (D.faults dial.old) (D.faults dial.new) result }
-{
-    let parts = match wait_head(dial, received, there, spans) {
-        Ok(Front::Head(parts)) => parts,
-        Ok(Front::Partial) => return Ok(None),
-        Ok(Front::Never) => return Ok(None),
-        Err(Failed) => return Err(Failed),
-    };
-    Ok(judge_front_of(&received[..*there], spans, &parts, wanted))
-}
 
 // How many of the first 8,192 bytes of a reply are to come.
 fn find_stop(head: usize, len: u64) -> usize
@@ -80,10 +47,15 @@ pub(crate) fn begin<D: Dial>(
     ensures same { SamePeer (D.peer dial.old) (D.peer dial.new) (D.dialled dial.old) (D.dialled dial.new) }
     ensures cause { HasCause (D.faults dial.old) (D.faults dial.new) result }
 {
-    let begun = match hear(dial, received, there, spans, wanted) {
-        Ok(Some(begun)) => begun,
-        Ok(None) => return Ok(None),
+    let parts = match wait_head(dial, received, there, spans) {
+        Ok(Front::Head(parts)) => parts,
+        Ok(Front::Partial) => return Ok(None),
+        Ok(Front::Never) => return Ok(None),
         Err(failed) => return Err(failed),
+    };
+    let begun = match judge_front_of(&received[..*there], spans, &parts, wanted) {
+        Some(begun) => begun,
+        None => return Ok(None),
     };
     let stop = find_stop(begun.head, count_following(wanted, begun.promise.len));
     match fill(dial, &mut received[..stop], there) {

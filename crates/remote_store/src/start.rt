@@ -18,13 +18,15 @@ use crate::wanted::{Begun, Wanted};
 use httparse::spans::HeaderSpan;
 use vol_base::Failed;
 
-/// Sends a request for an object of a data set on the end, and receives the front of the reply.
+/// Sends a request for an object of a data set on the end, and receives the front of the reply; `body` is how many bytes came
+/// behind the head.
 fn ask_once<D: Dial>(
     dial: &mut D,
     wanted: Wanted,
     text: &[u8],
     received: &mut [u8],
     there: &mut usize,
+    body: &mut u64,
     spans: &mut [HeaderSpan],
 ) -> Result<Option<Begun>, Failed>
     requires held { IsTrue (D.holds dial.old) }
@@ -41,17 +43,21 @@ fn ask_once<D: Dial>(
         → IsQuietFor dataset (D.peer dial.old) (D.line dial.old)
         → HasBegun dataset (D.peer dial.old) text.now (take there.new received.new)
         (D.left dial.new) (D.line dial.new) o) }
+    ensures counted { IsCounted wanted (take there.new received.new) body.new }
     ensures ends { D.ends dial.old ≤ D.ends dial.new }
     ensures held { D.holds dial.new ≡ D.holds dial.old }
     ensures same { SamePeer (D.peer dial.old) (D.peer dial.new) (D.dialled dial.old) (D.dialled dial.new) }
     ensures cause { HasCause (D.faults dial.old) (D.faults dial.new) result }
 {
     *there = 0;
+    *body = 0;
     match send_all(dial, text) {
         Ok(()) => {}
         Err(failed) => return Err(failed),
     }
-    begin(dial, received, there, spans, wanted)
+    let answer = begin(dial, received, there, spans, wanted);
+    *body = count_behind(&received[..*there], spans);
+    answer
 }
 
 /// The same on an end that is kept, where there is one; None where it ended before a byte of the reply came, so that the
@@ -63,6 +69,7 @@ fn ask_kept<D: Dial>(
     text: &[u8],
     received: &mut [u8],
     there: &mut usize,
+    body: &mut u64,
     spans: &mut [HeaderSpan],
 ) -> Result<Option<Option<Begun>>, Failed>
     requires held { IsTrue kept → IsTrue (D.holds dial.old) }
@@ -84,16 +91,18 @@ fn ask_kept<D: Dial>(
         → (IsTrue kept → IsQuietFor dataset (D.peer dial.old) (D.line dial.old))
         → HasBegun dataset (D.peer dial.old) text.now (take there.new received.new)
         (D.left dial.new) (D.line dial.new) o)) }
+    ensures counted { IsCounted wanted (take there.new received.new) body.new }
     ensures held { IfOk result (λ t. IfSome t (λ o. IsTrue (D.holds dial.new))) }
     ensures ends { D.ends dial.old ≤ D.ends dial.new }
     ensures same { SamePeer (D.peer dial.old) (D.peer dial.new) (D.dialled dial.old) (D.dialled dial.new) }
     ensures cause { HasCause (D.faults dial.old) (D.faults dial.new) result }
 {
     *there = 0;
+    *body = 0;
     if !kept {
         return Ok(None);
     }
-    match ask_once(dial, wanted, text, received, there, spans) {
+    match ask_once(dial, wanted, text, received, there, body, spans) {
         Ok(None) => {
             if *there == 0 {
                 return Ok(None);
@@ -106,59 +115,8 @@ fn ask_kept<D: Dial>(
 }
 
 /// Sends a request for an object of a data set, on the end that is kept or on a new one, and receives the front of the
-/// reply; None where it doesn't fit. A kept end that ended before a byte of the reply came is dialled anew, once. It takes
-/// no memory.
-///
-/// # Errors
-/// `Failed` only where the dial failed.
-fn ask<D: Dial>(
-    dial: &mut D,
-    kept: bool,
-    host: &str,
-    port: u16,
-    wanted: Wanted,
-    text: &[u8],
-    received: &mut [u8],
-    there: &mut usize,
-    spans: &mut [HeaderSpan],
-) -> Result<Option<Begun>, Failed>
-    requires held { IsTrue kept → IsTrue (D.holds dial.old) }
-    requires some { IsAsked wanted }
-    requires size { length received.old ≡ 8192 }
-    requires room { 4096 ≤ length spans.old }
-    ensures within { there.new ≤ 8192 }
-    ensures received { Gains (D.received dial.old) (D.received dial.new) (take there.new received.new) }
-    ensures begun { IfOk result (λ o. IfSome o (λ b. IsBegun wanted (take there.new received.new) b)) }
-    ensures unfit { IfOk result (λ o. o ≡ None → IsUnfit wanted (take there.new received.new)
-        (D.ends dial.old) (D.ends dial.new)) }
-    ensures told { IfOk result (λ o. (dataset key : List ℕ) → IsAskFor dataset host.now port key wanted text.now
-        → (IsTrue kept → IsQuietFor dataset (D.peer dial.old) (D.line dial.old))
-        → HasBegun dataset (D.peer dial.old) text.now (take there.new received.new)
-        (D.left dial.new) (D.line dial.new) o) }
-    ensures held { IfOk result (λ _. IsTrue (D.holds dial.new)) }
-    ensures ends { D.ends dial.old ≤ D.ends dial.new }
-    ensures dialled { Dials (host.now, port) (D.dialled dial.old) (D.dialled dial.new) }
-    ensures again { IfOk result (λ o. o ≡ None → there.new ≡ 0
-        → DialsOnce (host.now, port) (D.dialled dial.old) (D.dialled dial.new)) }
-    ensures goes_on { IfOk result (λ _. (dataset key : List ℕ) → IsAskFor dataset host.now port key wanted text.now
-        → IsTrue kept → IsQuietFor dataset (D.peer dial.old) (D.line dial.old) → IsServed dataset (D.peer dial.old)
-        → D.dialled dial.new ≡ D.dialled dial.old) }
-    ensures peer { D.peer dial.new ≡ D.peer dial.old }
-    ensures cause { HasCause (D.faults dial.old) (D.faults dial.new) result }
-{
-    match ask_kept(dial, kept, wanted, text, received, there, spans) {
-        Ok(None) => {}
-        Ok(Some(answer)) => return Ok(answer),
-        Err(failed) => return Err(failed),
-    }
-    match dial.dial(host, port) {
-        Ok(()) => {}
-        Err(failed) => return Err(failed),
-    }
-    ask_once(dial, wanted, text, received, there, spans)
-}
-
-/// The same; `body` is how many bytes came behind the head.
+/// reply; None where it doesn't fit. A kept end that ended before a byte of the reply came is dialled anew, once. `body` is
+/// how many bytes came behind the head. It takes no memory.
 ///
 /// # Errors
 /// `Failed` only where the dial failed.
@@ -199,7 +157,14 @@ pub(crate) fn start<D: Dial>(
     ensures cause { HasCause (D.faults dial.old) (D.faults dial.new) result }
     ensures counted { IsCounted wanted (take there.new received.new) body.new }
 {
-    let answer = ask(dial, kept, host, port, wanted, text, received, there, spans);
-    *body = count_behind(&received[..*there], spans);
-    answer
+    match ask_kept(dial, kept, wanted, text, received, there, body, spans) {
+        Ok(None) => {}
+        Ok(Some(answer)) => return Ok(answer),
+        Err(failed) => return Err(failed),
+    }
+    match dial.dial(host, port) {
+        Ok(()) => {}
+        Err(failed) => return Err(failed),
+    }
+    ask_once(dial, wanted, text, received, there, body, spans)
 }

@@ -1,6 +1,7 @@
-use Rattle.std.proofs.Common.{◌≡◌, Some, take}
+use Rattle.std.proofs.Common.{◌≡◌, Some, None, take}
+use Rattle.std.proofs.lemmas.Result.{IfOk-weaker}
 use Rattle.remote_store.proofs.ToldParts.{told_kept, told_new}
-use Rattle.remote_store.proofs.start.ask.Goals as goal
+use Rattle.remote_store.proofs.start.start.Goals as goal
 
 pub returns-in-Ok-Some-clause-told : goal.returns-in-Ok-Some-clause-told
 returns-in-Ok-Some-clause-told g c =
@@ -12,3 +13,8 @@ pub returns-clause-told : goal.returns-clause-told
 returns-clause-told g c =
     told_new c.args.wanted c.args.text.now (take c.ask_once.new.there c.ask_once.new.received) c.args.host.now c.args.port c.args.kept (g.D.Dial.peer c.args.dial.now) (g.D.Dial.peer c.ask_kept.new.dial) (g.D.Dial.peer c.dial.new.self)
     (g.D.Dial.line c.args.dial.now) (g.D.Dial.line c.dial.new.self) (g.D.Dial.line c.ask_once.new.dial) (g.D.Dial.left c.ask_once.new.dial) c.ask_once.result c.ask_kept.ensures.same.same_peer c.dial.ensures.peer c.in-Ok.ensures.line c.ask_once.ensures.told
+
+pub returns-clause-goes_on : goal.returns-clause-goes_on
+returns-clause-goes_on g c =
+    let none : c.in-Ok-None.field-0 ≡ None = cc in
+    IfOk-weaker c.ask_once.result _ _ (λ _ _ dataset key asks on quiet served. absurd (c.in-Ok-None.ensures.goes_on none dataset c.args.host.now key c.args.port asks on quiet served)) c.ask_once.ensures.begun
