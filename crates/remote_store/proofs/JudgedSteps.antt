@@ -1,5 +1,5 @@
 -- What the calls of a store answer, by what came.
-use Rattle.std.proofs.Common.{◌≡◌, ◌≢◌, ◌∙◌, ℕ, ◌≤◌, List, [], length, Option, Some, None, IfOk, IfSome, OnErr, Result, Ok, Err, ◌⊎◌, if◌then◌else◌, inl, inr, ap, sym, refl, subst}
+use Rattle.std.proofs.Common.{◌≡◌, ◌≢◌, ◌∙◌, ℕ, ◌≤◌, List, [], length, take, Option, Some, None, IfOk, IfSome, OnErr, Result, Ok, Err, ◌⊎◌, if◌then◌else◌, inl, inr, ap, sym, refl, subst}
 use Rattle.std.specs.Result.{result_ok}
 use Rattle.std.specs.Vec.{with_items}
 use Rattle.std.specs.declared.vec.Vec.{Vec}
@@ -26,6 +26,9 @@ use Rattle.remote_store.proofs.RemoteSteps.{some_promise}
 -- what was written to a buffer stands in it
 pub written : {X Z : Type 0} (v : Vec X Z) (ws : List X) → length ws ≡ length v.items → (with_items v ws).items ≡ ws
 written v ws e = with_items_is v ws (e ∙ sym v.ok.0)
+
+pub written_front : {Z : Type 0} (v : Vec ℕ Z) (ws : List ℕ) (n : ℕ) → length ws ≡ length v.items → take n (with_items v ws).items ≡ take n ws
+written_front v ws n e = ap (take n) (written v ws e)
 
 pub judged_length : (answer : Result (Option Promise) Failed) (r : Result Promise Failed) → result_ok r ≡ promise_in answer → (gained last : List ℕ) (body : ℕ) (r0 r1 : Option (List ℕ)) (e0 e1 d0 d1 : ℕ) → last ≡ gained → length gained ≤ 8192 → Gains r0 r1 gained → IsCounted Length gained body
     → IfOk answer (λ o. IfSome o (λ promise. Fits Length gained promise [])) → IfOk answer (λ o. o ≡ None → IsUnfit Length gained e0 e1) → HasCause d0 d1 answer → IsJudged Length IsSame last body r0 r1 e0 e1 d0 d1 r

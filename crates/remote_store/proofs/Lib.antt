@@ -26,3 +26,4 @@ pub mod CallSteps
 pub mod RemoteSteps
 pub mod JudgedSteps
 pub mod AimedSteps
+pub mod EndSteps

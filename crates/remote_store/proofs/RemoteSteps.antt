@@ -1,8 +1,9 @@
 -- What the calls of a store answer, by the replies.
-use Rattle.std.proofs.Common.{◌≡◌, ◌∙◌, ℕ, ◌+◌, ◌-◌, ◌≤◌, ◌^◌, min, Bool, true, false, List, [], ◌∷◌, ◌++◌, length, length-take, drop, Option, Some, None, IfOk, IfSome, IsTrue, OnErr, OnOk, ◌≢◌, option_map, Result, Ok, Err, if◌then◌else◌, bytes_eq, codes, ap, sym, refl, subst, arith}
+use Rattle.std.proofs.Common.{◌≡◌, ◌∙◌, ℕ, ◌+◌, ◌-◌, ◌≤◌, ◌^◌, min, Bool, true, false, List, [], ◌∷◌, ◌++◌, length, length-take, take, drop, Option, Some, None, IfOk, IfSome, IsTrue, OnErr, OnOk, ◌≢◌, option_map, Result, Ok, Err, if◌then◌else◌, bytes_eq, codes, ap, sym, refl, subst, arith}
 use Rattle.std.specs.FinMap as map
 use Rattle.std.proofs.Math.Seq.{drop-append_seam}
 use Rattle.std.proofs.lemmas.List.{nil_from_length}
+use Rattle.std.proofs.lemmas.Result.{IfOk-weaker}
 use Rattle.std.proofs.lemmas.Slice.Eq.{bytes_eq-Decides}
 use Rattle.httparse.specs.Grammar.{status_code}
 use Rattle.request_heads.specs.Asks.{values_of}
@@ -12,12 +13,13 @@ use Rattle.vol_base.specs.declared.outside.Failed.{Failed}
 use Rattle.std.specs.Result.{result_ok}
 use Rattle.std.specs.Vec.{with_items}
 use Rattle.std.specs.declared.vec.Vec.{Vec}
-use Rattle.remote_store.specs.Bodies.{HasRoom, Replied, empty_got, got_of_kind, stretch_count}
-use Rattle.remote_store.specs.Dials.{Line, Peer}
+use Rattle.remote_store.specs.Bodies.{HasRoom, IsKeptBehind, Replied, empty_got, got_of_kind, stretch_count}
+use Rattle.remote_store.specs.Dials.{Dialled, Dials, DialsOnce, Line, Peer}
+use Rattle.remote_store.specs.Ends.{IsShort, KeepsEnd, StoreKeepsEnd}
 use Rattle.remote_store.specs.Fits.{Fits, bytes_said, kind_of, length_told, only, place_in, judged, size_said}
 use Rattle.remote_store.specs.Placed.{got_by, placed}
 use Rattle.remote_store.specs.Quiet.{IsQuietFor}
-use Rattle.remote_store.specs.Shown.{count_at, shown, under}
+use Rattle.remote_store.specs.Shown.{IsServed, count_at, shown, under}
 use Rattle.remote_store.specs.Talks.{SaysLength, SaysPart, promise_in}
 use Rattle.remote_store.specs.declared.wanted.Kind.{Kind}
 use Rattle.remote_store.specs.declared.wanted.Kind.TheVariants as kind
@@ -159,6 +161,17 @@ module _ (answer : Result (Option Promise) Failed) (r : Result Promise Failed) (
       by_cases answer (Ok q) said cause f = tt
       by_cases (Ok o) (Err x) said cause f = λ calm. f (sym said)
       by_cases (Err e) (Err x) said cause f = λ calm. absurd (calm cause.failed)
+
+  -- and how it leaves the end
+  pub settled_end : (key dataset full : List ℕ) {name host : List ℕ} {port there : ℕ} {ws : List ℕ} {old_kept kept holds : Bool} {p0 p1 : Option Peer} {l0 l1 : Option Line} {d0 d1 : Option Dialled} {dial0 dial1 : ℕ}
+      → KeepsEnd (IsShort key) (name, port) there ws old_kept kept holds p0 p1 l0 l1 d0 d1 answer → HasCause dial0 dial1 answer → IsShort key dataset → (IsTrue old_kept → IsQuietFor dataset p0 l0) → name ≡ host → take there full ≡ take there ws
+      → StoreKeepsEnd dataset (host, port) there full old_kept kept p0 dial0 dial1 d0 d1 r
+  settled_end key dataset full {name = name} {port = port} {there = there} {ws = ws} {old_kept = old_kept} {kept = kept} {p0 = p0} {d0 = d0} {d1 = d1} {dial0 = dial0} {dial1 = dial1} e cause short quiet same front = record {
+    dials = subst (λ h. Dials (h, port) d0 d1) same e.dials;
+    again = subst (λ h. OnErr r ((Rose dial0 dial1 → ⊥) → there ≡ 0 → DialsOnce (h, port) d0 d1)) same (settled_again (there ≡ 0 → DialsOnce (name, port) d0 d1) dial0 dial1 cause e.again);
+    goes_on = settled (λ _. IsTrue old_kept → IsServed dataset p0 → d1 ≡ d0) (IfOk-weaker answer _ _ (λ _ stays on served. stays dataset short on (quiet on) served) e.goes_on);
+    kept_end = subst (λ bytes. IfOk r (λ _. IsKeptBehind bytes kept)) (sym front) (settled_some (λ _. IsKeptBehind (take there ws) kept) e.kept_end);
+  }
 
   module _ (dataset : List ℕ) (peer0 peer1 : Option Peer) (dial0 dial1 own0 own1 : ℕ) (same : peer1 ≡ peer0) (cause : HasCause dial0 dial1 answer)
       (stands : OnOk r (own1 ≡ own0)) (counts : OnErr r (own1 ≡ min (own0 + 1) (2 ^ 64 - 1))) (told : IfOk answer (λ o. (p : Peer) → peer0 ≡ Some p → p.dataset ≡ dataset → o ≢ None)) where

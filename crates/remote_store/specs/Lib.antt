@@ -15,3 +15,4 @@ pub mod Placed
 pub mod Asking
 pub mod Hosts
 pub mod Remotes
+pub mod Ends

@@ -3,13 +3,12 @@ ghost use Rattle.std.specs.Prelude.{◌≡◌, ◌+◌, ◌<◌, ◌≤◌, ℕ,
 ghost use Rattle.vol_base.specs.Causes.{HasCause};
 ghost use Rattle.vol_base.specs.Gains.{Gains};
 ghost use Rattle.remote_store.specs.Answers.{IsAsked};
-ghost use Rattle.remote_store.specs.Bodies.{IsCounted, IsKeptBehind, Replied, empty_got, got_of_kind, stretch_count};
-ghost use Rattle.remote_store.specs.Dials.{Dials, DialsOnce};
+ghost use Rattle.remote_store.specs.Bodies.{IsCounted, Replied, empty_got, got_of_kind, stretch_count};
+ghost use Rattle.remote_store.specs.Ends.{IsShort, KeepsEnd};
 ghost use Rattle.remote_store.specs.Fits.{Fits, size_said};
 ghost use Rattle.remote_store.specs.Hosts.{is_host};
 ghost use Rattle.remote_store.specs.Quiet.{IsQuietFor};
 ghost use Rattle.remote_store.specs.Requests.{peer_value};
-ghost use Rattle.remote_store.specs.Shown.{IsServed};
 ghost use Rattle.remote_store.specs.Talks.{IsUnfit, SaysLength, SaysPart};
 ghost use Rattle.remote_store.specs.declared.wanted.Wanted.TheVariants.{Length, Part};
 
@@ -84,18 +83,10 @@ pub(crate) fn call_length<D: Dial>(
     ensures told { IfOk result (λ o. (dataset : List ℕ) → length dataset + 1 + length key.now ≤ 512
         → (IsTrue kept.old → IsQuietFor dataset (D.peer dial.old) (D.line dial.old))
         → SaysLength dataset (D.peer dial.old) key.now o) }
-    ensures held { IsTrue kept.new → IsTrue (D.holds dial.new) }
-    ensures quiet { IsTrue kept.new → (dataset : List ℕ) → length dataset + 1 + length key.now ≤ 512
-        → (IsTrue kept.old → IsQuietFor dataset (D.peer dial.old) (D.line dial.old))
-        → IsQuietFor dataset (D.peer dial.new) (D.line dial.new) }
+    ensures end { KeepsEnd (IsShort key.now) (host.now, port) there.new received.new kept.old kept.new
+        (D.holds dial.new) (D.peer dial.old) (D.peer dial.new) (D.line dial.old) (D.line dial.new)
+        (D.dialled dial.old) (D.dialled dial.new) result }
     ensures text { 1024 ≤ vec_capacity text.new }
-    ensures dialled { Dials (host.now, port) (D.dialled dial.old) (D.dialled dial.new) }
-    ensures again { IfOk result (λ o. o ≡ None → there.new ≡ 0
-        → DialsOnce (host.now, port) (D.dialled dial.old) (D.dialled dial.new)) }
-    ensures goes_on { IfOk result (λ _. (dataset : List ℕ) → length dataset + 1 + length key.now ≤ 512
-        → IsTrue kept.old → IsQuietFor dataset (D.peer dial.old) (D.line dial.old) → IsServed dataset (D.peer dial.old)
-        → D.dialled dial.new ≡ D.dialled dial.old) }
-    ensures kept_end { IfOk result (λ o. IfSome o (λ _. IsKeptBehind (take there.new received.new) kept.new)) }
     ensures peer { D.peer dial.new ≡ D.peer dial.old }
     ensures cause { HasCause (D.faults dial.old) (D.faults dial.new) result }
 {
@@ -148,18 +139,10 @@ pub(crate) fn call_part<D: Dial>(
     ensures told { IfOk result (λ o. (dataset : List ℕ) → length dataset + 1 + length key.now ≤ 512
         → (IsTrue kept.old → IsQuietFor dataset (D.peer dial.old) (D.line dial.old))
         → SaysPart dataset (D.peer dial.old) key.now from out.old out.new o) }
-    ensures held { IsTrue kept.new → IsTrue (D.holds dial.new) }
-    ensures quiet { IsTrue kept.new → (dataset : List ℕ) → length dataset + 1 + length key.now ≤ 512
-        → (IsTrue kept.old → IsQuietFor dataset (D.peer dial.old) (D.line dial.old))
-        → IsQuietFor dataset (D.peer dial.new) (D.line dial.new) }
+    ensures end { KeepsEnd (IsShort key.now) (host.now, port) there.new received.new kept.old kept.new
+        (D.holds dial.new) (D.peer dial.old) (D.peer dial.new) (D.line dial.old) (D.line dial.new)
+        (D.dialled dial.old) (D.dialled dial.new) result }
     ensures text { 1024 ≤ vec_capacity text.new }
-    ensures dialled { Dials (host.now, port) (D.dialled dial.old) (D.dialled dial.new) }
-    ensures again { IfOk result (λ o. o ≡ None → there.new ≡ 0
-        → DialsOnce (host.now, port) (D.dialled dial.old) (D.dialled dial.new)) }
-    ensures goes_on { IfOk result (λ _. (dataset : List ℕ) → length dataset + 1 + length key.now ≤ 512
-        → IsTrue kept.old → IsQuietFor dataset (D.peer dial.old) (D.line dial.old) → IsServed dataset (D.peer dial.old)
-        → D.dialled dial.new ≡ D.dialled dial.old) }
-    ensures kept_end { IfOk result (λ o. IfSome o (λ _. IsKeptBehind (take there.new received.new) kept.new)) }
     ensures peer { D.peer dial.new ≡ D.peer dial.old }
     ensures cause { HasCause (D.faults dial.old) (D.faults dial.new) result }
 {

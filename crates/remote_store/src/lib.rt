@@ -27,6 +27,7 @@ pub use aimed::{Aim, AimedDial};
 pub use dial::Dial;
 pub use hosts::is_host;
 pub use law::tell_reply;
+pub use numbers::{read_length, read_place};
 pub use remote::Remote;
 pub use script::ScriptDial;
 pub use wait::{Front, judge_front};

@@ -23,7 +23,7 @@ pub(crate) fn read_number(text: &[u8]) -> Option<u128>
 }
 
 /// The length that a value says, where 64 bits have room for it.
-pub(crate) fn read_length(text: &[u8]) -> Option<u64>
+pub fn read_length(text: &[u8]) -> Option<u64>
     ensures { result ≡ below (2 ^ 64) (number text.now) }
 {
     let Some(n) = read_number(text) else {
@@ -51,7 +51,7 @@ pub(crate) fn read_before(mark: u8, text: &[u8]) -> Option<(u128, &[u8])>
 
 /// The part that the value of a Content-Range field says; the greatest number of 128 bits stands for all above it.
 #[tactic(auto, unfolding(crate::specs::Reading::capped_place))]
-pub(crate) fn read_place(value: &[u8]) -> Option<(u128, u128, u128)>
+pub fn read_place(value: &[u8]) -> Option<(u128, u128, u128)>
     ensures { result ≡ capped_place value.now }
 {
     if value.len() < 6 || &value[..6] != b"bytes ".as_slice() {

@@ -4,11 +4,11 @@ ghost use Rattle.vol_base.specs.Causes.{HasCause};
 ghost use Rattle.vol_base.specs.Gains.{Gains};
 ghost use Rattle.remote_store.specs.Answers.{IsAsked};
 ghost use Rattle.remote_store.specs.Asking.{IsAskFor};
-ghost use Rattle.remote_store.specs.Bodies.{Finished, IsBegun, IsCounted, IsKeptBehind, Replied};
-ghost use Rattle.remote_store.specs.Dials.{Dials, DialsOnce, SamePeer};
+ghost use Rattle.remote_store.specs.Bodies.{Finished, IsBegun, IsCounted, Replied};
+ghost use Rattle.remote_store.specs.Dials.{SamePeer};
+ghost use Rattle.remote_store.specs.Ends.{Asks, KeepsEnd};
 ghost use Rattle.remote_store.specs.Fits.{Fits};
 ghost use Rattle.remote_store.specs.Quiet.{IsQuietFor};
-ghost use Rattle.remote_store.specs.Shown.{IsServed};
 ghost use Rattle.remote_store.specs.Talks.{IsUnfit, SaysLength, SaysPart};
 ghost use Rattle.remote_store.specs.declared.wanted.Wanted.TheVariants.{Length, Part};
 
@@ -80,18 +80,9 @@ pub(crate) fn ask_length<D: Dial>(
     ensures told { IfOk result (λ o. (dataset key : List ℕ) → IsAskFor dataset host.now port key Length text.now
         → (IsTrue kept.old → IsQuietFor dataset (D.peer dial.old) (D.line dial.old))
         → SaysLength dataset (D.peer dial.old) key o) }
-    ensures held { IsTrue kept.new → IsTrue (D.holds dial.new) }
-    ensures quiet { IsTrue kept.new → (dataset key : List ℕ)
-        → IsAskFor dataset host.now port key Length text.now
-        → (IsTrue kept.old → IsQuietFor dataset (D.peer dial.old) (D.line dial.old))
-        → IsQuietFor dataset (D.peer dial.new) (D.line dial.new) }
-    ensures dialled { Dials (host.now, port) (D.dialled dial.old) (D.dialled dial.new) }
-    ensures again { IfOk result (λ o. o ≡ None → there.new ≡ 0
-        → DialsOnce (host.now, port) (D.dialled dial.old) (D.dialled dial.new)) }
-    ensures goes_on { IfOk result (λ _. (dataset key : List ℕ) → IsAskFor dataset host.now port key Length text.now
-        → IsTrue kept.old → IsQuietFor dataset (D.peer dial.old) (D.line dial.old) → IsServed dataset (D.peer dial.old)
-        → D.dialled dial.new ≡ D.dialled dial.old) }
-    ensures kept_end { IfOk result (λ o. IfSome o (λ _. IsKeptBehind (take there.new received.new) kept.new)) }
+    ensures end { KeepsEnd (Asks host.now port Length text.now) (host.now, port)
+        there.new received.new kept.old kept.new (D.holds dial.new) (D.peer dial.old) (D.peer dial.new)
+        (D.line dial.old) (D.line dial.new) (D.dialled dial.old) (D.dialled dial.new) result }
     ensures peer { D.peer dial.new ≡ D.peer dial.old }
     ensures cause { HasCause (D.faults dial.old) (D.faults dial.new) result }
 {
@@ -149,18 +140,9 @@ pub(crate) fn ask_part<D: Dial>(
         → IsAskFor dataset host.now port key (Part from (length out.old)) text.now
         → (IsTrue kept.old → IsQuietFor dataset (D.peer dial.old) (D.line dial.old))
         → SaysPart dataset (D.peer dial.old) key from out.old out.new o) }
-    ensures held { IsTrue kept.new → IsTrue (D.holds dial.new) }
-    ensures quiet { IsTrue kept.new → (dataset key : List ℕ)
-        → IsAskFor dataset host.now port key (Part from (length out.old)) text.now
-        → (IsTrue kept.old → IsQuietFor dataset (D.peer dial.old) (D.line dial.old))
-        → IsQuietFor dataset (D.peer dial.new) (D.line dial.new) }
-    ensures dialled { Dials (host.now, port) (D.dialled dial.old) (D.dialled dial.new) }
-    ensures again { IfOk result (λ o. o ≡ None → there.new ≡ 0
-        → DialsOnce (host.now, port) (D.dialled dial.old) (D.dialled dial.new)) }
-    ensures goes_on { IfOk result (λ _. (dataset key : List ℕ) → IsAskFor dataset host.now port key (Part from (length out.old)) text.now
-        → IsTrue kept.old → IsQuietFor dataset (D.peer dial.old) (D.line dial.old) → IsServed dataset (D.peer dial.old)
-        → D.dialled dial.new ≡ D.dialled dial.old) }
-    ensures kept_end { IfOk result (λ o. IfSome o (λ _. IsKeptBehind (take there.new received.new) kept.new)) }
+    ensures end { KeepsEnd (Asks host.now port (Part from (length out.old)) text.now) (host.now, port)
+        there.new received.new kept.old kept.new (D.holds dial.new) (D.peer dial.old) (D.peer dial.new)
+        (D.line dial.old) (D.line dial.new) (D.dialled dial.old) (D.dialled dial.new) result }
     ensures peer { D.peer dial.new ≡ D.peer dial.old }
     ensures cause { HasCause (D.faults dial.old) (D.faults dial.new) result }
 {

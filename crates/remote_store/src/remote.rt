@@ -7,6 +7,7 @@ ghost use Rattle.vol_base.specs.Outside.{HaveBytes, KeepsRest, OnlyReads, Reads,
 ghost use Rattle.remote_store.specs.Bodies.{IsKeptBehind, got_of_kind, stretch_count};
 ghost use Rattle.remote_store.specs.Answers.{IsAsked};
 ghost use Rattle.remote_store.specs.Dials.{Dials, DialsOnce, DialsOnly};
+ghost use Rattle.remote_store.specs.Ends.{StoreKeepsEnd};
 ghost use Rattle.remote_store.specs.Hosts.{is_host};
 ghost use Rattle.remote_store.specs.Quiet.{IsQuietFor};
 ghost use Rattle.remote_store.specs.Remotes.{IsJudged, IsPlaced, IsRead, IsSame, IsSize, wanted_of};
@@ -179,15 +180,11 @@ impl<D: Dial> Remote<D> {
         ensures judged { IsJudged Length IsSame (take self.new.there self.new.received.items)
             self.new.body (D.received self.old.dial) (D.received self.new.dial) (D.ends self.old.dial) (D.ends self.new.dial)
             (D.faults self.old.dial) (D.faults self.new.dial) result }
-        ensures dialled { Dials (string_bytes self.old.host, self.old.port) (D.dialled self.old.dial) (D.dialled self.new.dial) }
-        ensures again { OnErr result ((Rose (D.faults self.old.dial) (D.faults self.new.dial) → ⊥) → self.new.there ≡ 0
-            → DialsOnce (string_bytes self.old.host, self.old.port) (D.dialled self.old.dial) (D.dialled self.new.dial)) }
-        ensures goes_on { IfOk result (λ _. IsTrue self.old.kept → IsServed self.old.dataset (D.peer self.old.dial)
-            → D.dialled self.new.dial ≡ D.dialled self.old.dial) }
-        ensures kept_end { IfOk result (λ _. IsKeptBehind (take self.new.there self.new.received.items) self.new.kept) }
+        ensures end { StoreKeepsEnd self.old.dataset (string_bytes self.old.host, self.old.port) self.new.there
+            self.new.received.items self.old.kept self.new.kept (D.peer self.old.dial) (D.faults self.old.dial)
+            (D.faults self.new.dial) (D.dialled self.old.dial) (D.dialled self.new.dial) result }
         ensures peer { D.peer self.new.dial ≡ D.peer self.old.dial }
-        ensures dataset { self.new.dataset ≡ self.old.dataset }
-        ensures asked { self.new.asked ≡ self.old.asked }
+        ensures same { (self.new.dataset ≡ self.old.dataset) × (self.new.asked ≡ self.old.asked) }
         ensures cause { HasCause
             (count_at (shown self.old.dataset (D.peer self.old.dial)) (D.faults self.old.dial) self.old.faults)
             (count_at (shown self.old.dataset (D.peer self.new.dial)) (D.faults self.new.dial) self.new.faults) result }
@@ -219,15 +216,11 @@ impl<D: Dial> Remote<D> {
         ensures judged { IsJudged (Part at (length out.old)) (IsPlaced at out.old out.new) (take self.new.there self.new.received.items)
             self.new.body (D.received self.old.dial) (D.received self.new.dial) (D.ends self.old.dial) (D.ends self.new.dial)
             (D.faults self.old.dial) (D.faults self.new.dial) result }
-        ensures dialled { Dials (string_bytes self.old.host, self.old.port) (D.dialled self.old.dial) (D.dialled self.new.dial) }
-        ensures again { OnErr result ((Rose (D.faults self.old.dial) (D.faults self.new.dial) → ⊥) → self.new.there ≡ 0
-            → DialsOnce (string_bytes self.old.host, self.old.port) (D.dialled self.old.dial) (D.dialled self.new.dial)) }
-        ensures goes_on { IfOk result (λ _. IsTrue self.old.kept → IsServed self.old.dataset (D.peer self.old.dial)
-            → D.dialled self.new.dial ≡ D.dialled self.old.dial) }
-        ensures kept_end { IfOk result (λ _. IsKeptBehind (take self.new.there self.new.received.items) self.new.kept) }
+        ensures end { StoreKeepsEnd self.old.dataset (string_bytes self.old.host, self.old.port) self.new.there
+            self.new.received.items self.old.kept self.new.kept (D.peer self.old.dial) (D.faults self.old.dial)
+            (D.faults self.new.dial) (D.dialled self.old.dial) (D.dialled self.new.dial) result }
         ensures peer { D.peer self.new.dial ≡ D.peer self.old.dial }
-        ensures dataset { self.new.dataset ≡ self.old.dataset }
-        ensures asked { self.new.asked ≡ self.old.asked }
+        ensures same { (self.new.dataset ≡ self.old.dataset) × (self.new.asked ≡ self.old.asked) }
         ensures cause { HasCause
             (count_at (shown self.old.dataset (D.peer self.old.dial)) (D.faults self.old.dial) self.old.faults)
             (count_at (shown self.old.dataset (D.peer self.new.dial)) (D.faults self.new.dial) self.new.faults) result }

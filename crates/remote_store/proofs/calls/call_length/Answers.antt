@@ -1,6 +1,6 @@
 use Rattle.std.proofs.Common.{◌∙◌}
-use Rattle.std.proofs.lemmas.Result.{IfOk-weaker}
 use Rattle.remote_store.specs.declared.wanted.Wanted.TheVariants.{Length}
+use Rattle.remote_store.proofs.EndSteps.{end_of}
 use Rattle.remote_store.proofs.CallSteps.{asks_for, peer_fits, told_length}
 use Rattle.remote_store.proofs.calls.call_length.Goals as goal
 
@@ -14,16 +14,9 @@ returns-clause-told g c =
     told_length c.args.host.now text c.args.key.now c.args.port c.args.kept.now (g.D.Dial.peer c.args.dial.now) (g.D.Dial.line c.args.dial.now) c.ask_length.result
     (asks_for c.args.host.now c.args.peer.now text c.args.key.now c.args.port Length c.requires.host c.requires.peer c.ranges.port.fits c.as_bytes-name.ensures.form tt bytes) c.ask_length.ensures.told
 
-pub returns-clause-quiet : goal.returns-clause-quiet
-returns-clause-quiet g c = λ on dataset named quiet.
-    let text = c.as_slice.result.now in
+pub returns-clause-end : goal.returns-clause-end
+returns-clause-end g c =
     let bytes = c.as_slice.ensures.value ∙ c.write_request.ensures.bytes in
-    c.ask_length.ensures.quiet on dataset c.args.key.now
-    (asks_for c.args.host.now c.args.peer.now text c.args.key.now c.args.port Length c.requires.host c.requires.peer c.ranges.port.fits c.as_bytes-name.ensures.form tt bytes dataset named) quiet
-
-pub returns-clause-goes_on : goal.returns-clause-goes_on
-returns-clause-goes_on g c =
-    let text = c.as_slice.result.now in
-    let bytes = c.as_slice.ensures.value ∙ c.write_request.ensures.bytes in
-    IfOk-weaker c.ask_length.result _ _ (λ _ same dataset named on quiet served. same dataset c.args.key.now
-    (asks_for c.args.host.now c.args.peer.now text c.args.key.now c.args.port Length c.requires.host c.requires.peer c.ranges.port.fits c.as_bytes-name.ensures.form tt bytes dataset named) on quiet served) c.ask_length.ensures.goes_on
+    end_of c.ask_length.result
+    (λ dataset short. (c.args.key.now, asks_for c.args.host.now c.args.peer.now c.as_slice.result.now c.args.key.now c.args.port Length c.requires.host c.requires.peer c.ranges.port.fits c.as_bytes-name.ensures.form tt bytes dataset short))
+    c.ask_length.ensures.end

@@ -1,4 +1,6 @@
-use Rattle.std.proofs.Common.{◌≡◌, ◌≤◌, ◌∙◌, ◌++◌, true, false, Ok, Some, None, take, length, length-take, ap, arith}
+use Rattle.std.proofs.Common.{◌≡◌, ◌≤◌, ◌∙◌, ◌++◌, true, false, IsTrue, Ok, Err, Some, None, take, length, length-take, ap, subst, sym, refl, arith}
+use Rattle.remote_store.specs.Dials.{Dials}
+use Rattle.remote_store.proofs.EndSteps.{end_dropped}
 use Rattle.remote_store.proofs.HeardParts.{begun_some, heard_there, kept_behind}
 use Rattle.remote_store.proofs.ToldAsks.{has_some, part_quiet, part_told, part_untold, replied_begun, replied_cut, replied_err, replied_failed, replied_whole}
 use Rattle.remote_store.proofs.part.ask_part.Goals as goal
@@ -38,13 +40,6 @@ returns-in-Ok-true-clause-told g c = λ dataset key asks quiet.
     let is : c.in-Ok-Some.field-0 ≡ Some c.in-Ok-Some.begun = cc in
     part_told c.finish_part.ensures.finished.1 all (g.met.D.Dial.plain c.args.dial.now) asks (has_some c.in-Ok-Some.field-0 is (c.in-Ok-Some.ensures.told dataset key asks quiet))
 
-pub returns-in-Ok-true-clause-quiet : goal.returns-in-Ok-true-clause-quiet
-returns-in-Ok-true-clause-quiet g c = λ on dataset key asks quiet.
-    let all : c.finish_part.result ≡ Ok true = c.in-Ok-true.is ∙ ap Ok c.in-Ok-true.field-0-test in
-    let is : c.in-Ok-Some.field-0 ≡ Some c.in-Ok-Some.begun = cc in
-    part_quiet c.finish_part.ensures.finished.1 all (g.met.D.Dial.plain c.args.dial.now) asks (has_some c.in-Ok-Some.field-0 is (c.in-Ok-Some.ensures.told dataset key asks quiet))
-    (c.finish_part.ensures.same.same_peer ∙ c.start.ensures.peer) on
-
 pub returns-in-Ok-false-clause-replied : goal.returns-in-Ok-false-clause-replied
 returns-in-Ok-false-clause-replied g c =
     let off : c.finish_part.result ≡ Ok false = c.in-Ok-false.is ∙ ap Ok c.in-Ok-false.field-0-test in
@@ -62,20 +57,35 @@ returns-in-Err-finish_part-clause-replied g c =
     let fin = c.finish_part.ensures.finished in
     (take c.start.new.there c.start.new.received ++ fin.0, replied_err fin.1 _ _ _ c.start.ensures.received)
 
-pub returns-in-Ok-true-clause-goes_on : goal.returns-in-Ok-true-clause-goes_on
-returns-in-Ok-true-clause-goes_on g c = λ dataset key asks on quiet served.
-    c.finish_part.ensures.same.same_dialled ∙ c.in-Ok-Some.ensures.goes_on dataset key asks on quiet served
+pub returns-in-Ok-None-clause-end : goal.returns-in-Ok-None-clause-end
+returns-in-Ok-None-clause-end g c =
+    let is : c.in-Ok-None.field-0 ≡ None = cc in
+    end_dropped (Ok None) refl c.start.ensures.dialled (λ _. c.in-Ok-None.ensures.again is) (λ dataset asks. c.in-Ok-None.ensures.goes_on dataset asks.0 asks.1)
 
-pub returns-in-Ok-true-clause-kept_end : goal.returns-in-Ok-true-clause-kept_end
-returns-in-Ok-true-clause-kept_end g c =
+pub returns-in-Err-clause-end : goal.returns-in-Err-clause-end
+returns-in-Err-clause-end g c = end_dropped (Err c.in-Err.failed) tt c.start.ensures.dialled tt tt
+
+pub returns-in-Ok-true-clause-end : goal.returns-in-Ok-true-clause-end
+returns-in-Ok-true-clause-end g c =
+    let all : c.finish_part.result ≡ Ok true = c.in-Ok-true.is ∙ ap Ok c.in-Ok-true.field-0-test in
     let is : c.in-Ok-Some.field-0 ≡ Some c.in-Ok-Some.begun = cc in
-    kept_behind (begun_some c.in-Ok-Some.field-0 is c.in-Ok-Some.ensures.begun).heard
+    let same = c.finish_part.ensures.same in record {
+      held = λ on. subst IsTrue (sym c.finish_part.ensures.held) c.in-Ok-Some.ensures.held;
+      quiet = λ on dataset asks quiet. part_quiet c.finish_part.ensures.finished.1 all (g.met.D.Dial.plain c.args.dial.now) asks.1 (has_some c.in-Ok-Some.field-0 is (c.in-Ok-Some.ensures.told dataset asks.0 asks.1 quiet)) (same.same_peer ∙ c.start.ensures.peer) on;
+      dials = subst (Dials (c.args.host.now, c.args.port) (g.D.Dial.dialled c.args.dial.now)) (sym same.same_dialled) c.start.ensures.dialled;
+      again = λ none. absurd (cc none);
+      goes_on = λ dataset asks on quiet served. same.same_dialled ∙ c.in-Ok-Some.ensures.goes_on dataset asks.0 asks.1 on quiet served;
+      kept_end = kept_behind (begun_some c.in-Ok-Some.field-0 is c.in-Ok-Some.ensures.begun).heard;
+    }
 
-pub returns-in-Ok-false-clause-again : goal.returns-in-Ok-false-clause-again
-returns-in-Ok-false-clause-again g c = λ none nothing.
+pub returns-in-Ok-false-clause-end : goal.returns-in-Ok-false-clause-end
+returns-in-Ok-false-clause-end g c =
     let is : c.in-Ok-Some.field-0 ≡ Some c.in-Ok-Some.begun = cc in
-    absurd (heard_there c.start.new.received c.start.new.there (begun_some c.in-Ok-Some.field-0 is c.in-Ok-Some.ensures.begun).heard nothing)
+    let same = c.finish_part.ensures.same in
+    end_dropped (Ok None) refl (subst (Dials (c.args.host.now, c.args.port) (g.D.Dial.dialled c.args.dial.now)) (sym same.same_dialled) c.start.ensures.dialled)
+    (λ none nothing. absurd (heard_there c.start.new.received c.start.new.there (begun_some c.in-Ok-Some.field-0 is c.in-Ok-Some.ensures.begun).heard nothing))
+    (λ dataset asks on quiet served. same.same_dialled ∙ c.in-Ok-Some.ensures.goes_on dataset asks.0 asks.1 on quiet served)
 
-pub returns-in-Ok-false-clause-goes_on : goal.returns-in-Ok-false-clause-goes_on
-returns-in-Ok-false-clause-goes_on g c = λ dataset key asks on quiet served.
-    c.finish_part.ensures.same.same_dialled ∙ c.in-Ok-Some.ensures.goes_on dataset key asks on quiet served
+pub returns-in-Err-finish_part-clause-end : goal.returns-in-Err-finish_part-clause-end
+returns-in-Err-finish_part-clause-end g c =
+    end_dropped (Err c.in-Err-finish_part.failed) tt (subst (Dials (c.args.host.now, c.args.port) (g.D.Dial.dialled c.args.dial.now)) (sym c.finish_part.ensures.same.same_dialled) c.start.ensures.dialled) tt tt

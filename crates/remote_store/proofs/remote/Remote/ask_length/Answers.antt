@@ -1,13 +1,8 @@
-use Rattle.std.proofs.Common.{◌≡◌, ◌∙◌, ◌≤◌, take, length, length-take, ap, arith, IfOk, IfSome, IsTrue, subst, sym, ℕ, List, OnErr}
-use Rattle.vol_base.specs.Causes.{Rose}
-use Rattle.remote_store.specs.Dials.{DialsOnce}
-use Rattle.std.proofs.lemmas.Result.{IfOk-weaker}
-use Rattle.remote_store.specs.Shown.{IsServed}
-use Rattle.remote_store.specs.Bodies.{IsKeptBehind}
+use Rattle.std.proofs.Common.{◌∙◌, ◌≤◌, take, length, length-take, ap, arith}
 use Rattle.remote_store.specs.Talks.{SaysLength}
 use Rattle.std.specs.Vec.{with_items}
-use Rattle.remote_store.proofs.JudgedSteps.{judged_length, written}
-use Rattle.remote_store.proofs.RemoteSteps.{refilled, length_at, length_comes, settled, settled_again, settled_cause, settled_some}
+use Rattle.remote_store.proofs.JudgedSteps.{judged_length, written_front}
+use Rattle.remote_store.proofs.RemoteSteps.{refilled, length_at, length_comes, settled, settled_cause, settled_end}
 use Rattle.remote_store.proofs.remote.Remote.ask_length.Goals as goal
 
 pub invariant_of-self : goal.invariant_of-self
@@ -16,8 +11,8 @@ invariant_of-self g c =
     let e = c.call_length-answer.ensures in
     let spans_old : 4096 ≤ length s.spans.items = s.spans_ok in
     record {
-      held = e.held;
-      quiet = λ on. e.quiet on s.dataset c.requires s.quiet;
+      held = e.end.held;
+      quiet = λ on. e.end.quiet on s.dataset c.requires s.quiet;
       named = s.named;
       host_ok = s.host_ok;
       peer_ok = s.peer_ok;
@@ -49,34 +44,13 @@ returns-clause-judged g c =
     let e = c.call_length-answer.ensures in
     let there = c.call_length-answer.new.there in
     let ws = c.call_length-answer.new.received in
-    let long : length ws ≡ length s.received.items = c.call_length-answer.auto.received ∙ ap length c.as_mut_slice.ensures.value in
-    let kept : take there (with_items s.received ws).items ≡ take there ws = ap (take there) (written s.received ws long) in
+    let front = written_front s.received ws there (c.call_length-answer.auto.received ∙ ap length c.as_mut_slice.ensures.value) in
     let few : length (take there ws) ≤ 8192 = omega (arith, length-take there ws, e.within) in
-    judged_length c.call_length-answer.result c.settle.result c.settle.ensures.said (take there ws) _ _ _ _ _ _ _ _ kept few e.received e.counted e.fits e.unfit e.cause
+    judged_length c.call_length-answer.result c.settle.result c.settle.ensures.said (take there ws) _ _ _ _ _ _ _ _ front few e.received e.counted e.fits e.unfit e.cause
 
-pub returns-clause-again : goal.returns-clause-again
-returns-clause-again g c =
+pub returns-clause-end : goal.returns-clause-end
+returns-clause-end g c =
     let s = c.args.self.now in
     let e = c.call_length-answer.ensures in
-    let d = c.call_length-answer.new.dial in
-    let once = λ (host : List ℕ). DialsOnce (host, s.port) (g.D.Dial.dialled s.dial) (g.D.Dial.dialled d) in
-    subst (λ host. OnErr c.settle.result ((Rose (g.D.Dial.faults s.dial) (g.D.Dial.faults d) → ⊥) → c.call_length-answer.new.there ≡ 0 → once host)) c.as_str.ensures.value
-    (settled_again c.call_length-answer.result c.settle.result c.settle.ensures.said _ _ _ e.cause e.again)
-
-pub returns-clause-goes_on : goal.returns-clause-goes_on
-returns-clause-goes_on g c =
-    let s = c.args.self.now in
-    let e = c.call_length-answer.ensures in
-    let d = c.call_length-answer.new.dial in
-    settled c.call_length-answer.result c.settle.result c.settle.ensures.said (λ _. IsTrue s.kept → IsServed s.dataset (g.D.Dial.peer s.dial) → g.D.Dial.dialled d ≡ g.D.Dial.dialled s.dial)
-    (IfOk-weaker c.call_length-answer.result _ _ (λ _ same on served. same s.dataset c.requires on (s.quiet on) served) e.goes_on)
-
-pub returns-clause-kept_end : goal.returns-clause-kept_end
-returns-clause-kept_end g c =
-    let s = c.args.self.now in
-    let there = c.call_length-answer.new.there in
-    let ws = c.call_length-answer.new.received in
-    let long : length ws ≡ length s.received.items = c.call_length-answer.auto.received ∙ ap length c.as_mut_slice.ensures.value in
-    let kept : take there (with_items s.received ws).items ≡ take there ws = ap (take there) (written s.received ws long) in
-    settled_some c.call_length-answer.result c.settle.result c.settle.ensures.said (λ _. IsKeptBehind (take there (with_items s.received ws).items) c.call_length-answer.new.kept)
-    (subst (λ gained. IfOk c.call_length-answer.result (λ o. IfSome o (λ _. IsKeptBehind gained c.call_length-answer.new.kept))) (sym kept) c.call_length-answer.ensures.kept_end)
+    let front = written_front s.received c.call_length-answer.new.received c.call_length-answer.new.there (c.call_length-answer.auto.received ∙ ap length c.as_mut_slice.ensures.value) in
+    settled_end c.call_length-answer.result c.settle.result c.settle.ensures.said c.args.key.now s.dataset (with_items s.received c.call_length-answer.new.received).items e.end e.cause c.requires s.quiet c.as_str.ensures.value front
