@@ -1,46 +1,42 @@
 -- The objects of one round more.
-use Rattle.std.proofs.Common.{◌≡◌, ◌∙◌, ℕ, ◌+◌, ◌≤◌, List, Option, Some, None, IfSome, ap, sym, subst, arith}
-use Rattle.std.specs.Option.{option_map}
-use Rattle.std.proofs.lemmas.List.FromFn.{length-map-range_with_len, take-map-range_with_len}
+use Rattle.std.proofs.Common.{◌≡◌, ◌∙◌, ℕ, ◌+◌, ◌-◌, ◌≤◌, ◌++◌, map, Option, Result, Ok, Err, ap, sym, subst, arith}
+use Rattle.std.specs.Prelude.{IsErrAnd}
+use Rattle.std.specs.List.{range_with_len}
 use Rattle.vol_base.specs.Outside.{Objects}
-use Rattle.vol_spec.specs.StoredCells.{put_in}
+use Rattle.vol_spec.specs.Types.{Bytes, Name}
 use Rattle.vol_spec.specs.declared.scale.Scale.{Scale}
-use Rattle.shard_writer.specs.Plain.{job_object, objects_from}
-use Rattle.shard_writer.specs.Writing.{joint_len, PutsFront}
-use Rattle.shard_writer.proofs.WindowSteps.{joint_split, put_behind}
+use Rattle.write_plan.specs.Jobs.{Work}
+use Rattle.encode_round.specs.Ready.{chunk_ready}
+use Rattle.shard_writer.specs.Plain.{job_object, ready_objects}
+use Rattle.shard_writer.specs.Writing.{Puts}
+use Rattle.shard_writer.proofs.PutSteps.{none_puts, puts_more, puts_stopped}
+use Rattle.shard_writer.proofs.WindowSteps.{map-range-split}
 
-pub round_put : (o now new : Option Objects) (dataset : List ℕ) (s : Scale) (cells : List (List ℕ)) (raw : ℕ → List ℕ) (from k at n total : ℕ) → from + k ≡ at → k + n ≡ total
-    → now ≡ option_map (λ m. put_in m (objects_from dataset s cells raw from k)) o
-    → new ≡ option_map (λ m. put_in m (objects_from dataset s cells raw at n)) now
-    → new ≡ option_map (λ m. put_in m (objects_from dataset s cells raw from total)) o
-round_put None now new dataset s cells raw from k at n total e all was put = put ∙ ap (option_map (λ m. put_in m (objects_from dataset s cells raw at n))) was
-round_put (Some m) now new dataset s cells raw from k at n total e all was put =
-    put ∙ ap (option_map (λ m. put_in m (objects_from dataset s cells raw at n))) was
-    ∙ ap Some (put_behind m dataset s cells raw from k at n e) ∙ ap (λ q. Some (put_in m (objects_from dataset s cells raw from q))) all
+-- the jobs up to one, and those from it on
+ready_split : (dataset : Name) (s : Scale) (work : Work) (ready : ℕ → Option Bytes) (a b c : ℕ) → a ≤ b → b ≤ c → ready_objects dataset s work ready a c ≡ ready_objects dataset s work ready a b ++ ready_objects dataset s work ready b c
+ready_split dataset s work ready a b c low high =
+    let f : ℕ → Name × Bytes = job_object dataset s work.cells (chunk_ready work ready) in
+    let all : c - a ≡ (b - a) + (c - b) = omega arith in
+    let next : a + (b - a) ≡ b = omega arith in
+    ap (λ n. map f (range_with_len a n)) all ∙ map-range-split f a (b - a) (c - b) ∙ ap (λ n. map f (range_with_len a (b - a)) ++ map f (range_with_len n (c - b))) next
 
-pub round_joint : (dataset : List ℕ) (s : Scale) (cells : List (List ℕ)) (raw : ℕ → List ℕ) (from k at n total bytes len : ℕ) → from + k ≡ at → k + n ≡ total
-    → bytes ≡ joint_len (objects_from dataset s cells raw from k) → len ≡ joint_len (objects_from dataset s cells raw at n)
-    → bytes + len ≡ joint_len (objects_from dataset s cells raw from total)
-round_joint dataset s cells raw from k at n total bytes len e all front round =
-    let split = joint_split dataset s cells raw from k at n e in
-    let whole = ap (λ q. joint_len (objects_from dataset s cells raw from q)) all in
-    omega (arith, front, round, split, whole)
+pub ready_more : {E : Type 0} (dataset : Name) (s : Scale) (work : Work) (ready : ℕ → Option Bytes) (a b c : ℕ) (o now new : Option Objects) (bytes len : ℕ) → a ≤ b → b ≤ c
+    → Puts {E = E} (ready_objects dataset s work ready a b) o now (Ok bytes) → Puts {E = E} (ready_objects dataset s work ready b c) now new (Ok len)
+    → Puts {E = E} (ready_objects dataset s work ready a c) o new (Ok (bytes + len))
+ready_more {E = E} dataset s work ready a b c o now new bytes len low high was puts =
+    subst (λ list. Puts {E = E} list o new (Ok (bytes + len))) (sym (ready_split dataset s work ready a b c low high))
+    (puts_more (ready_objects dataset s work ready a b) (ready_objects dataset s work ready b c) o now new bytes len was puts)
 
 -- a front of a round is one of all
-pub round_front : (o now new : Option Objects) (dataset : List ℕ) (s : Scale) (cells : List (List ℕ)) (raw : ℕ → List ℕ) (from k at n total : ℕ) → from + k ≡ at → k + n ≤ total
-    → now ≡ option_map (λ m. put_in m (objects_from dataset s cells raw from k)) o
-    → IfSome now (λ m. PutsFront (objects_from dataset s cells raw at n) m new)
-    → IfSome o (λ m. PutsFront (objects_from dataset s cells raw from total) m new)
-round_front None now new dataset s cells raw from k at n total e few was front = tt
-round_front (Some m) now new dataset s cells raw from k at n total e few was front =
-    let here = put_in m (objects_from dataset s cells raw from k) in
-    let told : PutsFront (objects_from dataset s cells raw at n) here new = subst (λ x. IfSome x (λ m. PutsFront (objects_from dataset s cells raw at n) m new)) was front in
-    let most : told.count ≤ n = omega (arith, told.within, length-map-range_with_len (job_object dataset s cells raw) at n) in
-    record {
-      count = k + told.count;
-      within = omega (arith, most, few, length-map-range_with_len (job_object dataset s cells raw) from total);
-      put =
-          told.put ∙ ap (λ xs. Some (put_in here xs)) (take-map-range_with_len (job_object dataset s cells raw) at n told.count most)
-          ∙ ap Some (put_behind m dataset s cells raw from k at told.count e)
-          ∙ ap (λ xs. Some (put_in m xs)) (sym (take-map-range_with_len (job_object dataset s cells raw) from total (k + told.count) (omega arith)));
-    }
+pub ready_stopped : {E : Type 0} (dataset : Name) (s : Scale) (work : Work) (ready : ℕ → Option Bytes) (a b c to : ℕ) (o now new : Option Objects) (bytes : ℕ) (e : E) (r : Result ℕ E) → IsErrAnd r (λ fault. fault ≡ e) → a ≤ b → b ≤ c → c ≤ to
+    → Puts {E = E} (ready_objects dataset s work ready a b) o now (Ok bytes) → Puts {E = E} (ready_objects dataset s work ready b c) now new (Err e)
+    → Puts {E = E} (ready_objects dataset s work ready a to) o new r
+ready_stopped dataset s work ready a b c to o now new bytes e r stops low high few was puts =
+    puts_stopped (ready_objects dataset s work ready a b) (ready_objects dataset s work ready b c) (ready_objects dataset s work ready c to) (ready_objects dataset s work ready a to) o now new bytes e r stops
+    (ready_split dataset s work ready a c to (omega arith) few ∙ ap (λ xs. xs ++ ready_objects dataset s work ready c to) (ready_split dataset s work ready a b c low high)) was puts
+
+-- before the first round
+pub ready_none : {E : Type 0} (dataset : Name) (s : Scale) (work : Work) (ready : ℕ → Option Bytes) (a : ℕ) (o : Option Objects) → Puts {E = E} (ready_objects dataset s work ready a a) o o (Ok 0)
+ready_none dataset s work ready a o =
+    let none : a - a ≡ 0 = omega arith in
+    none_puts (ready_objects dataset s work ready a a) o (ap (λ n. map (job_object dataset s work.cells (chunk_ready work ready)) (range_with_len a n)) none)

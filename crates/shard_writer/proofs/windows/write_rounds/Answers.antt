@@ -1,10 +1,8 @@
-use Rattle.std.proofs.Common.{◌-◌, ◌+◌, ◌≡◌, ◌≤◌, arith, subst}
-use Rattle.std.specs.Option.{option_map}
-use Rattle.vol_spec.specs.StoredCells.{put_in}
-use Rattle.encode_round.specs.Ready.{chunk_ready}
-use Rattle.shard_writer.specs.Plain.{objects_from}
-use Rattle.shard_writer.proofs.PutSteps.{beside_fault}
-use Rattle.shard_writer.proofs.RoundPuts.{round_front, round_joint, round_put}
+use Rattle.std.proofs.Common.{◌≡◌, ◌≤◌, Ok, arith, inr, refl, subst}
+use Rattle.vol_base.specs.declared.outside.StoreRefusal.{StoreRefusal}
+use Rattle.shard_writer.specs.Plain.{ready_objects}
+use Rattle.shard_writer.specs.Writing.{Puts}
+use Rattle.shard_writer.proofs.RoundPuts.{ready_more, ready_none, ready_stopped}
 use Rattle.shard_writer.proofs.RoundSteps.{prepared_part}
 use Rattle.shard_writer.proofs.WindowSteps.{drops_on}
 use Rattle.shard_writer.proofs.windows.write_rounds.Goals as goal
@@ -14,26 +12,34 @@ encode_jobs-requires-clause-jobs g c κs within =
     prepared_part c.args.scale.now (g.C.Chunks.work c.args.chunks.now) (g.C.Chunks.ready c.args.chunks.now) c.args.from c.args.to c.loop-begin.begin c.min-end.result
     c.loop-begin.invariant.low (omega (arith, c.min-end.ensures, c.loop-begin-test.true)) (omega (arith, c.min-end.ensures)) c.requires.jobs
 
-pub returns-in_err-bytes-clause-front : goal.returns-in_err-bytes-clause-front
-returns-in_err-bytes-clause-front g c =
-    beside_fault c.from_residual.result _
-    (round_front (g.S.Source.objects c.args.store.now) (g.S.Source.objects c.loop-begin.store) (g.S.Source.objects c.write_jobs.new.store) c.args.dataset.now c.args.scale.now (g.C.Chunks.work c.args.chunks.now).cells
-    (chunk_ready (g.C.Chunks.work c.args.chunks.now) (g.C.Chunks.ready c.args.chunks.now)) c.args.from (c.loop-begin.begin - c.args.from) c.loop-begin.begin (c.min-end.result - c.loop-begin.begin) (c.args.to - c.args.from)
-    (omega (arith, c.loop-begin.invariant.low)) (omega (arith, c.loop-begin.invariant.low, c.min-end.ensures, c.loop-begin-test.true)) c.loop-begin.invariant.put c.in_err-bytes.ensures.front)
+pub write_jobs-requires-clause-jobs : goal.write_jobs-requires-clause-jobs
+write_jobs-requires-clause-jobs g c =
+    prepared_part c.args.scale.now (g.C.Chunks.work c.args.chunks.now) (g.C.Chunks.ready c.args.chunks.now) c.args.from c.args.to c.loop-begin.begin c.min-end.result
+    c.loop-begin.invariant.low (omega (arith, c.min-end.ensures, c.loop-begin-test.true)) (omega (arith, c.min-end.ensures)) c.requires.jobs
+
+pub returns-in_err-bytes-clause-puts : goal.returns-in_err-bytes-clause-puts
+returns-in_err-bytes-clause-puts g c =
+    ready_stopped c.args.dataset.now c.args.scale.now (g.C.Chunks.work c.args.chunks.now) (g.C.Chunks.ready c.args.chunks.now) c.args.from c.loop-begin.begin c.min-end.result c.args.to _ _ _ c.loop-begin.bytes c.in_err-bytes.field-0.0 c.from_residual.result c.from_residual.ensures.1
+    c.loop-begin.invariant.low (omega (arith, c.min-end.ensures, c.loop-begin-test.true)) (omega (arith, c.min-end.ensures)) c.loop-begin.invariant.puts c.in_err-bytes.ensures.puts
+
+pub loop-begin-init : goal.loop-begin-init
+loop-begin-init g c = record {
+  puts = ready_none c.args.dataset.now c.args.scale.now (g.C.Chunks.work c.args.chunks.now) (g.C.Chunks.ready c.args.chunks.now) c.args.from (g.S.Source.objects c.args.store.now);
+  small = omega arith;
+  low = omega arith;
+  high = c.requires.jobs.order;
+  rounds = c.requires.rounds;
+  draft = inr refl;
+  later = refl;
+}
 
 pub loop-begin-preserved : goal.loop-begin-preserved
 loop-begin-preserved g c =
-    let behind : c.args.from + (c.loop-begin.begin - c.args.from) ≡ c.loop-begin.begin = omega (arith, c.loop-begin.invariant.low) in
     let more : c.loop-begin.begin ≤ c.min-end.result = omega (arith, c.min-end.ensures, c.loop-begin-test.true) in
-    let all : (c.loop-begin.begin - c.args.from) + (c.min-end.result - c.loop-begin.begin) ≡ c.min-end.result - c.args.from = omega (arith, c.loop-begin.invariant.low, more) in
     record {
-      put = round_put (g.S.Source.objects c.args.store.now) (g.S.Source.objects c.loop-begin.store) (g.S.Source.objects c.write_jobs.new.store) c.args.dataset.now c.args.scale.now (g.C.Chunks.work c.args.chunks.now).cells
-          (chunk_ready (g.C.Chunks.work c.args.chunks.now) (g.C.Chunks.ready c.args.chunks.now)) c.args.from (c.loop-begin.begin - c.args.from) c.loop-begin.begin (c.min-end.result - c.loop-begin.begin) (c.min-end.result - c.args.from)
-          behind all c.loop-begin.invariant.put c.in_ok-bytes.ensures.put;
-      bytes = round_joint c.args.dataset.now c.args.scale.now (g.C.Chunks.work c.args.chunks.now).cells (chunk_ready (g.C.Chunks.work c.args.chunks.now) (g.C.Chunks.ready c.args.chunks.now))
-          c.args.from (c.loop-begin.begin - c.args.from) c.loop-begin.begin (c.min-end.result - c.loop-begin.begin) (c.min-end.result - c.args.from) c.loop-begin.bytes c.in_ok-bytes.field-0
-          behind all c.loop-begin.invariant.bytes c.in_ok-bytes.ensures.bytes;
-      small = omega (arith, c.loop-begin.invariant.small, c.in_ok-bytes.ensures.small, all);
+      puts = ready_more c.args.dataset.now c.args.scale.now (g.C.Chunks.work c.args.chunks.now) (g.C.Chunks.ready c.args.chunks.now) c.args.from c.loop-begin.begin c.min-end.result _ _ _ c.loop-begin.bytes c.in_ok-bytes.field-0
+          c.loop-begin.invariant.low more c.loop-begin.invariant.puts c.in_ok-bytes.ensures.puts;
+      small = omega (arith, c.loop-begin.invariant.small, c.loop-begin.invariant.low, c.in_ok-bytes.ensures.small, more);
       low = omega (arith, c.loop-begin.invariant.low, more);
       high = omega (arith, c.min-end.ensures);
       rounds = c.encode_jobs.ensures.rounds;
@@ -41,7 +47,7 @@ loop-begin-preserved g c =
       later = omega (arith, c.loop-begin.invariant.later, c.in_ok-bytes.ensures.cause.stands);
     }
 
-pub returns-clause-put : goal.returns-clause-put
-returns-clause-put g c =
+pub returns-clause-puts : goal.returns-clause-puts
+returns-clause-puts g c =
     let end : c.loop-begin.begin ≡ c.args.to = omega (arith, c.loop-begin-test.false, c.loop-begin.invariant.high) in
-    subst (λ j. g.S.Source.objects c.loop-begin.store ≡ option_map (λ m. put_in m (objects_from c.args.dataset.now c.args.scale.now (g.C.Chunks.work c.args.chunks.now).cells (chunk_ready (g.C.Chunks.work c.args.chunks.now) (g.C.Chunks.ready c.args.chunks.now)) c.args.from (j - c.args.from))) (g.S.Source.objects c.args.store.now)) end c.loop-begin.invariant.put
+    subst (λ j. Puts {E = StoreRefusal} (ready_objects c.args.dataset.now c.args.scale.now (g.C.Chunks.work c.args.chunks.now) (g.C.Chunks.ready c.args.chunks.now) c.args.from j) (g.S.Source.objects c.args.store.now) (g.S.Source.objects c.loop-begin.store) (Ok c.loop-begin.bytes)) end c.loop-begin.invariant.puts
