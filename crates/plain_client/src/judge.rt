@@ -5,10 +5,9 @@ ghost use Rattle.httparse.specs.Spans.{IsResponseOf, IsResponseWithin, IsWithin,
 ghost use Rattle.remote_store.specs.Fits.{following, is_allowed, is_placed, judged, kind_of, length_of, only, place_in, promised};
 
 use crate::fields::{are_identity, find_only, find_values};
-use crate::numbers::read_length;
 use crate::place::is_asked;
 use httparse::spans::{HeaderSpan, ResponseSpans, Span};
-use remote_store::{Kind, Promise, Wanted};
+use remote_store::{Kind, Promise, Wanted, read_length};
 use std::alloc::{AllocError, Global};
 
 // The status as an answer to what was asked.

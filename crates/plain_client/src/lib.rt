@@ -3,7 +3,6 @@
 
 mod fields;
 mod judge;
-mod numbers;
 mod place;
 mod reply;
 

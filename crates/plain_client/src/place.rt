@@ -2,26 +2,11 @@
 ghost use Rattle.std.specs.Prelude.{◌≡◌, All, Some, length, map};
 ghost use Rattle.httparse.specs.Spans.{IsWithin, span_bytes};
 ghost use Rattle.remote_store.specs.Fits.{is_place, only, place_in};
-ghost use Rattle.remote_store.specs.Reading.{capped_in, capped_place};
+ghost use Rattle.remote_store.specs.Reading.{capped_in};
 
 use crate::fields::find_only;
-use crate::numbers::{read_before, read_number};
 use httparse::spans::Span;
-
-// The first byte, the last, and how many the object has, by a value of the form `bytes a-e/t`; the greatest number of 128
-// bits stands for all above it.
-#[tactic(auto, unfolding(remote_store::specs::Reading::capped_place))]
-fn read_place(value: &[u8]) -> Option<(u128, u128, u128)>
-    ensures { result ≡ capped_place value.now }
-{
-    if value.len() < 6 || &value[..6] != b"bytes ".as_slice() {
-        return None;
-    }
-    let (first, rest) = read_before(b'-', &value[6..])?;
-    let (last, text) = read_before(b'/', rest)?;
-    let total = read_number(text)?;
-    Some((first, last, total))
-}
+use remote_store::read_place;
 
 // The part that the only value says.
 fn find_place(received: &[u8], values: &[Span]) -> Option<(u128, u128, u128)>
