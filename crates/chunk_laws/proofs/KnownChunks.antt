@@ -1,6 +1,6 @@
 -- Known scales and objects: what they say of their cells, what is wrong with them, and what chunks are stored as.
-use Rattle.std.proofs.Common.{map, ◌≡◌, ℕ, ◌+◌, ◌*◌, ◌^◌, ◌≤◌, Bool, true, false, List, [], ◌∷◌, ◌++◌, length, slice_index, take, Option, Some, None, Ok, Err, refl, ap, subst, arith, lit≤, inl, inr}
-use Rattle.std.specs.Prelude.{ℤ, pos, neg_ℤ, ◌≤ℤ◌, Result, flat_map, slice_index_or, sum}
+use Rattle.std.proofs.Common.{map, ◌≡◌, ℕ, ◌+◌, ◌*◌, ◌≤◌, List, [], ◌∷◌, ◌++◌, length, take, Option, Some, None, Ok, Err, refl, ap, lit≤}
+use Rattle.std.specs.Prelude.{ℤ, pos, Result, flat_map, sum}
 use Rattle.std.specs.FinMap as fin
 use Rattle.std.specs.Fmt.{digits}
 use Rattle.std.specs.List.{range_with_len}
@@ -39,7 +39,6 @@ use Rattle.vol_spec.specs.StoredLists.{cell_key, in_key_order, stored_list}
 use Rattle.vol_spec.specs.StoredShards.{objects_in}
 use Rattle.vol_spec.specs.Verdicts.{Wrong, damage, index_wrong, judge}
 use Rattle.vol_spec.specs.Verdicts.Wrong.{Damaged, Misplaced}
-use Rattle.vol_spec.specs.declared.encoding.Encoding.{Encoding}
 use Rattle.vol_spec.specs.declared.encoding.Encoding.TheVariants.{Raw, Seg}
 use Rattle.vol_spec.specs.declared.scale.Scale.{Scale}
 use Rattle.vol_spec.specs.declared.sharding.HashKind.TheVariants.{Identity, Murmur}
