@@ -1,11 +1,10 @@
 -- What reading cells costs, one cell on.
-use Rattle.std.proofs.Common.{◌≡◌, ◌≤◌, ◌+◌, ℕ, List, [], ◌∷◌, ◌++◌, map, sum, Option, Some, None, IfSome, arith, refl, ap, ◌∙◌, sym}
+use Rattle.std.proofs.Common.{◌≡◌, ◌≤◌, ◌+◌, ℕ, List, [], ◌∷◌, ◌++◌, map, sum, arith, refl, ap, ◌∙◌, sym}
 use Rattle.std.proofs.lemmas.Grind.{common_steps}
 use Rattle.std.proofs.lemmas.List.{map-append}
 use Rattle.std.proofs.lemmas.List.Sums.{sum_by-cons}
 use Rattle.vol_base.specs.declared.boxes.Box3.{Box3}
 use Rattle.vol_base.specs.Outside.{Objects}
-use Rattle.vol_spec.proofs.Told.{from_told, in_told}
 use Rattle.vol_spec.specs.Costs.{cost}
 use Rattle.vol_spec.specs.Grid.{cells_in}
 use Rattle.vol_spec.specs.Types.{Cell, Name}
@@ -49,34 +48,3 @@ costs-next m dataset s part cells left rest cell e is =
     ap (costs m dataset s) (sym is ∙ ap (λ r. cells ++ r) e) ∙ costs-append m dataset s cells (cell ∷ rest) in
     let next : costs m dataset s (cell ∷ rest) ≡ cell_cost m dataset s cell + costs m dataset s rest = sum_by-cons (λ n. n) (cell_cost m dataset s cell) (map (cell_cost m dataset s) rest) in
     omega (arith, all, parts, next)
-
--- a walk over cells asks for no more than they cost
-pub asked_none : (o : Option Objects) (dataset : Name) (s : Scale) (begin : ℕ) → IfSome o (λ m. begin ≤ begin + costs m dataset s [])
-asked_none None dataset s begin = tt
-asked_none (Some m) dataset s begin = omega arith
-
-pub asked_more : (o same : Option Objects) (dataset : Name) (s : Scale) (cells : List Cell) (cell : Cell) (begin was now : ℕ) → same ≡ o
-    → IfSome o (λ m. was ≤ begin + costs m dataset s cells) → IfSome same (λ m. now ≤ was + cell_cost m dataset s cell) → IfSome o (λ m. now ≤ begin + costs m dataset s (cells ++ cell ∷ []))
-asked_more o same dataset s cells cell begin was now e h one =
-    in_told o _ (λ m told.
-    let so_far = from_told o _ m told h in
-    let more = from_told same _ m (e ∙ told) one in
-    let sum = costs-one m dataset s cells cell in
-    omega (arith, so_far, more, sum))
-
-pub asked_all : (o : Option Objects) (dataset : Name) (s : Scale) (part : Box3) (cells rest : List Cell) (begin now : ℕ) → cells ++ rest ≡ cells_in s part
-    → IfSome o (λ m. now ≤ begin + costs m dataset s cells) → IfSome o (λ m. now ≤ begin + cost m dataset s part)
-asked_all o dataset s part cells rest begin now is h =
-    in_told o _ (λ m told.
-    let so_far = from_told o _ m told h in
-    let front = costs-front m dataset s part cells rest is in
-    omega (arith, so_far, front))
-
-pub asked_next : (o same : Option Objects) (dataset : Name) (s : Scale) (part : Box3) (cells left rest : List Cell) (cell : Cell) (begin was now : ℕ) → same ≡ o → left ≡ cell ∷ rest → cells ++ left ≡ cells_in s part
-    → IfSome o (λ m. was ≤ begin + costs m dataset s cells) → IfSome same (λ m. now ≤ was + cell_cost m dataset s cell) → IfSome o (λ m. now ≤ begin + cost m dataset s part)
-asked_next o same dataset s part cells left rest cell begin was now e first is h one =
-    in_told o _ (λ m told.
-    let so_far = from_told o _ m told h in
-    let more = from_told same _ m (e ∙ told) one in
-    let next = costs-next m dataset s part cells left rest cell first is in
-    omega (arith, so_far, more, next))

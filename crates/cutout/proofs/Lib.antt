@@ -2,6 +2,7 @@ pub mod AskedSteps
 pub mod CellSteps
 pub mod CostSteps
 pub mod CutSteps
+pub mod FindSteps
 pub mod FoundSteps
 pub mod FrontSteps
 pub mod JoinSteps
@@ -9,7 +10,8 @@ pub mod LayerSteps
 pub mod PickSteps
 pub mod PlaneSteps
 pub mod ReadSteps
+pub mod RunSteps
+pub mod ServeSteps
 pub mod StoredSteps
 pub mod StreamSteps
 pub mod TakeSteps
-pub mod RunSteps

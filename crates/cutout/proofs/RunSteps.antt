@@ -1,22 +1,25 @@
 -- What reading cells one after the other asks for, one cell on.
-use Rattle.std.proofs.Common.{◌≡◌, ◌≤◌, ◌<◌, ◌+◌, ◌*◌, ℕ, List, [], ◌∷◌, ◌++◌, Bool, true, false, nat_lt, Option, Some, None, IfSome, Result, Ok, Err, OnOk, arith, refl, ap, ◌∙◌, sym, subst, append_assoc, append-nil}
+use Rattle.std.proofs.Common.{◌≡◌, ◌≤◌, ◌<◌, ◌+◌, ◌*◌, ℕ, List, [], ◌∷◌, ◌++◌, map, Bool, true, false, nat_lt, Option, Some, None, IfSome, Result, Ok, Err, OnOk, arith, refl, ap, ◌∙◌, sym, subst, append_assoc, append-nil}
 use Rattle.std.specs.Prelude.{is_ok, if◌then◌else◌, ◌==◌, ◌&&◌}
 use Rattle.std.specs.FinMap as fin
+use Rattle.std.proofs.lemmas.List.Sums.{sum_by-cons}
 use Rattle.std.proofs.lemmas.Bool.Decides.{nat_tests}
+use Rattle.vol_base.specs.declared.boxes.Box3.{Box3}
 use Rattle.vol_base.specs.Outside.{Objects}
-use Rattle.vol_spec.specs.Costs.{cost_by, rows_cost, span_cost}
+use Rattle.vol_spec.specs.Costs.{cost, cost_by, rows_cost, span_cost}
 use Rattle.vol_spec.specs.Encodings.{cell_limit}
-use Rattle.vol_spec.specs.FoundChunks.{found, rows_in}
+use Rattle.vol_spec.specs.FoundChunks.{rows_in}
+use Rattle.vol_spec.specs.Grid.{cells_in}
 use Rattle.vol_spec.specs.Places.{id_of, minishard_of, shard_of}
 use Rattle.vol_spec.specs.ShardNames.{shard_name}
 use Rattle.vol_spec.specs.StoredBytes.{object_by}
 use Rattle.vol_spec.specs.Types.{Bytes, Cell, Name}
 use Rattle.vol_spec.specs.declared.scale.Scale.{Scale}
 use Rattle.vol_spec.specs.declared.sharding.Sharding.{Sharding}
-use Rattle.vol_spec.proofs.Told.{from_told, in_told}
 use Rattle.shard_reader.specs.Readers.{AsksOnce, IsBehind, rows_past}
 use Rattle.shard_reader.specs.Reading.{chunk_cost, found_of}
 use Rattle.shard_reader.specs.declared.reader.ShardReader.{ShardReader}
+use Rattle.cutout.proofs.CostSteps.{cost-is, costs, costs-one}
 use Rattle.cutout.specs.Keeping.{cell_cost}
 use Rattle.cutout.specs.Opened.{chunk_room}
 use Rattle.cutout.specs.Runs.{follows, follows_by, HasRun, index_by, index_cost, is_behind, last_from, own_by, own_cost, past, past_of, rows_on, run_cost, run_from, RunsOn}
@@ -238,3 +241,43 @@ run_unasked m dataset s cells before after old new e done begin has = (let front
 -- a reader that begins
 pub begun : (m : Objects) (dataset : Name) (s : Scale) (begin : ℕ) (shards : ShardReader) → HasRun m dataset s [] begin begin shards
 begun m dataset s begin shards = record { total = omega arith; onward = λ next f. absurd (cc f) }
+
+-- reading cells one after the other costs no more than reading each
+least : (b : Bool) (n : ℕ) → (if b then 0 else n) ≤ n
+least true n = omega arith
+least false n = omega arith
+
+run-few : (m : Objects) (dataset : Name) (s : Scale) (last : Option Cell) (cells : List Cell) → run_from m dataset s last cells ≤ costs m dataset s cells
+run-few m dataset s last [] = omega arith
+run-few m dataset s last (cell ∷ rest) =
+    let h = run-few m dataset s (Some cell) rest in
+    let parts = cost-parts m dataset s cell in
+    let index = least (follows s last cell) (index_cost m dataset s cell) in
+    let all : costs m dataset s (cell ∷ rest) ≡ cell_cost m dataset s cell + costs m dataset s rest = sum_by-cons (λ n. n) (cell_cost m dataset s cell) (map (cell_cost m dataset s) rest) in
+    omega (arith, h, parts, index, all)
+
+few_asked : (whole : Bool) (m : Objects) (dataset : Name) (s : Scale) (cells : List Cell) (before after : ℕ) (old new : ShardReader) → RunsOn whole m dataset s cells before after old new
+    → after ≤ before + costs m dataset s cells
+few_asked whole m dataset s cells before after old new runs =
+    let all = (runs [] before (begun m dataset s before old)).0 in
+    let few = run-few m dataset s None cells in
+    omega (arith, all, few)
+
+-- what cells that were read ask for: those of a box,
+pub run_asked : (o : Option Objects) (whole : Bool) (dataset : Name) (s : Scale) (part : Box3) (before after : ℕ) (old new : ShardReader)
+    → IfSome o (λ m. RunsOn whole m dataset s (cells_in s part) before after old new) → IfSome o (λ m. after ≤ before + cost m dataset s part)
+run_asked None whole dataset s part before after old new runs = tt
+run_asked (Some m) whole dataset s part before after old new runs =
+    let is = cost-is m dataset s part in
+    let few = few_asked whole m dataset s (cells_in s part) before after old new runs in
+    omega (arith, is, few)
+
+-- or one
+pub one_asked : (o : Option Objects) (whole : Bool) (dataset : Name) (s : Scale) (cell : Cell) (before after : ℕ) (old new : ShardReader)
+    → IfSome o (λ m. RunsOn whole m dataset s (cell ∷ []) before after old new) → IfSome o (λ m. after ≤ before + cell_cost m dataset s cell)
+one_asked None whole dataset s cell before after old new runs = tt
+one_asked (Some m) whole dataset s cell before after old new runs =
+    let one = costs-one m dataset s [] cell in
+    let none : costs m dataset s [] ≡ 0 = refl in
+    let few = few_asked whole m dataset s (cell ∷ []) before after old new runs in
+    omega (arith, one, none, few)

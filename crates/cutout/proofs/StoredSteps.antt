@@ -1,13 +1,14 @@
 -- The bytes of a cell's chunk and what they cost, out of a shard or from an object of its own.
-use Rattle.std.proofs.Common.{◌≡◌, ◌≤◌, ℕ, ◌+◌, ◌++◌, take, drop, length, Option, Some, None, Result, Ok, arith, refl, ap, ◌∙◌, sym, subst, IfSome}
+use Rattle.std.proofs.Common.{◌≡◌, ◌≤◌, ℕ, ◌+◌, ◌++◌, take, drop, length, Option, Some, None, Result, Ok, Err, arith, refl, ap, ◌∙◌, sym, subst, IfOk, IfSome}
 use Rattle.std.proofs.Math.Seq.{take-append_seam}
+use Rattle.std.proofs.lemmas.Grind.{common_steps}
 use Rattle.std.specs.FinMap as fin
+use Rattle.chunk_pool.specs.Frames.{Filled}
 use Rattle.vol_base.specs.Outside.{got_of, Objects, part, Reads}
 use Rattle.vol_base.specs.declared.faults.Fault.{Fault}
 use Rattle.vol_base.specs.declared.outside.Got.{Got}
 use Rattle.vol_base.specs.declared.outside.Got.TheVariants.{Absent, Bytes as Found}
 use Rattle.vol_spec.specs.CellNames.{cell_name}
-use Rattle.vol_spec.specs.Costs.{cost_by}
 use Rattle.vol_spec.specs.Encodings.{cell_limit}
 use Rattle.vol_spec.specs.Places.{id_of, shard_of}
 use Rattle.vol_spec.specs.ShardNames.{shard_name}
@@ -16,11 +17,11 @@ use Rattle.vol_spec.specs.Types.{Bytes, Cell, Name}
 use Rattle.vol_spec.specs.declared.scale.Scale.{Scale}
 use Rattle.vol_spec.specs.declared.sharding.Sharding.{Sharding}
 use Rattle.shard_reader.specs.Readers.{Keeps}
-use Rattle.shard_reader.specs.Reading.{chunk_bytes, chunk_cost, Gets}
+use Rattle.shard_reader.specs.Reading.{chunk_bytes, Gets}
 use Rattle.shard_reader.specs.declared.bytes.LookupFault.{LookupFault}
+use Rattle.shard_reader.specs.declared.bytes.LookupFault.TheVariants.{NotRead, Faulty}
 use Rattle.shard_reader.specs.declared.reader.ShardReader.{ShardReader}
-use Rattle.cutout.specs.Keeping.{cell_cost, front_of, KeepsBy, KeepsShards}
-use Rattle.cutout.specs.Opened.{chunk_room}
+use Rattle.cutout.specs.Keeping.{front_of, KeepsBy, KeepsShards}
 
 -- what is held of an object, by a sharding or none
 abbrev held_as : Option Sharding → Scale → Cell → Option Bytes → Result (Option Bytes) Fault
@@ -111,42 +112,6 @@ pub found_told : (o : Option Objects) (name : Name) (old new : Bytes) (got : Got
 found_told None name old new got n is read = tt
 found_told (Some m) name old new got n is read = front_found (fin.get m name) old new got n is read
 
--- what a chunk costs
-by_shard : (sharding : Sharding) (s : Scale) (cell : Cell) (object : Option Bytes) → cost_by (Some sharding) s cell object ≡ chunk_cost object sharding (cell_limit s cell) (id_of s cell)
-by_shard sharding s cell None = refl
-by_shard sharding s cell (Some object) = refl
-
-cost-sharded : (m : Objects) (dataset : Name) (s : Scale) (cell : Cell) (sharding : Sharding) → s.sharding ≡ Some sharding
-    → cell_cost m dataset s cell ≡ chunk_cost (fin.get m (shard_name dataset s (shard_of sharding (id_of s cell)))) sharding (cell_limit s cell) (id_of s cell)
-cost-sharded m dataset s cell sharding e =
-    ap (λ o. cost_by o s cell (fin.get m (object_by o dataset s cell))) e ∙ by_shard sharding s cell (fin.get m (shard_name dataset s (shard_of sharding (id_of s cell))))
-
-costs_sharded : (m : Objects) (dataset : Name) (s : Scale) (cell : Cell) (sharding : Sharding) (limit id old new : ℕ) → s.sharding ≡ Some sharding → limit ≡ cell_limit s cell → id ≡ id_of s cell
-    → new ≤ old + chunk_cost (fin.get m (shard_name dataset s (shard_of sharding id))) sharding limit id → new ≤ old + cell_cost m dataset s cell
-costs_sharded m dataset s cell sharding limit id old new e is_limit is_id h =
-    let same : chunk_cost (fin.get m (shard_name dataset s (shard_of sharding id))) sharding limit id ≡ cell_cost m dataset s cell =
-    ap (λ k. chunk_cost (fin.get m (shard_name dataset s (shard_of sharding k))) sharding limit k) is_id
-    ∙ ap (λ n. chunk_cost (fin.get m (shard_name dataset s (shard_of sharding (id_of s cell)))) sharding n (id_of s cell)) is_limit
-    ∙ sym (cost-sharded m dataset s cell sharding e) in
-    subst (λ c. new ≤ old + c) same h
-
-cost-own : (m : Objects) (dataset : Name) (s : Scale) (cell : Cell) → s.sharding ≡ None → cell_cost m dataset s cell ≡ chunk_room s
-cost-own m dataset s cell e = ap (λ o. cost_by o s cell (fin.get m (object_by o dataset s cell))) e
-
-costs_own : (m : Objects) (dataset : Name) (s : Scale) (cell : Cell) (room old new : ℕ) → s.sharding ≡ None → room ≤ chunk_room s → new ≤ old + room → new ≤ old + cell_cost m dataset s cell
-costs_own m dataset s cell room old new e small h = let is = cost-own m dataset s cell e in omega (arith, is, small, h)
-
--- the same where the objects may be untold
-pub sharded_cost : (o : Option Objects) (dataset : Name) (s : Scale) (cell : Cell) (sharding : Sharding) (limit id old new : ℕ) → s.sharding ≡ Some sharding → limit ≡ cell_limit s cell → id ≡ id_of s cell
-    → IfSome o (λ m. new ≤ old + chunk_cost (fin.get m (shard_name dataset s (shard_of sharding id))) sharding limit id) → IfSome o (λ m. new ≤ old + cell_cost m dataset s cell)
-sharded_cost None dataset s cell sharding limit id old new e is_limit is_id h = tt
-sharded_cost (Some m) dataset s cell sharding limit id old new e is_limit is_id h = costs_sharded m dataset s cell sharding limit id old new e is_limit is_id h
-
-pub own_cost : (o : Option Objects) (dataset : Name) (s : Scale) (cell : Cell) (room old new : ℕ) → s.sharding ≡ None → room ≤ chunk_room s
-    → new ≤ old + room → IfSome o (λ m. new ≤ old + cell_cost m dataset s cell)
-own_cost None dataset s cell room old new e small h = tt
-own_cost (Some m) dataset s cell room old new e small h = costs_own m dataset s cell room old new e small h
-
 -- what is kept of an index, by the sharding
 pub keeps_as : (o : Option Objects) (dataset : Name) (s : Scale) (sharding : Sharding) (shards : ShardReader) → s.sharding ≡ Some sharding → KeepsShards o dataset s shards
     → Keeps o dataset s sharding shards
@@ -169,3 +134,31 @@ keeps_none o dataset s shards all = kept_by o dataset s s.sharding shards all
 -- and what is kept stays right where the objects do
 pub keeps_still : (o same : Option Objects) (dataset : Name) (s : Scale) (shards : ShardReader) → same ≡ o → KeepsShards o dataset s shards → KeepsShards same dataset s shards
 keeps_still o same dataset s shards e h = subst (λ x. KeepsShards x dataset s shards) (sym e) h
+
+-- bytes in front of a buffer are in front of a longer one
+front_same : (n : ℕ) (front rest : Bytes) → n ≤ length front → take n front ≡ take n (front ++ rest)
+front_same n front rest h = grind (arith, common_steps)
+
+gets_longer : (r : Result (Option ℕ) LookupFault) (front rest : Bytes) (seen : Result (Option Bytes) Fault) → IfOk r (λ found. IfSome found (λ n. n ≤ length front)) → Gets r front seen → Gets r (front ++ rest) seen
+gets_longer (Ok None) front rest seen within h = h
+gets_longer (Ok (Some n)) front rest seen within h = h ∙ ap (λ xs. Ok (Some xs)) (front_same n front rest within)
+gets_longer (Err NotRead) front rest seen within h = tt
+gets_longer (Err (Faulty fault)) front rest seen within h = h
+
+pub gets_front : (o : Option Objects) (dataset : Name) (s : Scale) (cell : Cell) (r : Result (Option ℕ) LookupFault) (front rest : Bytes) → IfOk r (λ found. IfSome found (λ n. n ≤ length front))
+    → IfSome o (λ m. Gets r front (stored_bytes m dataset s cell)) → IfSome o (λ m. Gets r (front ++ rest) (stored_bytes m dataset s cell))
+gets_front None dataset s cell r front rest within h = tt
+gets_front (Some m) dataset s cell r front rest within h = gets_longer r front rest (stored_bytes m dataset s cell) within h
+
+-- and what is within a front is within the whole
+pub within_more : (r : Result (Option ℕ) LookupFault) (few many : ℕ) → few ≤ many → IfOk r (λ found. IfSome found (λ n. n ≤ few)) → IfOk r (λ found. IfSome found (λ n. n ≤ many))
+within_more (Ok None) few many h within = tt
+within_more (Ok (Some n)) few many h within = omega (arith, h, within)
+within_more (Err fault) few many h within = tt
+
+-- the bytes that were lent and are used
+refilled : (n : ℕ) (old new : Bytes) → length new ≡ n → take n (new ++ drop (length new) old) ≡ new
+refilled n old new e = ap (λ k. take k (new ++ drop (length new) old)) (sym e) ∙ take-append_seam new (drop (length new) old)
+
+pub used_bytes : (f : Filled) (len n : ℕ) (old new bytes : Bytes) → f ≡ record { bytes = take n (new ++ drop (length new) old); used = len } → bytes ≡ take f.used f.bytes → length new ≡ n → bytes ≡ take len new
+used_bytes f len n old new bytes is e same = e ∙ ap (λ (g : Filled). take g.used g.bytes) is ∙ ap (take len) (refilled n old new same)

@@ -1,7 +1,13 @@
+pub mod Calls
+pub mod Finding
 pub mod Keeping
 pub mod Kept
 pub mod Layers
 pub mod Opened
+pub mod Pouring
 pub mod Reading
 pub mod Runs
+pub mod Searching
+pub mod Serving
 pub mod Streaming
+pub mod Targets

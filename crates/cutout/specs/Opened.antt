@@ -1,6 +1,5 @@
 -- An opened reader (this project's).
-use Rattle.std.specs.Prelude.{◌≡◌, ◌+◌, ◌≤◌, ℕ, length}
-use Rattle.chunk_pool.specs.Frames.{Filled}
+use Rattle.std.specs.Prelude.{◌+◌, ℕ}
 use Rattle.vol_spec.specs.Encodings.{by_encoding}
 use Rattle.vol_spec.specs.Limits.{first_bytes, limit_of}
 use Rattle.vol_spec.specs.Types.{Name}
@@ -18,9 +17,3 @@ chunk_room s = limit_of s.encoding s.width s.channels s.size s.chunk + 1
 -- room for the values of a chunk that is decoded; a raw chunk has its values as they are
 abbrev pub values_room : Scale → ℕ
 values_room s = by_encoding s.encoding 0 (first_bytes s.width s.channels s.size s.chunk)
-
--- its frames have this room
-pub record IsReady (reader : Opened) (chunk values : Filled) : Type 0 where
-  pub short : length reader.dataset ≤ 200
-  pub room : length chunk.bytes ≡ chunk_room reader.scale
-  pub decoded : length values.bytes ≡ values_room reader.scale

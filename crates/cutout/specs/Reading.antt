@@ -6,7 +6,7 @@ use Rattle.vol_base.specs.declared.faults.Fault.{Fault}
 use Rattle.vol_base.specs.Boxes.{Covers, num, value}
 use Rattle.vol_base.specs.Outside.{Objects}
 use Rattle.vol_spec.specs.BoxValues.{first_some}
-use Rattle.vol_spec.specs.Chunks.{fault_of, value_in, value_of}
+use Rattle.vol_spec.specs.Chunks.{chunk_in, fault_of, value_in, value_of}
 use Rattle.vol_spec.specs.Cut.{cut, faulty, first_fault}
 use Rattle.vol_spec.specs.Encodings.{cell_limit}
 use Rattle.vol_spec.specs.FoundChunks.{found}
@@ -25,6 +25,7 @@ use Rattle.cutout.specs.declared.fault.CutFault.{CutFault}
 use Rattle.cutout.specs.declared.fault.CutFault.TheVariants.{OutsideScale, StoreFault, Damaged}
 use Rattle.cutout.specs.declared.found.Found.{Found}
 use Rattle.cutout.specs.declared.found.Found.TheVariants.{Absent, At}
+use Rattle.cutout.specs.declared.origin.Origin.{Origin}
 
 -- what putting values of a cell, in some channels, into those of a part leaves: they stand where both have the position, the part's elsewhere
 pub record Puts (s : Scale) (cell : Cell) (part : Box3) (picked : Channels)
@@ -42,11 +43,16 @@ pub record Took (s : Scale) (cell : Cell) (part : Box3) (picked : Channels)
   pub kept : (p : Position) (c : ℕ) → Covers part p → (Covers (cell_box s cell) p → ⊥) → c < picked.count →
       value s.width new (num part p c) ≡ value s.width old (num part p c)
 
--- what reading a cell answers: its fault, or else its values were taken
+-- what reading a cell answers: its fault, or else its values were taken, by what is seen of its chunk,
 abbrev pub Reads : Result ⊤ LookupFault → Result (Option Bytes) Fault → Type 0 → Type 0
 Reads (Ok done) seen taken = (fault_of seen ≡ None) × taken
 Reads (Err (Faulty fault)) seen taken = seen ≡ Err fault
 Reads (Err NotRead) seen taken = Unit {0}
+
+-- and by what the objects have of it
+abbrev pub ReadsCell : Result ⊤ LookupFault → Objects → Origin → Cell → Box3 → Channels → Bytes → Bytes → Type 0
+ReadsCell result m origin cell part picked old new = Reads result (chunk_in m origin.dataset origin.scale cell)
+    (Took origin.scale cell part picked (chunk_in m origin.dataset origin.scale cell) old new)
 
 -- what reading some cells of a part leaves: none of them has a fault, and each voxel of the part in one of them has its value, in some channels
 pub record ReadSoFar (m : Objects) (dataset : Name) (s : Scale) (part : Box3) (picked : Channels)

@@ -1,76 +1,32 @@
 //! The values of a part, read from the chunks of its cells.
-ghost use Rattle.std.specs.Prelude.{is_ok, ◌≡◌, ◌≢◌, ◌∷◌, [], ◌+◌, ◌<◌, ◌≤◌, ◌^◌, length, IfSome, None, Some, Ok, Err};
-ghost use Rattle.std.specs.Option.{option_map};
-ghost use Rattle.vol_base.specs.Causes.{HasCauseOf};
-ghost use Rattle.vol_base.specs.Outside.{OnlyReads};
+ghost use Rattle.std.specs.Prelude.{◌≡◌, ◌≢◌, ◌∷◌, [], length, IfOk, IfSome, Err};
 ghost use Rattle.vol_spec.specs.Chunks.{chunk_in};
-ghost use Rattle.vol_spec.specs.Costs.{cost};
-ghost use Rattle.vol_spec.specs.Encodings.{raw_size};
 ghost use Rattle.vol_spec.specs.Grid.{cells_in, Inside, IsCell};
-ghost use Rattle.vol_spec.specs.Limits.{first_bytes};
-ghost use Rattle.vol_spec.specs.Raw.{raw_len};
-ghost use Rattle.vol_spec.specs.declared.encoding.Encoding.TheVariants.{Raw};
-ghost use Rattle.cutout.specs.Keeping.{cell_cost, KeepsShards};
-ghost use Rattle.cutout.specs.Opened.{chunk_room, values_room};
-ghost use Rattle.cutout.specs.Reading.{placed, Reads, ReadsAll, Took};
-ghost use Rattle.cutout.specs.Runs.{RunsOn};
+ghost use Rattle.cutout.specs.Finding.{Finds};
+ghost use Rattle.cutout.specs.Reading.{placed, ReadsAll, ReadsCell};
+ghost use Rattle.cutout.specs.Targets.{IsTarget};
 
-use crate::CutFault;
+use crate::boxed::BoxedCell;
 use crate::channels::Channels;
 use crate::chunk::read_stored;
-use crate::values::{put_chunk, put_zeros};
-use chunk_grid::{cells, tell_cells};
-use segment_cells::chunk_limit;
-use shard_reader::{LookupFault, ShardReader};
-use vol_base::{Box3, Fault, Name, Source};
+use crate::reader::values_limit;
+use crate::values::{judge_bytes, put_chunk, put_zeros};
+use crate::{CutFault, Origin};
+use chunk_grid::{cell_box, cells, tell_cells};
+use chunk_pool::Frame;
+use shard_reader::{LookupFault, ShardReader, WINDOW_LEN};
+use std::alloc::Global;
+use vol_base::{Box3, Fault, OutOfMemory, Source};
 use vol_spec::Scale;
 
-// Reads a cell that meets the part, and puts its values, in some channels, into those of the part.
-fn read_one<S: Source>(
-    shards: &mut ShardReader,
-    store: &mut S,
-    dataset: &Name,
-    scale: &Scale,
-    cell: [u64; 3],
-    chunk: &mut [u8],
-    values: &mut [u8],
-    part: &Box3,
-    channels: Channels,
-    out: &mut [u8],
-) -> Result<(), LookupFault>
-    requires dataset { length dataset.now ≤ 200 }
-    requires cell { IsCell scale.now cell }
-    requires room { length chunk.old ≡ chunk_room scale.now }
-    requires values { values_room scale.now ≤ length values.old }
-    requires channels { channels.first + channels.count ≤ scale.now.channels }
-    requires len { length out.old ≡ raw_len part.now channels.count scale.now.width }
-    requires limit { length out.old ≤ 2 ^ 30 }
-    requires keeps { KeepsShards (S.objects store.old) dataset.now scale.now shards.old }
-    ensures read { IfSome (S.objects store.old) (λ m. Reads result (chunk_in m dataset.now scale.now cell)
-        (Took scale.now cell part.now channels (chunk_in m dataset.now scale.now cell) out.old out.new)) }
-    ensures keeps { KeepsShards (S.objects store.old) dataset.now scale.now shards.new }
-    ensures asked { IfSome (S.objects store.old) (λ m.
-        S.asked store.new ≤ S.asked store.old + cell_cost m dataset.now scale.now cell) }
-    ensures run { IfSome (S.objects store.old) (λ m. RunsOn (is_ok result) m dataset.now scale.now (cell ∷ [])
-        (S.asked store.old) (S.asked store.new) shards.old shards.new) }
-    ensures kept { OnlyReads (S.objects store.old) (S.objects store.new) (S.draft store.old)
-        (S.draft store.new) }
-    ensures cause { HasCauseOf LookupFault.NotRead (S.faults store.old) (S.faults store.new) result }
-{
-    let limit = chunk_limit(scale, cell);
-    let room = &mut chunk[..limit as usize + 1];
-    let len = match read_stored(shards, store, dataset, scale, cell, limit, room) {
-        Err(fault) => return Err(fault),
-        Ok(None) => {
-            put_zeros(scale, cell, part, channels, out);
-            return Ok(());
-        }
-        Ok(Some(len)) => len as usize,
-    };
-    match put_chunk(&room[..len], scale, cell, values, part, channels, out) {
-        Ok(()) => Ok(()),
-        Err(fault) => Err(LookupFault::Faulty(Fault::Chunk(fault))),
-    }
+/// Reads the cells of a scale, one after the other, with memory for the longest chunk and a byte more, for the
+/// values of a chunk that is decoded, and for rows of an index. The index that it opened last is kept from
+/// cell to cell, which is of use only while the objects stay the same.
+#[derive(Drop)]
+pub struct CellReader {
+    pub(crate) shards: ShardReader,
+    pub(crate) chunk: Frame,
+    pub(crate) values: Frame,
 }
 
 /// The fault of a cell, with the cell.
@@ -83,48 +39,120 @@ pub(crate) fn place_fault(cell: [u64; 3], fault: LookupFault) -> CutFault
     }
 }
 
-/// Reads the cells that meet the part, x fastest, and puts their values, in some channels, into those of the
-/// part. `chunk` has room for one byte more than the chunks of the scale have at most, and `values` for what is
-/// decoded. The index that is kept goes on from part to part.
-pub(crate) fn read_cells<S: Source>(
-    shards: &mut ShardReader,
-    store: &mut S,
-    dataset: &Name,
-    scale: &Scale,
-    chunk: &mut [u8],
-    values: &mut [u8],
-    part: &Box3,
-    channels: Channels,
-    out: &mut [u8],
-) -> Result<(), CutFault>
-    requires dataset { length dataset.now ≤ 200 }
-    requires inside { Inside scale.now part.now }
-    requires room { length chunk.old ≡ chunk_room scale.now }
-    requires values { values_room scale.now ≤ length values.old }
-    requires channels { channels.first + channels.count ≤ scale.now.channels }
-    requires len { length out.old ≡ raw_len part.now channels.count scale.now.width }
-    requires limit { length out.old ≤ 2 ^ 30 }
-    requires keeps { KeepsShards (S.objects store.old) dataset.now scale.now shards.old }
-    ensures read { IfSome (S.objects store.old) (λ m.
-        ReadsAll result m dataset.now scale.now part.now channels out.new) }
-    ensures keeps { KeepsShards (S.objects store.old) dataset.now scale.now shards.new }
-    ensures inside { result ≢ Err CutFault.OutsideScale }
-    ensures asked { IfSome (S.objects store.old) (λ m.
-        S.asked store.new ≤ S.asked store.old + cost m dataset.now scale.now part.now) }
-    ensures run { IfSome (S.objects store.old) (λ m. RunsOn (is_ok result) m dataset.now scale.now
-        (cells_in scale.now part.now) (S.asked store.old) (S.asked store.new) shards.old shards.new) }
-    ensures kept { OnlyReads (S.objects store.old) (S.objects store.new) (S.draft store.old)
-        (S.draft store.new) }
-    ensures cause { HasCauseOf CutFault.StoreFault (S.faults store.old) (S.faults store.new) result }
-{
-    tell_cells(scale, part);
-    for cell in cells(scale, part) {
-        match read_one(
-            shards, store, dataset, scale, cell, chunk, values, part, channels, out,
-        ) {
-            Ok(()) => {}
-            Err(fault) => return Err(place_fault(cell, fault)),
+impl CellReader {
+    ghost use Rattle.cutout.specs.Serving.{IsFresh, Serves, Walks};
+
+    /// A reader of the cells of a scale, that keeps nothing.
+    pub fn reserve(alloc: Global, scale: &Scale) -> Result<CellReader, OutOfMemory>
+        ensures { IfOk result (IsFresh scale.now) }
+    {
+        let chunk = Frame::alone(alloc, scale.chunk_limit() + 1)?;
+        let values = Frame::alone(alloc, values_limit(scale))?;
+        let window = Frame::alone(alloc, WINDOW_LEN)?;
+        Ok(CellReader {
+            shards: ShardReader::new(window),
+            chunk,
+            values,
+        })
+    }
+
+    // Reads a cell that meets the part, and puts its values, in some channels, into those of the part.
+    fn read_one<S: Source>(
+        &mut self,
+        store: &mut S,
+        origin: &Origin,
+        cell: [u64; 3],
+        part: &Box3,
+        channels: Channels,
+        out: &mut [u8],
+    ) -> Result<(), LookupFault>
+        requires cell { IsCell origin.now.scale cell }
+        requires serves { Serves (S.objects store.old) origin.now self.old }
+        requires target { IsTarget origin.now.scale part.now channels (length out.old) }
+        ensures read { IfSome (S.objects store.old) (λ m.
+            ReadsCell result m origin.now cell part.now channels out.old out.new) }
+        ensures serves { Serves (S.objects store.old) origin.now self.new }
+        ensures walks { Walks S.Source origin.now (cell ∷ []) LookupFault.NotRead store.old store.new
+            self.old.shards self.new.shards result }
+    {
+        let own = cell_box(&origin.scale, cell);
+        let home = BoxedCell { cell, own };
+        let chunk = self.chunk.room();
+        let len = match read_stored(&mut self.shards, store, origin, cell, chunk) {
+            Err(fault) => return Err(fault),
+            Ok(None) => {
+                put_zeros(&origin.scale, &home, part, channels, out);
+                return Ok(());
+            }
+            Ok(Some(len)) => len as usize,
+        };
+        self.chunk.set_used(len);
+        let bytes = self.chunk.used();
+        let values = self.values.room();
+        match put_chunk(bytes, &origin.scale, &home, values, part, channels, out) {
+            Ok(()) => Ok(()),
+            Err(fault) => Err(LookupFault::Faulty(Fault::Chunk(fault))),
         }
     }
-    Ok(())
+
+    /// Reads and judges the chunk of a cell: whether it is stored, or its first fault.
+    pub fn judge<S: Source>(
+        &mut self,
+        store: &mut S,
+        origin: &Origin,
+        cell: [u64; 3],
+    ) -> Result<bool, LookupFault>
+        requires cell { IsCell origin.now.scale cell }
+        requires serves { Serves (S.objects store.old) origin.now self.old }
+        ensures finds { IfSome (S.objects store.old) (λ m.
+            Finds result (chunk_in m origin.now.dataset origin.now.scale cell)) }
+        ensures serves { Serves (S.objects store.old) origin.now self.new }
+        ensures walks { Walks S.Source origin.now (cell ∷ []) LookupFault.NotRead store.old store.new
+            self.old.shards self.new.shards result }
+    {
+        let own = cell_box(&origin.scale, cell);
+        let home = BoxedCell { cell, own };
+        let chunk = self.chunk.room();
+        let len = match read_stored(&mut self.shards, store, origin, cell, chunk) {
+            Err(fault) => return Err(fault),
+            Ok(None) => return Ok(false),
+            Ok(Some(len)) => len as usize,
+        };
+        self.chunk.set_used(len);
+        let bytes = self.chunk.used();
+        match judge_bytes(bytes, &origin.scale, &home, self.values.room()) {
+            Ok(()) => Ok(true),
+            Err(fault) => Err(LookupFault::Faulty(Fault::Chunk(fault))),
+        }
+    }
+
+    /// Reads the cells that meet the part, x fastest, and puts their values, in some channels, into those of the
+    /// part. The index that is kept goes on from part to part.
+    pub(crate) fn read_cells<S: Source>(
+        &mut self,
+        store: &mut S,
+        origin: &Origin,
+        part: &Box3,
+        channels: Channels,
+        out: &mut [u8],
+    ) -> Result<(), CutFault>
+        requires inside { Inside origin.now.scale part.now }
+        requires serves { Serves (S.objects store.old) origin.now self.old }
+        requires target { IsTarget origin.now.scale part.now channels (length out.old) }
+        ensures read { IfSome (S.objects store.old) (λ m. ReadsAll result m origin.now.dataset
+            origin.now.scale part.now channels out.new) }
+        ensures inside { result ≢ Err CutFault.OutsideScale }
+        ensures serves { Serves (S.objects store.old) origin.now self.new }
+        ensures walks { Walks S.Source origin.now (cells_in origin.now.scale part.now) CutFault.StoreFault
+            store.old store.new self.old.shards self.new.shards result }
+    {
+        tell_cells(&origin.scale, part);
+        for cell in cells(&origin.scale, part) {
+            match self.read_one(store, origin, cell, part, channels, out) {
+                Ok(()) => {}
+                Err(fault) => return Err(place_fault(cell, fault)),
+            }
+        }
+        Ok(())
+    }
 }

@@ -1,8 +1,7 @@
 //! Channels side by side.
-ghost use Rattle.std.specs.Prelude.{◌≡◌, ◌+◌, ◌*◌, ◌≤◌, drop, length, take};
-ghost use Rattle.vol_base.specs.Boxes.{voxels};
+ghost use Rattle.std.specs.Prelude.{◌≡◌, ◌+◌, ◌≤◌, length};
 ghost use Rattle.vol_spec.specs.Encodings.{raw_size};
-ghost use Rattle.vol_spec.specs.Grid.{cell_box as box_of, IsCell};
+ghost use Rattle.cutout.specs.Targets.{picked_of};
 
 use vol_spec::Scale;
 
@@ -22,8 +21,7 @@ pub(crate) fn pick<'a>(
 ) -> &'a [u8]
     requires channels { channels.first + channels.count ≤ scale.now.channels }
     requires values { length values.now ≡ raw_size scale.now cell }
-    ensures { let one = voxels (box_of scale.now cell) * scale.now.width in
-        result.now ≡ take (channels.count * one) (drop (channels.first * one) values.now) }
+    ensures { result.now ≡ picked_of scale.now cell channels values.now }
 {
     let one = values.len() / scale.channels as usize;
     let begin = channels.first as usize * one;

@@ -1,46 +1,40 @@
 //! The reader of a scale that keeps an index from call to call.
 ghost use Rattle.std.specs.Prelude.{is_ok, ◌≡◌, ◌≢◌, ◌↔◌, ◌+◌, ◌≤◌, ◌^◌, length, IfSome, Err, Option};
-ghost use Rattle.vol_base.specs.Causes.{HasCauseOf};
-ghost use Rattle.vol_base.specs.Outside.{Objects, OnlyReads};
+ghost use Rattle.vol_base.specs.Outside.{Objects};
 ghost use Rattle.vol_spec.specs.Costs.{cost};
 ghost use Rattle.vol_spec.specs.Grid.{cells_in, Inside};
 ghost use Rattle.vol_spec.specs.Raw.{raw_len};
 ghost use Rattle.cutout.specs.Kept.{KeepsIndex};
+ghost use Rattle.cutout.specs.Calls.{ReadsFrom};
 ghost use Rattle.cutout.specs.Reading.{HasCut};
 ghost use Rattle.cutout.specs.Runs.{RunsOn};
 
-use crate::CutFault;
-use crate::cutting::cut_box;
-use chunk_pool::Frame;
-use shard_reader::ShardReader;
+use crate::cells::CellReader;
+use crate::{CutFault, Origin};
 use std::marker::Model;
-use vol_base::{Box3, Name, Source};
-use vol_spec::Scale;
+use vol_base::{Box3, Source};
 
 /// Reads a scale of a data set as a `Reader` does, and keeps the index that it opened last from call to call.
 /// So boxes that are read one after the other, in the order of the ids, read an index once. It is seen
 /// as the reader, and what it keeps.
 #[derive(Drop)]
 pub struct KeepingReader {
-    pub(crate) dataset: Name,
-    pub(crate) scale: Scale,
-    pub(crate) chunk: Frame,
-    pub(crate) values: Frame,
-    pub(crate) shards: ShardReader,
+    pub(crate) origin: Origin,
+    pub(crate) cells: CellReader,
 }
 
 impl Model for KeepingReader {
     ghost use Rattle.cutout.specs.Kept.{Keeping};
-    ghost use Rattle.cutout.specs.Opened.{IsReady};
+    ghost use Rattle.cutout.specs.Serving.{HasRoom};
 
     ghost Value = { Keeping };
 
     ghost view = { λ r. record {
-      opened = record { dataset = r.dataset; scale = r.scale };
-      shards = r.shards;
+      opened = record { dataset = r.origin.dataset; scale = r.origin.scale };
+      shards = r.cells.shards;
     } };
 
-    ghost invariant = { λ r. IsReady (record { dataset = r.dataset; scale = r.scale }) r.chunk r.values };
+    ghost invariant = { λ r. HasRoom r.origin.scale r.cells };
 }
 
 impl KeepingReader {
@@ -49,7 +43,7 @@ impl KeepingReader {
         ensures same { self.new.opened ≡ self.old.opened }
         ensures nothing { (objects : Option Objects) → KeepsIndex objects self.new }
     {
-        self.shards.forget();
+        self.cells.shards.forget();
     }
 
     /// Cuts a box out, as `Reader::cutout` does, and forgets nothing: it reads no row that it has passed in the
@@ -81,21 +75,8 @@ impl KeepingReader {
         ensures run { IfSome (S.objects store.old) (λ m. RunsOn (is_ok result) m self.old.opened.dataset
             self.old.opened.scale (cells_in self.old.opened.scale part.now) (S.asked store.old)
             (S.asked store.new) self.old.shards self.new.shards) }
-        ensures kept { OnlyReads (S.objects store.old) (S.objects store.new) (S.draft store.old)
-            (S.draft store.new) }
-        ensures cause { HasCauseOf CutFault.StoreFault (S.faults store.old) (S.faults store.new) result }
+        ensures reads { ReadsFrom S.Source CutFault.StoreFault store.old store.new result }
     {
-        let chunk = self.chunk.room();
-        let values = self.values.room();
-        cut_box(
-            &mut self.shards,
-            store,
-            &self.dataset,
-            &self.scale,
-            chunk,
-            values,
-            part,
-            out,
-        )
+        self.cells.cut_box(store, &self.origin, part, out)
     }
 }

@@ -1,6 +1,7 @@
 //! Boxes of voxels and places of chunks, read from the objects of a scale.
 #![tactic(auto)]
 
+mod boxed;
 mod cells;
 mod channels;
 mod chunk;
@@ -9,12 +10,14 @@ mod fault;
 mod found;
 mod keeping;
 mod layers;
+mod origin;
 mod reader;
 mod stream;
 mod values;
 
-pub use chunk::read_stored;
+pub use cells::CellReader;
 pub use fault::{CutFault, StreamFault};
 pub use found::Found;
 pub use keeping::KeepingReader;
-pub use reader::{Reader, values_limit};
+pub use origin::Origin;
+pub use reader::Reader;

@@ -1,24 +1,21 @@
 //! The reader of a scale.
-ghost use Rattle.std.specs.Prelude.{◌≡◌, ◌≢◌, ◌↔◌, ◌+◌, ◌*◌, ◌≤◌, ◌^◌, length, IfErr, IfOk, IfSome, None, Err};
+ghost use Rattle.std.specs.Prelude.{◌≡◌, ◌↔◌, ◌+◌, ◌*◌, ◌≤◌, ◌^◌, length, IfOk, IfSome, Err};
 ghost use Rattle.vol_base.specs.Causes.{HasCauseOf};
-ghost use Rattle.vol_base.specs.Outside.{OnlyReads};
 ghost use Rattle.vol_spec.specs.Costs.{cost};
 ghost use Rattle.vol_spec.specs.Grid.{Inside, IsCell};
 ghost use Rattle.vol_spec.specs.Raw.{raw_len};
-ghost use Rattle.cutout.specs.Keeping.{search_cost};
+ghost use Rattle.cutout.specs.Calls.{ReadsFrom};
 ghost use Rattle.cutout.specs.Opened.{values_room};
-ghost use Rattle.cutout.specs.Reading.{HasCut, Locates};
+ghost use Rattle.cutout.specs.Reading.{HasCut};
+ghost use Rattle.cutout.specs.Searching.{Searches};
 ghost use Rattle.cutout.specs.Streaming.{Leaves, Streams};
 
-use crate::cutting::cut_box;
-use crate::found::{locate_in_shard, locate_own};
+use crate::cells::CellReader;
 use crate::keeping::KeepingReader;
 use crate::layers::layer_room;
-use crate::stream::stream_channels;
-use crate::{CutFault, Found, StreamFault};
+use crate::{CutFault, Found, Origin, StreamFault};
 use chunk_grid::inside;
 use chunk_pool::Frame;
-use shard_reader::{ShardReader, WINDOW_LEN};
 use std::alloc::Global;
 use std::marker::Model;
 use vol_base::{Box3, Name, OutOfMemory, Outlet, Source};
@@ -29,25 +26,23 @@ use vol_spec::{Encoding, Scale};
 /// alone takes more, the buffer for a layer.
 #[derive(Drop)]
 pub struct Reader {
-    dataset: Name,
-    scale: Scale,
-    chunk: Frame,
-    values: Frame,
-    shards: ShardReader,
+    origin: Origin,
+    cells: CellReader,
 }
 
 impl Model for Reader {
-    ghost use Rattle.cutout.specs.Opened.{IsReady, Opened};
+    ghost use Rattle.cutout.specs.Opened.{Opened};
+    ghost use Rattle.cutout.specs.Serving.{HasRoom};
 
     ghost Value = { Opened };
 
-    ghost view = { λ r. record { dataset = r.dataset; scale = r.scale } };
+    ghost view = { λ r. record { dataset = r.origin.dataset; scale = r.origin.scale } };
 
-    ghost invariant = { λ r. IsReady (record { dataset = r.dataset; scale = r.scale }) r.chunk r.values };
+    ghost invariant = { λ r. HasRoom r.origin.scale r.cells };
 }
 
 /// How many bytes of values are decoded at once: none where chunks have their values as they are.
-pub fn values_limit(scale: &Scale) -> u64
+pub(crate) fn values_limit(scale: &Scale) -> u64
     ensures { result ≡ values_room scale.now }
 {
     match scale.encoding {
@@ -63,16 +58,9 @@ impl Reader {
         ensures dataset { IfOk result (λ reader. reader.dataset ≡ dataset.now) }
         ensures scale { IfOk result (λ reader. reader.scale ≡ scale.now) }
     {
-        let chunk = Frame::alone(alloc, scale.chunk_limit() + 1)?;
-        let values = Frame::alone(alloc, values_limit(scale))?;
-        let window = Frame::alone(alloc, WINDOW_LEN)?;
-        Ok(Reader {
-            dataset: dataset.duplicate(),
-            scale: scale.duplicate(),
-            chunk,
-            values,
-            shards: ShardReader::new(window),
-        })
+        let cells = CellReader::reserve(alloc, scale)?;
+        let origin = Origin::of(dataset, scale);
+        Ok(Reader { origin, cells })
     }
 
     /// The same reader, which from now on keeps the index that it opened last from call to call.
@@ -80,11 +68,8 @@ impl Reader {
         ensures { result.opened ≡ self }
     {
         KeepingReader {
-            dataset: self.dataset,
-            scale: self.scale,
-            chunk: self.chunk,
-            values: self.values,
-            shards: self.shards,
+            origin: self.origin,
+            cells: self.cells,
         }
     }
 
@@ -108,23 +93,10 @@ impl Reader {
         // It asks for no more than the entries, the indexes and the chunks of the cells.
         ensures asked { IfSome (S.objects store.old) (λ m.
             S.asked store.new ≤ S.asked store.old + cost m self.old.dataset self.old.scale part.now) }
-        ensures kept { OnlyReads (S.objects store.old) (S.objects store.new) (S.draft store.old)
-            (S.draft store.new) }
-        ensures cause { HasCauseOf CutFault.StoreFault (S.faults store.old) (S.faults store.new) result }
+        ensures reads { ReadsFrom S.Source CutFault.StoreFault store.old store.new result }
     {
-        let chunk = self.chunk.room();
-        let values = self.values.room();
-        self.shards.forget();
-        cut_box(
-            &mut self.shards,
-            store,
-            &self.dataset,
-            &self.scale,
-            chunk,
-            values,
-            part,
-            out,
-        )
+        self.cells.shards.forget();
+        self.cells.cut_box(store, &self.origin, part, out)
     }
 
     /// Writes a box: the same bytes as `cutout`, channel by channel, and within a channel by layers of cells
@@ -154,60 +126,27 @@ impl Reader {
         // It asks for no more than the entries, the indexes and the chunks of the cells, once for each channel.
         ensures asked { IfSome (S.objects store.old) (λ m. S.asked store.new ≤ S.asked store.old
             + self.old.scale.channels * cost m self.old.dataset self.old.scale part.now) }
-        ensures kept { OnlyReads (S.objects store.old) (S.objects store.new) (S.draft store.old)
-            (S.draft store.new) }
-        ensures cause { HasCauseOf StreamFault.StoreFault (S.faults store.old) (S.faults store.new) result }
+        ensures reads { ReadsFrom S.Source StreamFault.StoreFault store.old store.new result }
         ensures out_cause { HasCauseOf StreamFault.OutFault (O.faults out.old) (O.faults out.new) result }
     {
-        if !inside(&self.scale, part) {
+        if !inside(&self.origin.scale, part) {
             return Err(StreamFault::OutsideScale);
         }
-        let mut buffer = match Frame::alone(alloc, layer_room(&self.scale, part)) {
+        let mut buffer = match Frame::alone(alloc, layer_room(&self.origin.scale, part)) {
             Ok(buffer) => buffer,
             Err(OutOfMemory) => return Err(StreamFault::OutOfMemory),
         };
-        let chunk = self.chunk.room();
-        let values = self.values.room();
-        stream_channels(
-            &mut self.shards,
-            store,
-            &self.dataset,
-            &self.scale,
-            chunk,
-            values,
-            part,
-            buffer.room(),
-            out,
-        )
+        self.cells
+            .stream_channels(store, &self.origin, part, buffer.room(), out)
     }
 
     /// Finds the chunk of a cell without reading it: in its own object, of which it is the whole, or in a
     /// shard, where a fault of the entry, of the index or of the chunk's place is told.
     pub fn locate<S: Source>(&mut self, store: &mut S, cell: [u64; 3]) -> Result<Found, CutFault>
         requires { IsCell self.old.scale cell }
-        ensures found { IfSome (S.objects store.old) (λ m.
-            Locates result m self.old.dataset self.old.scale cell) }
-        ensures inside { result ≢ Err CutFault.OutsideScale }
-        ensures whole { self.old.scale.sharding ≡ None → IfErr result (λ fault. fault ≡ CutFault.StoreFault) }
+        ensures searches { Searches S.Source self.old.dataset self.old.scale cell store.old store.new result }
         ensures same { self.new ≡ self.old }
-        ensures asked { IfSome (S.objects store.old) (λ m.
-            S.asked store.new ≤ S.asked store.old + search_cost m self.old.dataset self.old.scale cell) }
-        ensures kept { OnlyReads (S.objects store.old) (S.objects store.new) (S.draft store.old)
-            (S.draft store.new) }
-        ensures cause { HasCauseOf CutFault.StoreFault (S.faults store.old) (S.faults store.new) result }
-        ensures still { IfErr result (λ fault. fault ≢ CutFault.StoreFault →
-            S.faults store.new ≡ S.faults store.old) }
     {
-        match self.scale.sharding {
-            None => locate_own(store, &self.dataset, &self.scale, cell),
-            Some(sharding) => locate_in_shard(
-                &mut self.shards,
-                store,
-                &self.dataset,
-                &self.scale,
-                &sharding,
-                cell,
-            ),
-        }
+        self.cells.locate(store, &self.origin, cell)
     }
 }

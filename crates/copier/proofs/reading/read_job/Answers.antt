@@ -21,17 +21,17 @@ returns-in-Err-Damaged-clause-read g c =
     c.in-Err-Damaged.fault c.cell_box-part.ensures.positions c.in-Err-Damaged.field-0-is c.in-Err-Damaged.ensures.cut
 
 pub returns-in-Ok-clause-cause : goal.returns-in-Ok-clause-cause
-returns-in-Ok-clause-cause g c = record { later = c.cutout.ensures.cause.later; failed = λ told. absurd (cc told); stands = c.in-Ok.ensures.cause.stands }
+returns-in-Ok-clause-cause g c = record { later = c.cutout.ensures.reads.cause.later; failed = λ told. absurd (cc told); stands = c.in-Ok.ensures.reads.cause.stands }
 
 pub returns-in-Err-StoreFault-clause-cause : goal.returns-in-Err-StoreFault-clause-cause
 returns-in-Err-StoreFault-clause-cause g c = record {
-  later = c.cutout.ensures.cause.later;
-  failed = λ told. c.cutout.ensures.cause.failed (c.in-Err-StoreFault.is ∙ ap Err c.in-Err-StoreFault.field-0-is);
+  later = c.cutout.ensures.reads.cause.later;
+  failed = λ told. c.cutout.ensures.reads.cause.failed (c.in-Err-StoreFault.is ∙ ap Err c.in-Err-StoreFault.field-0-is);
   stands = tt;
 }
 
 pub returns-in-Err-Damaged-clause-cause : goal.returns-in-Err-Damaged-clause-cause
-returns-in-Err-Damaged-clause-cause g c = record { later = c.cutout.ensures.cause.later; failed = λ told. absurd (cc told); stands = tt }
+returns-in-Err-Damaged-clause-cause g c = record { later = c.cutout.ensures.reads.cause.later; failed = λ told. absurd (cc told); stands = tt }
 
 pub unreachable-requires : goal.unreachable-requires
 unreachable-requires g c =

@@ -29,10 +29,10 @@ returns-in-Err-clause-broken g c = subst IsBroken (sym c.as_refusal.ensures) (br
 
 pub returns-in-Err-clause-cause : goal.returns-in-Err-clause-cause
 returns-in-Err-clause-cause g c = record {
-  later = c.stream.ensures.cause.later;
+  later = c.stream.ensures.reads.cause.later;
   failed = λ is.
       let told : c.as_refusal.result ≡ StoreFault = cc is in
-      c.stream.ensures.cause.failed (c.in-Err.is ∙ ap Err (broken_store c.in-Err.fault (λ e. c.stream.ensures.outside.0 (c.in-Err.is ∙ ap Err e) c.requires.part.0) (sym c.as_refusal.ensures ∙ told)));
+      c.stream.ensures.reads.cause.failed (c.in-Err.is ∙ ap Err (broken_store c.in-Err.fault (λ e. c.stream.ensures.outside.0 (c.in-Err.is ∙ ap Err e) c.requires.part.0) (sym c.as_refusal.ensures ∙ told)));
   stands = tt;
 }
 

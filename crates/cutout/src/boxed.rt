@@ -1,0 +1,10 @@
+//! A cell with its box.
+
+use vol_base::Box3;
+
+/// A cell of a scale, and the box that it has there.
+#[derive(Drop)]
+pub(crate) struct BoxedCell {
+    pub cell: [u64; 3],
+    pub own: Box3,
+}
