@@ -1,5 +1,5 @@
 -- What readers of a feed do, one behind another.
-use Rattle.std.proofs.Common.{◌≡◌, ℕ, ◌+◌, ◌<◌, ◌≤◌, List, length, take, drop, length-take, Option, Some, None, IfSome, Result, Ok, Err, IsTrue, true, false, nat_lt, refl, ap, subst, ◌++◌, ◌∙◌, sym, arith}
+use Rattle.std.proofs.Common.{◌≡◌, ℕ, ◌+◌, ◌<◌, ◌≤◌, List, length, take, drop, length-take, Option, Some, None, IfSome, Result, Ok, Err, IsTrue, Bool, if◌then◌else◌, true, false, nat_lt, refl, ap, subst, ◌++◌, ◌∙◌, sym, arith}
 use Rattle.std.specs.Option.{option_map}
 use Rattle.std.proofs.Math.Seq.{take-add, take-append-add}
 use Rattle.std.proofs.lemmas.List.{take-append-le}
@@ -9,8 +9,8 @@ use Rattle.vol_base.specs.Causes.{HasCauseOf}
 use Rattle.vol_base.specs.Outside.{Gives}
 use Rattle.chunk_grid.proofs.MeetSteps.{true_from}
 use Rattle.write_plan.specs.Stream.{box_of}
-use Rattle.write_plan.specs.Reading.{◌>>=◌, limited, judged}
-use Rattle.write_plan.specs.Readers.{IsFront, Took, gives, Gave, Reading, Reads, Refused, Answers, of_stream}
+use Rattle.write_plan.specs.Reading.{◌>>=◌, front, limited, judged}
+use Rattle.write_plan.specs.Readers.{IsFront, always, Took, gives, Gave, Reading, Reads, Refused, Answers, of_stream}
 use Rattle.write_plan.specs.declared.fault.PlanFault.{PlanFault}
 use Rattle.write_plan.specs.declared.fault.PlanFault.TheVariants.{FeedFault, OutOfMemory, TooManyWrites}
 use Rattle.vol_base.specs.declared.boxes.Box3.{Box3}
@@ -170,6 +170,66 @@ pub if_some_any : {A : Type 0} (o : Option A) (P : A → Type 0) → ((x : A) �
 if_some_any None P h = tt
 if_some_any (Some x) P h = h x
 
--- a buffer that was filled in whole
-pub whole_buffer : (n : ℕ) (buffer items : List ℕ) → length buffer ≡ length items → length items ≡ n → take n (buffer ++ drop (length buffer) items) ≡ buffer
-whole_buffer n buffer items e l = grind (arith, common_steps)
+-- a front that came piece by piece
+front_if : (c : Bool) (n : ℕ) (fault : PlanFault) (w v rest : List ℕ) → nat_lt (length w) n ≡ c → (if c then Err fault else Ok (take n w, drop n w)) ≡ gives v rest → IsFront n v w × (drop n w ≡ rest)
+front_if true n fault w v rest t e = absurd (cc e)
+front_if false n fault w v rest t e =
+    let cut : List ℕ × List ℕ = (take n w, drop n w) in
+    let given : List ℕ × List ℕ = (v, rest) in
+    let pair : cut ≡ given = cc in
+    let front : take n w ≡ v = ap (λ x. x.0) pair in
+    let l : n ≤ length w = grind (arith, nat_tests, t) in
+    let twice : take n (take n w) ≡ take n w = grind (arith, common_steps) in
+    (record { same = ap (take n) (sym front) ∙ twice; within = l }, ap (λ x. x.1) pair)
+
+front_on : (n : ℕ) (old new bytes : List ℕ) → IsFront (length old) old bytes → take (length old) new ≡ old → length new ≡ length old + n → IsFront n (drop (length old) new) (drop (length old) bytes) → IsFront (length new) new bytes
+front_on n old new bytes h t l more =
+    let k : ℕ = length old in
+    let whole : take k old ≡ old = grind (arith, common_steps) in
+    record {
+      same = ap (λ j. take j new) l ∙ take-add k n new ∙ ap (λ x. x ++ take n (drop k new)) (t ∙ sym whole ∙ h.same) ∙ ap (λ x. take k bytes ++ x) more.same ∙ sym (take-add k n bytes) ∙ ap (λ j. take j bytes) (sym l);
+      within = grind (arith, common_steps, l, h.within, more.within);
+    }
+
+none_is : {A : Type 0} (f : List ℕ → A) (q : Option (List ℕ)) → None ≡ option_map f q → q ≡ None
+none_is f None e = refl
+none_is f (Some x) e = absurd (cc e)
+
+pub came_on : (o p q : Option (List ℕ)) (n : ℕ) (fault : PlanFault) (old new : List ℕ) → p ≡ option_map (drop (length old)) o → IfSome o (IsFront (length old) old) → Gave (front n fault) p q (drop (length old) new) → take (length old) new ≡ old → length new ≡ length old + n → IfSome o (IsFront (length new) new) × (q ≡ option_map (drop (length new)) o)
+came_on None None q n fault old new e h g t l = (tt, none_is (gives (drop (length old) new)) q g)
+came_on None (Some w) q n fault old new e h g t l = absurd (cc e)
+came_on (Some bytes) p None n fault old new e h g t l = absurd (cc (e, g))
+came_on (Some bytes) p (Some rest) n fault old new e h g t l =
+    let w : List ℕ = drop (length old) bytes in
+    let gave : front n fault w ≡ gives (drop (length old) new) rest = cc in
+    let more : IsFront n (drop (length old) new) w × (drop n w ≡ rest) = front_if (nat_lt (length w) n) n fault w (drop (length old) new) rest refl gave in
+    (front_on n old new bytes h t l more.0, ap Some (sym (more.1)) ∙ drop_twice (Some bytes) (length old) n ∙ ap (λ j. Some (drop j bytes)) (sym l))
+
+-- a piece that fails the front of which it is a part
+refused_if : (c : Bool) (n : ℕ) (fault e : PlanFault) (w : List ℕ) (x : List ℕ × List ℕ) → nat_lt (length w) n ≡ c → (if c then Err fault else Ok x) ≡ Err e → (length w < n) × (fault ≡ e)
+refused_if true n fault e w x t q = (grind (arith, nat_tests, t), cc)
+refused_if false n fault e w x t q = absurd (cc q)
+
+front_short : (n : ℕ) (fault e : PlanFault) (bytes : List ℕ) → length bytes < n → fault ≡ e → front n fault bytes ≡ Err e
+front_short n fault e bytes l q = let t : nat_lt (length bytes) n ≡ true = grind (arith, nat_tests) in rw t (ap Err q)
+
+pub refused_on : (o p : Option (List ℕ)) (k n m : ℕ) (fault e : PlanFault) → p ≡ option_map (drop k) o → k + n ≤ m → Refused (front n fault) p e → Refused (front m fault) o e
+refused_on None p k n m fault e q l h t = tt
+refused_on (Some bytes) p k n m fault e q l h t =
+    let here : front n fault (drop k bytes) ≡ Err e = subst (λ x. IfSome x (λ w. front n fault w ≡ Err e)) q (h t) in
+    let short : (length (drop k bytes) < n) × (fault ≡ e) = refused_if (nat_lt (length (drop k bytes)) n) n fault e (drop k bytes) _ refl here in
+    front_short m fault e bytes (grind (arith, common_steps, short.0, l)) short.1
+
+pub read_short : {F C D : Type 0} (left : F → Option (List ℕ)) (faults : F → ℕ) (old mid new : F) (k n m : ℕ) (fault : PlanFault) (see : C → List ℕ) (all : D → List ℕ) (e : PlanFault)
+    → left mid ≡ option_map (drop k) (left old) → faults mid ≡ faults old → k + n ≤ m → Reads left faults mid new n (front n fault) see (Err e) → Reads left faults old new m (front m fault) all (Err e)
+read_short {D = D} left faults old mid new k n m fault see all e behind same l h = record {
+  answer = refused_on (left old) (left mid) k n m fault e behind l h.answer;
+  took = took_more k n m (left old) (left mid) (left new) (record { count = k; small = omega arith; left = behind }) h.took l;
+  cause = subst (λ w. HasCauseOf {T = D} FeedFault w (faults new) (Err e)) same (cause_first e (faults mid) (faults new) h.cause);
+}
+
+-- a reader of a front whose value is seen at another place
+pub read_placed : {F A : Type 0} (left : F → Option (List ℕ)) (faults : F → ℕ) (old new : F) (m n : ℕ) (fault : PlanFault) (seen all : List ℕ) (result : Result A PlanFault)
+    → m ≡ n → seen ≡ all → Reads left faults old new m (front m fault) (always seen) result → Reads left faults old new n (front n fault) (always all) result
+read_placed left faults old new m n fault seen all result e same h =
+    subst (λ (v : List ℕ). Reads left faults old new n (front n fault) (always v) result) same (subst (λ (k : ℕ). Reads left faults old new k (front k fault) (always seen) result) e h)

@@ -56,6 +56,10 @@ abbrev pub Reading : {A B : Type 0} → (List ℕ → Result (B × List ℕ) Pla
 Reading read see before now (Ok value) = Gave read before now (see value)
 Reading read see before now (Err fault) = Refused read before fault
 
+-- the same value, whatever the answer
+abbrev pub always : {A B : Type 0} → B → A → B
+always value _ = value
+
 -- what a call does with a feed, of which is told what is left and how often it failed: it reads, takes at most so
 -- many bytes, and answers `FeedFault` only where the feed failed
 pub record Reads {F A B : Type 0} (left : F → Option (List ℕ)) (faults : F → ℕ) (old new : F) (most : ℕ)

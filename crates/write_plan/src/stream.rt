@@ -11,7 +11,7 @@ ghost use Rattle.write_plan.specs.Reading.{box_at, write_at, writes_at, count_at
 ghost use Rattle.write_plan.specs.Readers.{Took, Reads, Answers, AreReadWrites, IsReadWrite, IsSized, Judges, most_of};
 ghost use Rattle.write_plan.specs.WriteLists.{IsWriteOf, write_in, writes_in};
 
-use crate::bytes::read_front;
+use crate::bytes::{read_front, read_values};
 use crate::fault::PlanFault;
 use crate::writes::{Write, Writes};
 use chunk_grid::{byte_len, inside};
@@ -115,8 +115,7 @@ fn read_write<F: Feed>(
     ensures fits { IfOk result (λ write. IsReadWrite scale.now before (write_in write)) }
 {
     let (part, len) = read_part(feed, scale, number, before)?;
-    let mut bytes = vec![in alloc; 0; len]?;
-    read_front(feed, &mut bytes, PlanFault::Truncated { write: number })?;
+    let bytes = read_values(alloc, feed, len, PlanFault::Truncated { write: number })?;
     Ok(Write { part, bytes })
 }
 
