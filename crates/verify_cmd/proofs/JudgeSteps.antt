@@ -22,7 +22,8 @@ use Rattle.index_judge.specs.declared.fault.JudgeFault.{JudgeFault}
 use Rattle.index_judge.specs.declared.fault.JudgeFault.TheVariants.{NotRead, Damaged, Misplaced}
 use Rattle.index_judge.specs.declared.judge.IndexJudge.{IndexJudge}
 use Rattle.verify_cmd.specs.Judges.{KnowsBy, KnowsIndexes}
-use Rattle.verify_cmd.specs.Verifying.{Finds, JudgesCell, index_of_cell}
+use Rattle.cutout.specs.Finding.{Finds}
+use Rattle.verify_cmd.specs.Verifying.{JudgesCell, index_of_cell}
 
 -- the index of a cell, by a sharding or none
 abbrev index_by : Option Sharding → Objects → Name → Scale → Cell → Option Wrong

@@ -1,5 +1,4 @@
 pub mod AskedSteps
-pub mod FindSteps
 pub mod JudgeSteps
 pub mod PartSteps
 pub mod ServeSteps

@@ -1,5 +1,5 @@
 -- All views of a scale: how many cells meet a part, and what is found in them.
-use Rattle.std.proofs.Common.{◌≡◌, ◌↔◌, ◌∙◌, ◌≤◌, ℕ, ◌+◌, ◌*◌, ◌^◌, length, Option, Some, None, IfSome, Ok, Err, ap, sym, subst, arith, lit<}
+use Rattle.std.proofs.Common.{◌≡◌, ◌↔◌, ◌∙◌, ◌≤◌, ℕ, ◌+◌, ◌*◌, ◌^◌, length, Option, Some, None, IfOk, IfSome, Ok, Err, ap, sym, subst, arith, lit<}
 use Rattle.std.specs.Prelude.{All, Result}
 use Rattle.std.specs.List.{range_with_len}
 use Rattle.std.proofs.lemmas.Nat.{mul-le}
@@ -27,7 +27,7 @@ use Rattle.view_judge.specs.declared.fault.ViewFault.{ViewFault}
 use Rattle.view_judge.specs.declared.fault.ViewFault.TheVariants as views
 use Rattle.view_judge.specs.declared.report.ViewsReport.{ViewsReport}
 use Rattle.verify_cmd.specs.Counting.{joined}
-use Rattle.verify_cmd.specs.Verifying.{IsCellReport, IsReport, Verifies, first_wrong, found_in}
+use Rattle.verify_cmd.specs.Verifying.{Counts, IsCellReport, IsReport, Verifies, first_wrong, found_in}
 use Rattle.verify_cmd.specs.declared.fault.VerifyFault.{VerifyFault}
 use Rattle.verify_cmd.specs.declared.report.Report.{Report}
 use Rattle.verify_cmd.proofs.PartSteps.{sound_first}
@@ -111,3 +111,12 @@ module _ (m : Objects) (dataset : Name) (s : Scale) (b : Box3) (inside : Inside 
 
   pub view_refused : (fault : ViewFault) (told : VerifyFault) → told ≡ found_in fault → FindsViews (Err fault) m dataset s b → Verifies (Err told) m dataset s b
   view_refused fault told is found = subst (λ t. Verifies (Err t) m dataset s b) (sym is) (by_view fault found)
+
+-- the numbers of a report
+pub counts_cells : (r : Result Report VerifyFault) (n wanted : ℕ) → n ≡ wanted → IfOk r (Counts n) → IfOk r (λ report. report.cells ≡ wanted)
+counts_cells (Ok report) n wanted e h = h.cells ∙ e
+counts_cells (Err fault) n wanted e h = tt
+
+pub counts_both : (r : Result Report VerifyFault) (n : ℕ) → IfOk r (Counts n) → IfOk r (λ report. report.stored + report.absent ≡ report.cells)
+counts_both (Ok report) n h = h.both
+counts_both (Err fault) n h = tt

@@ -1,5 +1,5 @@
 -- What judging a part says (this project's profile).
-use Rattle.std.specs.Prelude.{◌≡◌, ℕ, ◌+◌, ◌*◌, ◌^◌, ◌<◌, ◌≤◌, Bool, true, false, length, map, Option, Some, None, Result, Ok, Err}
+use Rattle.std.specs.Prelude.{◌≡◌, ◌≢◌, ℕ, ◌+◌, ◌*◌, ◌^◌, ◌<◌, ◌≤◌, Bool, true, false, length, map, Option, Some, None, Result, Ok, Err}
 use Rattle.std.specs.FinMap as fin
 use Rattle.std.specs.Option.{option_map}
 use Rattle.vol_base.specs.Outside.{Objects}
@@ -19,8 +19,7 @@ use Rattle.size_laws.specs.Findings.{first_finding}
 use Rattle.size_laws.specs.Findings.Finding.{Damaged as DamagedIn, Differs as DiffersIn}
 use Rattle.size_laws.specs.Further.{all_views, further}
 use Rattle.size_laws.specs.Sizes.{AllSound}
-use Rattle.shard_reader.specs.declared.bytes.LookupFault.{LookupFault}
-use Rattle.shard_reader.specs.declared.bytes.LookupFault.TheVariants.{NotRead as Unread, Faulty}
+use Rattle.cutout.specs.Finding.{Finds}
 use Rattle.index_judge.specs.Judging.{Says}
 use Rattle.index_judge.specs.declared.fault.JudgeFault.{JudgeFault}
 use Rattle.index_judge.specs.declared.fault.JudgeFault.TheVariants as judging
@@ -30,13 +29,6 @@ use Rattle.view_judge.specs.declared.fault.ViewFault.TheVariants as views
 use Rattle.verify_cmd.specs.declared.fault.VerifyFault.{VerifyFault}
 use Rattle.verify_cmd.specs.declared.fault.VerifyFault.TheVariants.{OutsideScale, TooManyCells, StoreFault, Damaged, Misplaced, ViewDamaged, Conflict, OutOfMemory}
 use Rattle.verify_cmd.specs.declared.report.Report.{Report}
-
--- what reading and judging a chunk answers: whether it is stored, or its fault
-abbrev pub Finds : Result Bool LookupFault → Result (Option Bytes) Fault → Type 0
-Finds (Ok true) seen = (bytes : Bytes) × (seen ≡ Ok (Some bytes))
-Finds (Ok false) seen = seen ≡ Ok None
-Finds (Err (Faulty fault)) seen = seen ≡ Err fault
-Finds (Err Unread) seen = Unit {0}
 
 -- what is wrong with the index that has the chunk of a cell
 abbrev pub index_of_cell : Objects → Name → Scale → Cell → Option Wrong
@@ -118,3 +110,14 @@ pub record IsTooMany (s : Scale) (b : Box3) (n : ℕ) : Type 0 where
 -- further views cost beside it
 abbrev pub part_cost : Objects → Name → Scale → Box3 → ℕ
 part_cost m dataset s b = 2 * cost m dataset s b + views_cost m dataset s b
+
+-- a report's numbers: so many cells, of which those are stored and those are absent
+pub record Counts (wanted : ℕ) (report : Report) : Type 0 where
+  pub cells : report.cells ≡ wanted
+  pub both : report.stored + report.absent ≡ report.cells
+
+-- what a judgement that has begun can't answer: that its part is refused, or that there is no memory
+pub record IsBegun {A : Type 0} (result : Result A VerifyFault) : Type 0 where
+  pub inside : result ≢ Err OutsideScale
+  pub within : (n : ℕ) → result ≢ Err (TooManyCells n)
+  pub memory : result ≢ Err OutOfMemory

@@ -1,14 +1,14 @@
 //! The command `verify`.
 ghost use Rattle.std.specs.Prelude.{◌≡◌, ◌≤◌, ◌+◌, ◌^◌, true, false, length, Err, IfErr, IfSome, Some};
-ghost use Rattle.vol_base.specs.Causes.{HasCauseOf, Rose};
+ghost use Rattle.vol_base.specs.Causes.{Rose};
 ghost use Rattle.vol_base.specs.Outside.{Objects, OnlyReads};
 ghost use Rattle.vol_spec.specs.Grid.{whole as whole_of};
+ghost use Rattle.cutout.specs.Calls.{AsksFor, ReadsFrom};
 ghost use Rattle.command_base.specs.Ending.{EndsWell, IsCaused};
 ghost use Rattle.command_base.specs.Outlets.{outlets_of};
-ghost use Rattle.command_base.specs.Scales.{stored_scale};
 ghost use Rattle.command_base.specs.Statuses.{prints, refuses};
 ghost use Rattle.verify_cmd.specs.Refusals.{verify_status};
-ghost use Rattle.verify_cmd.specs.Verified.{AsksTwice, CanVerify, IsAsked, JudgesScale, JudgesStored, part_in, unverified, Verified};
+ghost use Rattle.verify_cmd.specs.Verified.{AsksTwice, CanVerify, IsAsked, IsRight, JudgesScale, part_in, unverified, Verified};
 ghost use Rattle.verify_cmd.specs.Verifying.{part_cost};
 
 use crate::lines::write_verified_line;
@@ -85,11 +85,8 @@ fn judge_scale<S: Source>(
     ensures asked { IsAsked result part.now }
     ensures unread { IfErr result (λ refusal. refuses (verify_status refusal) ≡ true →
         S.asked store.new ≡ S.asked store.old) }
-    ensures cost { IfSome (S.objects store.old) (λ m. S.asked store.new ≤ S.asked store.old
-        + part_cost m dataset.now scale.now (part_in scale.now part.now)) }
-    ensures kept { OnlyReads (S.objects store.old) (S.objects store.new) (S.draft store.old)
-        (S.draft store.new) }
-    ensures cause { HasCauseOf VerifyRefusal.StoreFault (S.faults store.old) (S.faults store.new) result }
+    ensures asks { AsksFor S.Source (λ m. part_cost m dataset.now scale.now (part_in scale.now part.now))
+        VerifyRefusal.StoreFault store.old store.new result }
 {
     let chosen = pick_part(scale, part);
     match verify(alloc, store, dataset, scale, &chosen) {
@@ -108,16 +105,12 @@ fn judge_stored<S: Source>(
 ) -> Result<Report, VerifyRefusal>
     requires dataset { length dataset.now ≤ 200 }
     requires key { length key.now ≤ 200 }
-    ensures judges { IfSome (S.objects store.old) (λ m.
-        JudgesStored result (stored_scale m dataset.now key.now) m dataset.now part.now) }
-    ensures asked { IsAsked result part.now }
+    ensures right { IsRight result (S.objects store.old) dataset.now key.now part.now }
     ensures unread { IfErr result (λ refusal. refuses (verify_status refusal) ≡ true →
         S.asked store.new ≤ S.asked store.old + (2 ^ 20 + 1)) }
     ensures cost { IfSome (S.objects store.old) (λ m.
         AsksTwice m dataset.now key.now part.now (S.asked store.old) (S.asked store.new)) }
-    ensures kept { OnlyReads (S.objects store.old) (S.objects store.new) (S.draft store.old)
-        (S.draft store.new) }
-    ensures cause { HasCauseOf VerifyRefusal.StoreFault (S.faults store.old) (S.faults store.new) result }
+    ensures reads { ReadsFrom S.Source VerifyRefusal.StoreFault store.old store.new result }
 {
     match read_scale(alloc, store, dataset, key) {
         Ok(scale) => judge_scale(alloc, store, dataset, &scale, part),

@@ -3,7 +3,6 @@
 #![tactic(auto)]
 
 mod cell;
-mod chunk;
 mod command;
 mod fault;
 mod lines;

@@ -1,7 +1,6 @@
 //! The judgement of a part of a scale.
-ghost use Rattle.std.specs.Prelude.{◌≡◌, ◌≢◌, ◌↔◌, ◌+◌, ◌*◌, ◌<◌, ◌≤◌, ◌^◌, ℕ, length, Err, IfOk, IfSome, None, Some};
-ghost use Rattle.vol_base.specs.Causes.{HasCauseOf};
-ghost use Rattle.vol_base.specs.Outside.{Objects, OnlyReads};
+ghost use Rattle.std.specs.Prelude.{◌≡◌, ◌≢◌, ◌↔◌, ◌+◌, ◌*◌, ◌<◌, ◌≤◌, ◌^◌, ℕ, length, Err, IfOk, IfSome, None, Some, ⊤};
+ghost use Rattle.vol_base.specs.Outside.{Objects};
 ghost use Rattle.vol_spec.specs.Costs.{cost};
 ghost use Rattle.vol_spec.specs.Grid.{cells_in, Inside};
 ghost use Rattle.vol_spec.specs.Verdicts.{Sound};
@@ -9,14 +8,16 @@ ghost use Rattle.size_laws.specs.Findings.{first_finding};
 ghost use Rattle.size_laws.specs.Further.{all_views, further};
 ghost use Rattle.size_laws.specs.Sizes.{AllSound};
 ghost use Rattle.view_judge.specs.Judging.{cells_of};
+ghost use Rattle.cutout.specs.Calls.{AsksFor, ReadsFrom};
 ghost use Rattle.verify_cmd.specs.Judges.{Serves};
 ghost use Rattle.verify_cmd.specs.Verified.{IsUndamaged};
-ghost use Rattle.verify_cmd.specs.Verifying.{CanJudge, first_wrong, found_at, found_in, IsTooMany, JudgesCells, part_cost, Verifies};
+ghost use Rattle.verify_cmd.specs.Verifying.{CanJudge, Counts, first_wrong, found_at, found_in, IsBegun, IsTooMany, JudgesCells, part_cost, Verifies};
 
 use crate::cell::CellJudge;
 use crate::report::{count_cell, join_reports};
 use crate::{Report, VerifyFault};
 use chunk_grid::{cells, count_cells, inside, tell_cells};
+use cutout::Origin;
 use index_judge::JudgeFault;
 use std::alloc::Global;
 use view_judge::{ViewFault, ViewJudge, count_view_cells};
@@ -38,9 +39,7 @@ fn count_all(scale: &Scale, part: &Box3) -> u128
 // What is told of a part, by what is wrong with a cell.
 fn place_fault(cell: [u64; 3], fault: JudgeFault) -> VerifyFault
     ensures value { result ≡ found_at cell fault }
-    ensures inside { result ≢ VerifyFault.OutsideScale }
-    ensures few { (n : ℕ) → result ≢ VerifyFault.TooManyCells n }
-    ensures memory { result ≢ VerifyFault.OutOfMemory }
+    ensures begun { IsBegun {A = ⊤} (Err result) }
 {
     match fault {
         JudgeFault::NotRead => VerifyFault::StoreFault,
@@ -60,9 +59,7 @@ fn place_fault(cell: [u64; 3], fault: JudgeFault) -> VerifyFault
 // What is told of a part, by what is wrong with a further view.
 fn place_view_fault(fault: ViewFault) -> VerifyFault
     ensures value { result ≡ found_in fault }
-    ensures inside { result ≢ VerifyFault.OutsideScale }
-    ensures few { (n : ℕ) → result ≢ VerifyFault.TooManyCells n }
-    ensures memory { result ≢ VerifyFault.OutOfMemory }
+    ensures begun { IsBegun {A = ⊤} (Err result) }
 {
     match fault {
         ViewFault::StoreFault => VerifyFault::StoreFault,
@@ -88,35 +85,27 @@ fn place_view_fault(fault: ViewFault) -> VerifyFault
 fn judge_cells<S: Source>(
     judge: &mut CellJudge,
     store: &mut S,
-    dataset: &Name,
-    scale: &Scale,
+    origin: &Origin,
     part: &Box3,
 ) -> Result<Report, VerifyFault>
-    requires dataset { length dataset.now ≤ 200 }
-    requires inside { Inside scale.now part.now }
-    requires few { length (cells_in scale.now part.now) ≤ 2 ^ 22 }
-    requires serves { Serves (S.objects store.old) dataset.now scale.now judge.old }
+    requires inside { Inside origin.now.scale part.now }
+    requires few { length (cells_in origin.now.scale part.now) ≤ 2 ^ 22 }
+    requires serves { Serves (S.objects store.old) origin.now judge.old }
     ensures judged { IfSome (S.objects store.old) (λ m.
-        JudgesCells result m dataset.now scale.now part.now) }
-    ensures cells { IfOk result (λ report. report.cells ≡ length (cells_in scale.now part.now)) }
-    ensures both { IfOk result (λ report. report.stored + report.absent ≡ report.cells) }
-    ensures inside { result ≢ Err VerifyFault.OutsideScale }
-    ensures within { (n : ℕ) → result ≢ Err (VerifyFault.TooManyCells n) }
-    ensures memory { result ≢ Err VerifyFault.OutOfMemory }
-    ensures kept { OnlyReads (S.objects store.old) (S.objects store.new) (S.draft store.old)
-        (S.draft store.new) }
-    ensures asked { IfSome (S.objects store.old) (λ m.
-        S.asked store.new ≤ S.asked store.old + 2 * cost m dataset.now scale.now part.now) }
-    ensures cause { HasCauseOf VerifyFault.StoreFault (S.faults store.old) (S.faults store.new) result }
+        JudgesCells result m origin.now.dataset origin.now.scale part.now) }
+    ensures counts { IfOk result (Counts (length (cells_in origin.now.scale part.now))) }
+    ensures begun { IsBegun result }
+    ensures asks { AsksFor S.Source (λ m. 2 * cost m origin.now.dataset origin.now.scale part.now)
+        VerifyFault.StoreFault store.old store.new result }
 {
-    tell_cells(scale, part);
+    tell_cells(&origin.scale, part);
     let mut report = Report {
         cells: 0,
         stored: 0,
         absent: 0,
     };
-    for cell in cells(scale, part) {
-        match judge.judge(store, dataset, scale, cell) {
+    for cell in cells(&origin.scale, part) {
+        match judge.judge(store, origin, cell) {
             Ok(is_stored) => report = count_cell(report, is_stored),
             Err(fault) => return Err(place_fault(cell, fault)),
         }
@@ -129,29 +118,22 @@ fn judge_views<S: Source>(
     judge: &mut CellJudge,
     others: &mut ViewJudge,
     store: &mut S,
-    dataset: &Name,
-    scale: &Scale,
+    origin: &Origin,
     part: &Box3,
 ) -> Result<Report, VerifyFault>
-    requires dataset { length dataset.now ≤ 200 }
-    requires inside { Inside scale.now part.now }
-    requires few { cells_of (all_views scale.now) part.now ≤ 2 ^ 22 }
-    requires serves { Serves (S.objects store.old) dataset.now scale.now judge.old }
-    requires of_dataset { others.old.dataset ≡ dataset.now }
-    requires of_scale { others.old.scale ≡ scale.now }
-    ensures verified { IfSome (S.objects store.old) (λ m. Verifies result m dataset.now scale.now part.now) }
-    ensures cells { IfOk result (λ report. report.cells ≡ cells_of (all_views scale.now) part.now) }
-    ensures both { IfOk result (λ report. report.stored + report.absent ≡ report.cells) }
-    ensures inside { result ≢ Err VerifyFault.OutsideScale }
-    ensures within { (n : ℕ) → result ≢ Err (VerifyFault.TooManyCells n) }
-    ensures memory { result ≢ Err VerifyFault.OutOfMemory }
-    ensures kept { OnlyReads (S.objects store.old) (S.objects store.new) (S.draft store.old)
-        (S.draft store.new) }
-    ensures asked { IfSome (S.objects store.old) (λ m.
-        S.asked store.new ≤ S.asked store.old + part_cost m dataset.now scale.now part.now) }
-    ensures cause { HasCauseOf VerifyFault.StoreFault (S.faults store.old) (S.faults store.new) result }
+    requires inside { Inside origin.now.scale part.now }
+    requires few { cells_of (all_views origin.now.scale) part.now ≤ 2 ^ 22 }
+    requires serves { Serves (S.objects store.old) origin.now judge.old }
+    requires of_dataset { others.old.dataset ≡ origin.now.dataset }
+    requires of_scale { others.old.scale ≡ origin.now.scale }
+    ensures verified { IfSome (S.objects store.old) (λ m.
+        Verifies result m origin.now.dataset origin.now.scale part.now) }
+    ensures counts { IfOk result (Counts (cells_of (all_views origin.now.scale) part.now)) }
+    ensures begun { IsBegun result }
+    ensures asks { AsksFor S.Source (λ m. part_cost m origin.now.dataset origin.now.scale part.now)
+        VerifyFault.StoreFault store.old store.new result }
 {
-    let first = match judge_cells(judge, store, dataset, scale, part) {
+    let first = match judge_cells(judge, store, origin, part) {
         Ok(first) => first,
         Err(fault) => return Err(fault),
     };
@@ -184,12 +166,10 @@ pub fn verify<S: Source>(
     ensures verified { IfSome (S.objects store.old) (λ m. Verifies result m dataset.now scale.now part.now) }
     ensures cells { IfOk result (λ report. report.cells ≡ cells_of (all_views scale.now) part.now) }
     ensures both { IfOk result (λ report. report.stored + report.absent ≡ report.cells) }
-    ensures kept { OnlyReads (S.objects store.old) (S.objects store.new) (S.draft store.old)
-        (S.draft store.new) }
     // It asks for no more than twice what the cells of the first view cost, and what the further views cost beside it.
     ensures asked { IfSome (S.objects store.old) (λ m.
         S.asked store.new ≤ S.asked store.old + part_cost m dataset.now scale.now part.now) }
-    ensures cause { HasCauseOf VerifyFault.StoreFault (S.faults store.old) (S.faults store.new) result }
+    ensures reads { ReadsFrom S.Source VerifyFault.StoreFault store.old store.new result }
     // Where there is no memory, nothing was read.
     ensures unread { result ≡ Err VerifyFault.OutOfMemory → (S.asked store.new ≡ S.asked store.old) ×
         (S.faults store.new ≡ S.faults store.old) }
@@ -211,7 +191,8 @@ pub fn verify<S: Source>(
     let Ok(mut others) = ViewJudge::reserve(alloc, dataset, scale) else {
         return Err(VerifyFault::OutOfMemory);
     };
-    judge_views(&mut judge, &mut others, store, dataset, scale, part)
+    let origin = Origin::of(dataset, scale);
+    judge_views(&mut judge, &mut others, store, &origin, part)
 }
 
 /// Does nothing: its clauses say that a part is sound in the first view exactly where there is no first cell with which

@@ -14,9 +14,8 @@ pub struct Report {
 
 /// A report with a cell more.
 pub(crate) fn count_cell(report: Report, is_stored: bool) -> Report
-    requires cells { report.cells < 2 ^ 63 }
-    requires stored { report.stored < 2 ^ 63 }
-    requires absent { report.absent < 2 ^ 63 }
+    requires few { report.cells < 2 ^ 63 }
+    requires both { report.stored + report.absent ≡ report.cells }
     ensures { result ≡ counted report is_stored }
 {
     let cells = report.cells + 1;

@@ -1,4 +1,4 @@
-use Rattle.std.proofs.Common.{◌≡◌}
+use Rattle.std.proofs.Common.{◌≡◌, rules}
 use Rattle.vol_spec.specs.Grid.{whole}
 use Rattle.verify_cmd.proofs.AskedSteps.{asked_part}
 use Rattle.verify_cmd.proofs.UnreadSteps.{refused_unread}
@@ -25,8 +25,14 @@ returns-in-Err-clause-unread g c =
     refused_unread c.verify.result c.in-Err.fault c.refuse.result c.pick_part-chosen.result (whole c.args.scale.now) (g.S.Source.asked c.verify.new.store ≡ g.S.Source.asked c.args.store.now) c.in-Err.is c.refuse.ensures
     c.verify.ensures.unasked c.verify.ensures.uncounted
 
-pub returns-in-Ok-clause-cost : goal.returns-in-Ok-clause-cost
-returns-in-Ok-clause-cost g c = asked_part (g.S.Source.objects c.args.store.now) c.args.dataset.now c.args.scale.now c.pick_part-chosen.result c.args.part.now (g.S.Source.asked c.args.store.now) (g.S.Source.asked c.verify.new.store) c.pick_part-chosen.ensures c.verify.ensures.asked
+pub returns-in-Ok-clause-asks : goal.returns-in-Ok-clause-asks
+returns-in-Ok-clause-asks g c = record {
+  asked = asked_part (g.S.Source.objects c.args.store.now) c.args.dataset.now c.args.scale.now c.pick_part-chosen.result c.args.part.now (g.S.Source.asked c.args.store.now) (g.S.Source.asked c.verify.new.store) c.pick_part-chosen.ensures c.verify.ensures.asked;
+  reads = search rules;
+}
 
-pub returns-in-Err-clause-cost : goal.returns-in-Err-clause-cost
-returns-in-Err-clause-cost g c = asked_part (g.S.Source.objects c.args.store.now) c.args.dataset.now c.args.scale.now c.pick_part-chosen.result c.args.part.now (g.S.Source.asked c.args.store.now) (g.S.Source.asked c.verify.new.store) c.pick_part-chosen.ensures c.verify.ensures.asked
+pub returns-in-Err-clause-asks : goal.returns-in-Err-clause-asks
+returns-in-Err-clause-asks g c = record {
+  asked = asked_part (g.S.Source.objects c.args.store.now) c.args.dataset.now c.args.scale.now c.pick_part-chosen.result c.args.part.now (g.S.Source.asked c.args.store.now) (g.S.Source.asked c.verify.new.store) c.pick_part-chosen.ensures c.verify.ensures.asked;
+  reads = search rules;
+}

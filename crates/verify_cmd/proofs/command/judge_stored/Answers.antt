@@ -6,17 +6,20 @@ use Rattle.verify_cmd.proofs.AskedSteps.{asks_cells, asks_info}
 use Rattle.verify_cmd.proofs.VerifySteps.{key_judges, unread_asked, unread_judges}
 use Rattle.verify_cmd.proofs.command.judge_stored.Goals as goal
 
-pub returns-in-Ok-clause-judges : goal.returns-in-Ok-clause-judges
-returns-in-Ok-clause-judges g c =
-    key_judges c.judge_scale.result (g.S.Source.objects c.args.store.now) (g.S.Source.objects c.read_scale.new.store) c.args.dataset.now c.args.key.now c.in-Ok.scale c.args.part.now
-    c.read_scale.ensures.kept.same_objects c.in-Ok.ensures.read c.judge_scale.ensures.judges
+pub returns-in-Ok-clause-right : goal.returns-in-Ok-clause-right
+returns-in-Ok-clause-right g c = record {
+  judges =
+      key_judges c.judge_scale.result (g.S.Source.objects c.args.store.now) (g.S.Source.objects c.read_scale.new.store) c.args.dataset.now c.args.key.now c.in-Ok.scale c.args.part.now
+      c.read_scale.ensures.kept.same_objects c.in-Ok.ensures.read c.judge_scale.ensures.judges;
+  asked = c.judge_scale.ensures.asked;
+}
 
-pub returns-in-Err-clause-judges : goal.returns-in-Err-clause-judges
-returns-in-Err-clause-judges g c =
-    unread_judges c.in-Err.refusal c.from.result (g.S.Source.objects c.args.store.now) c.args.dataset.now c.args.key.now c.args.part.now c.from.ensures c.in-Err.ensures.read
-
-pub returns-in-Err-clause-asked : goal.returns-in-Err-clause-asked
-returns-in-Err-clause-asked g c = unread_asked c.in-Err.refusal c.from.result c.args.part.now c.from.ensures
+pub returns-in-Err-clause-right : goal.returns-in-Err-clause-right
+returns-in-Err-clause-right g c = record {
+  judges =
+      unread_judges c.in-Err.refusal c.from.result (g.S.Source.objects c.args.store.now) c.args.dataset.now c.args.key.now c.args.part.now c.from.ensures c.in-Err.ensures.read;
+  asked = unread_asked c.in-Err.refusal c.from.result c.args.part.now c.from.ensures;
+}
 
 pub returns-in-Ok-clause-unread : goal.returns-in-Ok-clause-unread
 returns-in-Ok-clause-unread g c =
@@ -27,7 +30,7 @@ returns-in-Ok-clause-unread g c =
 pub returns-in-Ok-clause-cost : goal.returns-in-Ok-clause-cost
 returns-in-Ok-clause-cost g c =
     asks_cells (g.S.Source.objects c.args.store.now) (g.S.Source.objects c.read_scale.new.store) c.args.dataset.now c.args.key.now c.in-Ok.scale c.args.part.now (g.S.Source.asked c.args.store.now)
-    (g.S.Source.asked c.read_scale.new.store) (g.S.Source.asked c.judge_scale.new.store) c.read_scale.ensures.kept.same_objects c.in-Ok.ensures.read c.read_scale.ensures.asked c.judge_scale.ensures.cost
+    (g.S.Source.asked c.read_scale.new.store) (g.S.Source.asked c.judge_scale.new.store) c.read_scale.ensures.kept.same_objects c.in-Ok.ensures.read c.read_scale.ensures.asked c.judge_scale.ensures.asks.asked
 
 pub returns-in-Err-clause-cost : goal.returns-in-Err-clause-cost
 returns-in-Err-clause-cost g c =

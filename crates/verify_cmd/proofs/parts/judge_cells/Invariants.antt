@@ -8,12 +8,12 @@ use Rattle.verify_cmd.proofs.parts.judge_cells.Given as goal
 
 abbrev pub invariant-loop-cell : goal.invariant-loop-cell
 invariant-loop-cell g l = record {
-  left : l.yielded ++ l.cell-iterator ≡ cells_in l.scale l.part;
+  left : l.yielded ++ l.cell-iterator ≡ cells_in l.origin.scale l.part;
   cells : l.report.cells ≡ length l.yielded;
   both : l.report.stored + l.report.absent ≡ l.report.cells;
-  sound : (m : Objects) → g.S.Source.objects l.fn.store ≡ Some m → SoundSoFar m l.dataset l.scale l.yielded l.report;
-  serves : Serves (g.S.Source.objects l.fn.store) l.dataset l.scale l.judge;
-  asked : IfSome (g.S.Source.objects l.fn.store) (λ m. g.S.Source.asked l.store ≤ g.S.Source.asked l.fn.store + 2 * costs m l.dataset l.scale l.yielded);
+  sound : (m : Objects) → g.S.Source.objects l.fn.store ≡ Some m → SoundSoFar m l.origin.dataset l.origin.scale l.yielded l.report;
+  serves : Serves (g.S.Source.objects l.fn.store) l.origin l.judge;
+  asked : IfSome (g.S.Source.objects l.fn.store) (λ m. g.S.Source.asked l.store ≤ g.S.Source.asked l.fn.store + 2 * costs m l.origin.dataset l.origin.scale l.yielded);
   kept : OnlyReads (g.S.Source.objects l.fn.store) (g.S.Source.objects l.store) (g.S.Source.draft l.fn.store) (g.S.Source.draft l.store);
   later : g.S.Source.faults l.store ≡ g.S.Source.faults l.fn.store;
 }
