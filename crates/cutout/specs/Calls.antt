@@ -10,7 +10,7 @@ pub record ReadsFrom {T A E : Type 0} (source : Ghosts T) (fault : E) (before af
   pub kept : OnlyReads (source.objects before) (source.objects after) (source.draft before) (source.draft after)
   pub cause : HasCauseOf fault (source.faults before) (source.faults after) result
 
--- and the bytes that are asked for have a price, where the objects are told
+-- and no more bytes are asked for than a price, where the objects are told
 pub record AsksFor {T A E : Type 0} (source : Ghosts T) (price : Objects → ℕ) (fault : E) (before after : T)
     (result : Result A E) : Type 0 where
   pub asked : IfSome (source.objects before) (λ m. source.asked after ≤ source.asked before + price m)

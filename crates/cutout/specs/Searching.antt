@@ -10,8 +10,8 @@ use Rattle.cutout.specs.declared.fault.CutFault.{CutFault}
 use Rattle.cutout.specs.declared.fault.CutFault.TheVariants.{OutsideScale, StoreFault}
 use Rattle.cutout.specs.declared.found.Found.{Found}
 
--- it found the chunk or the first fault, which is the source's alone where the cell has an object of its own; and it asked for no
--- more than an entry and an index
+-- It found the chunk or the first fault, which is the source's alone where the cell has an object of its own; it asked for no more than
+-- an entry and an index; and behind another fault than the source's the source's count of faults stands.
 pub record Searches {T : Type 0} (source : Ghosts T) (dataset : Name) (s : Scale) (cell : Cell)
     (before after : T) (result : Result Found CutFault) : Type 0 where
   pub found : IfSome (source.objects before) (λ m. Locates result m dataset s cell)

@@ -14,7 +14,7 @@ pub record IsBoxed (s : Scale) (home : BoxedCell) : Type 0 where
   pub in_grid : IsCell s home.cell
   pub box : home.own ≡ cell_box s home.cell
 
--- so many bytes take the values of a part, in some channels of a scale
+-- so many bytes hold the values of a part, in some channels of a scale, and are at most 2^30
 pub record IsTarget (s : Scale) (part : Box3) (picked : Channels) (room : ℕ) : Type 0 where
   pub channels : picked.first + picked.count ≤ s.channels
   pub len : room ≡ raw_len part picked.count s.width

@@ -2,7 +2,7 @@
 
 use vol_base::Box3;
 
-/// A cell of a scale, and the box that it has there.
+/// A cell of a scale, and its own box there.
 #[derive(Drop)]
 pub(crate) struct BoxedCell {
     pub cell: [u64; 3],

@@ -42,7 +42,8 @@ pub(crate) fn place_fault(cell: [u64; 3], fault: LookupFault) -> CutFault
 impl CellReader {
     ghost use Rattle.cutout.specs.Serving.{IsFresh, Serves, Walks};
 
-    /// A reader of the cells of a scale, that keeps nothing.
+    /// A reader of the cells of a scale, that keeps no index. It takes the memory that all its calls share; where there is none, it is
+    /// refused.
     pub fn reserve(alloc: Global, scale: &Scale) -> Result<CellReader, OutOfMemory>
         ensures { IfOk result (IsFresh scale.now) }
     {
@@ -95,7 +96,7 @@ impl CellReader {
         }
     }
 
-    /// Reads and judges the chunk of a cell: whether it is stored, or its first fault.
+    /// Reads and judges the chunk of a cell: whether it is stored, or its first fault; `NotRead` only where the source failed.
     pub fn judge<S: Source>(
         &mut self,
         store: &mut S,

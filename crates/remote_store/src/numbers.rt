@@ -22,7 +22,7 @@ pub(crate) fn read_number(text: &[u8]) -> Option<u128>
     Some(count)
 }
 
-/// The length that a value says, where 64 bits have room for it.
+/// The length in bytes that a value says, where 64 bits have room for it.
 pub fn read_length(text: &[u8]) -> Option<u64>
     ensures { result ≡ below (2 ^ 64) (number text.now) }
 {
@@ -49,7 +49,8 @@ pub(crate) fn read_before(mark: u8, text: &[u8]) -> Option<(u128, &[u8])>
     Some((n, &text[at + 1..]))
 }
 
-/// The part that the value of a Content-Range field says; the greatest number of 128 bits stands for all above it.
+/// The part that the value of a Content-Range field says, `bytes FIRST-LAST/LENGTH` (RFC 9110, section 14.4): the places of its
+/// first and of its last byte, and the object's length; the greatest number of 128 bits stands for all above it.
 #[tactic(auto, unfolding(crate::specs::Reading::capped_place))]
 pub fn read_place(value: &[u8]) -> Option<(u128, u128, u128)>
     ensures { result ≡ capped_place value.now }

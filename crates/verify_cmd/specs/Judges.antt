@@ -6,7 +6,7 @@ use Rattle.vol_spec.specs.declared.scale.Scale.{Scale}
 use Rattle.vol_spec.specs.declared.sharding.Sharding.{Sharding}
 use Rattle.index_judge.specs.Knowing.{Knows, KnowsNothing}
 use Rattle.index_judge.specs.declared.judge.IndexJudge.{IndexJudge}
-use Rattle.cutout.specs.Serving.{IsFresh as KeepsNoCell, Serves as ServesCells}
+use Rattle.cutout.specs.Serving.{IsFresh as KeepsNoIndex, Serves as ServesCells}
 use Rattle.cutout.specs.declared.origin.Origin.{Origin}
 use Rattle.verify_cmd.specs.declared.cell.CellJudge.{CellJudge}
 
@@ -25,5 +25,5 @@ pub record Serves (objects : Option Objects) (origin : Origin) (judge : CellJudg
 
 -- it reads them, and knows nothing
 pub record IsFresh (s : Scale) (judge : CellJudge) : Type 0 where
-  pub cells : KeepsNoCell s judge.cells
+  pub cells : KeepsNoIndex s judge.cells
   pub knows : KnowsNothing judge.indexes

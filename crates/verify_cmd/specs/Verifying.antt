@@ -111,7 +111,7 @@ pub record IsTooMany (s : Scale) (b : Box3) (n : ℕ) : Type 0 where
 abbrev pub part_cost : Objects → Name → Scale → Box3 → ℕ
 part_cost m dataset s b = 2 * cost m dataset s b + views_cost m dataset s b
 
--- a report's numbers: so many cells, of which those are stored and those are absent
+-- a report's numbers: so many cells, and the stored and the absent ones are together all of them
 pub record Counts (wanted : ℕ) (report : Report) : Type 0 where
   pub cells : report.cells ≡ wanted
   pub both : report.stored + report.absent ≡ report.cells
