@@ -4,7 +4,8 @@
 # chunks; or 40 boxes at random, each of at most half the scale's side on each axis; or 20,000 voxels at random. The scales
 # are 512 x 512 x 512 bytes in chunks of 64 x 64 x 64, and 128 x 128 x 128 voxels of four channels of 64-bit numbers in
 # chunks of 32 x 32 x 32. Both programs write each chunk to a file that ends in .part, which they rename; neither waits
-# until the disk has it. Their objects are compared at the end.
+# until the disk has it. They write into one folder, since where a folder lies on a disk can make more of a difference than
+# the program. Their objects are compared at the end.
 #
 #     bench/write.sh [PROGRAM]
 #
@@ -20,8 +21,9 @@ compare() {
     echo "$1 $2"
     python3 "$root/bench/compare.py" 5 \
         "'$program' write ours s" \
-        "./plain_write $1 write plain s" \
-        stream 'rm -rf ours/s plain/s' || exit
+        "./plain_write $1 write ours s" \
+        stream 'rm -rf ours/s' || exit
+    rm -rf ours/s
     "$program" write ours s <stream >/dev/null && ./plain_write "$1" write plain s <stream >/dev/null || exit
     diff -r ours plain || exit
     rm -rf ours plain
