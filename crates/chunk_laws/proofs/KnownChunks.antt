@@ -47,7 +47,7 @@ use Rattle.vol_spec.specs.declared.sharding.Sharding.{Sharding}
 use Rattle.vol_spec.proofs.PlacedSteps.{in_order-put}
 use Rattle.chunk_grid.proofs.KnownScales.{known, unsharded}
 
--- `d` and `s`
+-- `d`
 abbrev dataset : List ℕ
 dataset = 100 ∷ []
 

@@ -6,10 +6,9 @@ ghost use Rattle.cutout.specs.Reading.{HasCut};
 
 use crate::cells::CellReader;
 use crate::channels::Channels;
-use crate::stream::tell_bytes;
 use crate::{CutFault, Origin};
 use chunk_grid::inside;
-use vol_base::{Box3, Source};
+use vol_base::{Box3, Source, tell_bytes};
 
 impl CellReader {
     ghost use Rattle.cutout.specs.Serving.{Serves, Walks};

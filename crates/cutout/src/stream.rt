@@ -1,6 +1,5 @@
 //! A box, written layer by layer.
 ghost use Rattle.std.specs.Prelude.{◌≡◌, ◌*◌, ◌<◌, ◌≤◌, ◌^◌, length};
-ghost use Rattle.vol_base.specs.Bytes.{AreBytes};
 ghost use Rattle.vol_spec.specs.Costs.{cost};
 ghost use Rattle.vol_spec.specs.Grid.{Inside};
 ghost use Rattle.vol_spec.specs.Raw.{raw_len};
@@ -13,14 +12,7 @@ use crate::channels::Channels;
 use crate::layers::{end_layer, first_layer, layer_at};
 use crate::{CutFault, Origin, StreamFault};
 use chunk_grid::byte_len;
-use vol_base::{Box3, Outlet, Source, write_all};
-
-/// Knows that the elements of bytes are bytes.
-pub(crate) fn tell_bytes(bytes: &[u8])
-    ensures { AreBytes bytes.now }
-{
-    let _ = bytes.len();
-}
+use vol_base::{Box3, Outlet, Source, tell_bytes, write_all};
 
 // The same fault of a box that is written.
 fn as_streamed(fault: CutFault) -> StreamFault

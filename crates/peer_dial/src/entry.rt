@@ -2,7 +2,7 @@
 ghost use Rattle.std.specs.Prelude.{◌<◌, ◌^◌, ◌≡◌, length};
 ghost use Rattle.vol_base.specs.Bytes.{AreBytes};
 
-use vol_base::Name;
+use vol_base::{Name, tell_bytes};
 
 /// The name of an object, and its bytes.
 #[derive(Drop)]
@@ -19,13 +19,6 @@ pub struct Entry {
 pub struct Address {
     pub host: String,
     pub port: u16,
-}
-
-// Knows that the elements of bytes are bytes.
-fn tell_bytes(bytes: &[u8])
-    ensures { AreBytes bytes.now }
-{
-    let _ = bytes.len();
 }
 
 impl Entry {

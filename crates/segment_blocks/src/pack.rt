@@ -11,6 +11,7 @@ ghost use Rattle.vol_spec.specs.BoxValues.{bytes_of};
 use crate::header::count_words;
 use crate::table::{find_index, find_spot};
 use byteorder::{ByteOrder, LittleEndian};
+use vol_base::tell_bytes;
 
 /// The least allowed number of bits that can tell so many entries apart.
 pub(crate) fn find_bits(entries: usize) -> u32
@@ -32,11 +33,6 @@ pub(crate) fn find_bits(entries: usize) -> u32
         32
     }
 }
-
-// Each is a byte. Of a `&mut` the proof learns it by this call.
-fn tell_bytes(bytes: &[u8])
-    ensures { (i : ℕ) → slice_index bytes.now i < 256 }
-{}
 
 /// Puts an index behind those that are packed.
 pub(crate) fn put_index(values: &mut [u8], bits: u32, n: usize, index: u32)

@@ -27,4 +27,4 @@ pub use outside::{
     Door, Failed, Feed, FreeGate, Gate, Got, Link, Moment, OutOfMemory, Outlet, Source, Store,
     StoreRefusal,
 };
-pub use whole::write_all;
+pub use whole::{tell_bytes, write_all};

@@ -5,12 +5,11 @@ ghost use Rattle.std.specs.FinMap as map;
 ghost use Rattle.vol_base.specs.Stored.{objects_of};
 ghost use Rattle.std.specs.Prelude.{◌↔◌, IsErr, IfErr, nat_eq, List, drop};
 ghost use Rattle.std.specs.List.{list_any};
-ghost use Rattle.vol_base.specs.Bytes.{AreBytes};
 ghost use Rattle.vol_base.specs.Causes.{HasCause, HasCauseOf, counted, is_count};
 ghost use Rattle.vol_base.specs.Outside.{HaveBytes, KeepsRest, OnlyReads, Reads, part, asked_after, is_under, any_under, begun, appended, patched, finished, overwritten};
 
 use crate::calls::tick;
-use crate::{Failed, Got, Name, OutOfMemory, Source, Store, StoreRefusal};
+use crate::{Failed, Got, Name, OutOfMemory, Source, Store, StoreRefusal, tell_bytes};
 use std::alloc::{AllocError, Global};
 use std::marker::Model;
 
@@ -33,13 +32,6 @@ fn lookup<'a>(objects: &'a [Object], name: &Name) -> Option<&'a [u8]>
         rest = after;
     }
     None
-}
-
-// Knows that the elements of bytes are bytes.
-fn tell_bytes(bytes: &[u8])
-    ensures { AreBytes bytes.now }
-{
-    let _ = bytes.len();
 }
 
 // Puts an object in front.

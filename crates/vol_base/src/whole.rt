@@ -1,9 +1,17 @@
-//! Whole texts to an outlet.
+//! Whole texts to an outlet, and what is known of bytes.
 ghost use Rattle.std.specs.Prelude.{◌≤◌, OnOk, OnErr};
+ghost use Rattle.vol_base.specs.Bytes.{AreBytes};
 ghost use Rattle.vol_base.specs.Causes.{HasCause};
 ghost use Rattle.vol_base.specs.Gains.{Gains, GainsFront};
 
 use crate::{Failed, Outlet};
+
+/// Knows that the elements of bytes are bytes: of a buffer behind a `&mut` a proof learns it by this call.
+pub fn tell_bytes(bytes: &[u8])
+    ensures { AreBytes bytes.now }
+{
+    let _ = bytes.len();
+}
 
 /// Writes all the bytes, or a front of them where the outlet fails.
 pub fn write_all<O: Outlet>(out: &mut O, bytes: &[u8]) -> Result<(), Failed>

@@ -47,7 +47,7 @@ pub record IsJob (s : Scale) (job : Job) : Type 0 where
 abbrev pub cells_in : List Job → List Cell
 cells_in jobs = map (λ (job : Job). job.cell) jobs
 
--- jobs of these cells, in some order
+-- jobs of just these cells
 abbrev pub HaveCells : List Job → List Cell → Type 0
 HaveCells jobs cells = (cell : Cell) → Contains (cells_in jobs) cell ↔ Contains cells cell
 

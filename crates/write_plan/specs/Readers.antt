@@ -89,13 +89,13 @@ abbrev pub Judges : Scale → ℕ → ℕ → Box3 → Result ℕ PlanFault → 
 Judges s i before b (Ok len) = IsJudged s i before b len
 Judges s i before b (Err fault) = IsTrue (of_stream fault) × (judged s i before b ≡ Err fault)
 
--- a write that was read behind so many bytes of values
+-- of a write that was read behind so many bytes of values: it is a write of the scale, of bytes, within the room
 pub record IsReadWrite (s : Scale) (before : ℕ) (w : BoxWrite) : Type 0 where
   pub fits : IsWriteOf s w
   pub bytes : AreBytes w.1
   pub room : before + length w.1 ≤ 2 ^ 30
 
--- so many writes that were read
+-- of writes that were read: each is a write of the scale, of bytes; together they fit, and they are so many
 pub record AreReadWrites (s : Scale) (count : ℕ) (ws : List BoxWrite) : Type 0 where
   pub fit : All (IsWriteOf s) ws
   pub bytes : All (λ w. AreBytes w.1) ws

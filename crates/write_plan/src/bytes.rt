@@ -6,7 +6,7 @@ ghost use Rattle.write_plan.specs.Readers.{Reads, always, of_stream};
 
 use crate::fault::PlanFault;
 use std::alloc::Global;
-use vol_base::Feed;
+use vol_base::{Feed, tell_bytes};
 
 // What stands behind the bytes that came, until others come: so few that they stay close to the processor.
 const ZEROS: &[u8; 1 << 16] = &[0; 1 << 16];
@@ -54,13 +54,6 @@ fn read_more<F: Feed>(
         Err(_) => unreachable!(),
     }
     read_front(feed, &mut bytes[done..], fault)
-}
-
-// Knows that the elements of bytes are bytes.
-fn tell_bytes(bytes: &[u8])
-    ensures { AreBytes bytes.now }
-{
-    let _ = bytes.len();
 }
 
 /// Reads so many bytes, piece by piece, with a buffer of their own; a feed that ends before is a fault.
