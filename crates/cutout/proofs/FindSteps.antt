@@ -1,5 +1,5 @@
 -- What reading and judging the chunk of a cell answers.
-use Rattle.std.proofs.Common.{◌≡◌, ℕ, take, Bool, true, false, Option, Some, None, Result, Ok, Err, refl, ap, ◌∙◌, sym, subst, IfSome}
+use Rattle.std.proofs.Common.{◌≡◌, take, Bool, true, false, Option, Some, None, Result, Ok, Err, refl, ap, ◌∙◌, sym, subst, IfSome}
 use Rattle.chunk_pool.specs.Frames.{Filled}
 use Rattle.vol_base.specs.Outside.{Objects}
 use Rattle.vol_base.specs.declared.faults.ChunkFault.{ChunkFault}

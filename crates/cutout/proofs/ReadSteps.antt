@@ -1,5 +1,5 @@
 -- Reading the chunk of a cell.
-use Rattle.std.proofs.Common.{◌≡◌, ℕ, ◌-◌, ◌^◌, ◌≤◌, ◌<◌, min, take, Bool, true, false, Option, Some, None, Result, Ok, Err, arith, refl, ap, ◌∙◌, sym, subst, IfSome}
+use Rattle.std.proofs.Common.{◌≡◌, ℕ, ◌-◌, ◌^◌, ◌≤◌, ◌<◌, min, take, Bool, true, false, Option, Some, None, Result, Ok, Err, arith, refl, sym, subst, IfSome}
 use Rattle.chunk_pool.specs.Frames.{Filled}
 use Rattle.vol_base.specs.declared.boxes.Box3.{Box3}
 use Rattle.vol_base.specs.Outside.{Objects}

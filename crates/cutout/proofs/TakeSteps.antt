@@ -1,5 +1,5 @@
 -- Values of a cell put into those of a part.
-use Rattle.std.proofs.Common.{◌≡◌, ◌≢◌, ◌<◌, ◌≤◌, arith, ℕ, zero, suc, ◌+◌, ◌*◌, replicate, List, Some, None, Ok, refl, ap, ◌∙◌, sym}
+use Rattle.std.proofs.Common.{◌≡◌, ◌≢◌, ◌<◌, ◌≤◌, arith, ℕ, zero, suc, ◌+◌, ◌*◌, replicate, Some, None, Ok, refl, ap, ◌∙◌, sym}
 use Rattle.vol_base.specs.declared.boxes.Box3.{Box3}
 use Rattle.vol_base.specs.Boxes.{Covers, num, value}
 use Rattle.vol_spec.proofs.Plain.{value_at-raw}

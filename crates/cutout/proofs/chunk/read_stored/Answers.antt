@@ -1,4 +1,4 @@
-use Rattle.std.proofs.Common.{◌≡◌, ◌∙◌, ◌+◌, ap, arith, length, length-take, rules, take}
+use Rattle.std.proofs.Common.{◌≡◌, ◌+◌, arith, length, length-take, rules, take}
 use Rattle.segment_cells.proofs.CellSteps.{limit_first}
 use Rattle.cutout.proofs.RunSteps.{own_run, sharded_run}
 use Rattle.cutout.proofs.StoredSteps.{gets_front, keeps_as, keeps_index, own_told, sharded_told, within_more}
