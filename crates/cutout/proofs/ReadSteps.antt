@@ -1,11 +1,10 @@
 -- Reading the chunk of a cell.
-use Rattle.std.proofs.Common.{◌≡◌, ℕ, ◌-◌, ◌^◌, ◌≤◌, ◌<◌, min, take, Option, Some, None, Result, Ok, Err, arith, refl, ap, ◌∙◌, sym, subst, IfSome}
+use Rattle.std.proofs.Common.{◌≡◌, ℕ, ◌-◌, ◌^◌, ◌≤◌, ◌<◌, min, take, Bool, true, false, Option, Some, None, Result, Ok, Err, arith, refl, sym, subst, IfSome}
+use Rattle.chunk_pool.specs.Frames.{Filled}
 use Rattle.vol_base.specs.declared.boxes.Box3.{Box3}
 use Rattle.vol_base.specs.Outside.{Objects}
-use Rattle.vol_base.specs.declared.faults.ChunkFault.{ChunkFault}
 use Rattle.vol_base.specs.declared.faults.Fault.{Fault}
-use Rattle.vol_base.specs.declared.faults.Fault.TheVariants.{Chunk}
-use Rattle.vol_spec.specs.Chunks.{chunk_in, judged, unless}
+use Rattle.vol_spec.specs.Chunks.{chunk_in}
 use Rattle.vol_spec.specs.Encodings.{chunk_fault, raw_size}
 use Rattle.vol_spec.specs.Grid.{cell_box}
 use Rattle.vol_spec.specs.Limits.{first_bytes}
@@ -14,10 +13,11 @@ use Rattle.vol_spec.specs.StoredBytes.{stored_bytes}
 use Rattle.vol_spec.specs.Types.{Bytes, Cell, Name}
 use Rattle.vol_spec.specs.declared.scale.Scale.{Scale}
 use Rattle.chunk_grid.proofs.GridSteps.{cell_box-short}
-use Rattle.shard_reader.specs.Reading.{Gets}
 use Rattle.shard_reader.specs.declared.bytes.LookupFault.{LookupFault}
 use Rattle.shard_reader.specs.declared.bytes.LookupFault.TheVariants.{NotRead, Faulty}
 use Rattle.cutout.specs.declared.channels.Channels.{Channels}
+use Rattle.cutout.proofs.FindSteps.{seen_absent, seen_bytes}
+use Rattle.cutout.specs.Finding.{Finds, HasRead}
 use Rattle.cutout.specs.Reading.{Reads, Took}
 
 -- the length of a cell's chunk
@@ -33,55 +33,33 @@ cell_len s cell b n is e =
     let small = s.first_ok in
     record { is = omega (arith, same, first, small); first = omega (arith, same, first); small = small }
 
-chunk_in-is : (m : Objects) (dataset : Name) (s : Scale) (cell : Cell) → chunk_in m dataset s cell ≡ judged s cell (stored_bytes m dataset s cell)
-unfolding chunk_in
-chunk_in-is m dataset s cell = refl
-
 -- a chunk that was read and put has no fault, and its values were taken
 pub taken_as : (s : Scale) (cell : Cell) (part : Box3) (picked : Channels) (chunk : Option Bytes) (old new : Bytes) (seen : Result (Option Bytes) Fault) → seen ≡ Ok chunk → Took s cell part picked (Ok chunk) old new
     → Reads (Ok tt) seen (Took s cell part picked seen old new)
 taken_as s cell part picked chunk old new seen e took = subst (λ x. Reads (Ok tt) x (Took s cell part picked x old new)) (sym e) (refl, took)
 
--- what reading a cell answers, by what the objects have of it: nothing,
-pub reads_absent : (o : Option Objects) (dataset : Name) (s : Scale) (cell : Cell) (part : Box3) (picked : Channels) (buffer old new : Bytes)
-    → IfSome o (λ m. Gets (Ok None) buffer (stored_bytes m dataset s cell)) → Took s cell part picked (Ok None) old new
+-- what reading a cell answers: that it is absent,
+pub reads_absent : (o : Option Objects) (dataset : Name) (s : Scale) (cell : Cell) (part : Box3) (picked : Channels) (frame : Filled) (there : Bool) (old new : Bytes) → there ≡ false
+    → IfSome o (λ m. HasRead (Ok there) frame (stored_bytes m dataset s cell)) → Took s cell part picked (Ok None) old new
     → IfSome o (λ m. Reads (Ok tt) (chunk_in m dataset s cell) (Took s cell part picked (chunk_in m dataset s cell) old new))
-reads_absent None dataset s cell part picked buffer old new got took = tt
-reads_absent (Some m) dataset s cell part picked buffer old new got took =
-    taken_as s cell part picked None old new (chunk_in m dataset s cell) (chunk_in-is m dataset s cell ∙ ap (judged s cell) got) took
+reads_absent None dataset s cell part picked frame there old new is read took = tt
+reads_absent (Some m) dataset s cell part picked frame there old new is read took =
+    taken_as s cell part picked None old new (chunk_in m dataset s cell) (seen_absent m dataset s cell frame there is read) took
 
 -- bytes without a fault,
-seen_bytes : (m : Objects) (dataset : Name) (s : Scale) (cell : Cell) (buffer bytes : Bytes) (n : ℕ) (fault : Option ChunkFault) → bytes ≡ take n buffer
-    → Gets (Ok (Some n)) buffer (stored_bytes m dataset s cell) → fault ≡ chunk_fault s cell bytes → chunk_in m dataset s cell ≡ unless fault bytes
-seen_bytes m dataset s cell buffer bytes n fault is got judge =
-    chunk_in-is m dataset s cell ∙ ap (judged s cell) (got ∙ ap (λ xs. Ok (Some xs)) (sym is)) ∙ ap (λ f. unless f bytes) (sym judge)
-
-pub reads_chunk : (o : Option Objects) (dataset : Name) (s : Scale) (cell : Cell) (part : Box3) (picked : Channels) (buffer bytes old new : Bytes) (n : ℕ) → bytes ≡ take n buffer
-    → IfSome o (λ m. Gets (Ok (Some n)) buffer (stored_bytes m dataset s cell)) → None ≡ chunk_fault s cell bytes → Took s cell part picked (Ok (Some bytes)) old new
+pub reads_chunk : (o : Option Objects) (dataset : Name) (s : Scale) (cell : Cell) (part : Box3) (picked : Channels) (frame : Filled) (there : Bool) (bytes old new : Bytes) → there ≡ true → bytes ≡ take frame.used frame.bytes
+    → IfSome o (λ m. HasRead (Ok there) frame (stored_bytes m dataset s cell)) → None ≡ chunk_fault s cell bytes → Took s cell part picked (Ok (Some bytes)) old new
     → IfSome o (λ m. Reads (Ok tt) (chunk_in m dataset s cell) (Took s cell part picked (chunk_in m dataset s cell) old new))
-reads_chunk None dataset s cell part picked buffer bytes old new n is got judge took = tt
-reads_chunk (Some m) dataset s cell part picked buffer bytes old new n is got judge took =
-    taken_as s cell part picked (Some bytes) old new (chunk_in m dataset s cell) (seen_bytes m dataset s cell buffer bytes n None is got judge) took
+reads_chunk None dataset s cell part picked frame there bytes old new is used read judge took = tt
+reads_chunk (Some m) dataset s cell part picked frame there bytes old new is used read judge took =
+    taken_as s cell part picked (Some bytes) old new (chunk_in m dataset s cell) (seen_bytes m dataset s cell frame there bytes None is used read judge) took
 
--- bytes with one,
-pub reads_fault : (o : Option Objects) (dataset : Name) (s : Scale) (cell : Cell) (part : Box3) (picked : Channels) (buffer bytes old new : Bytes) (n : ℕ) (fault : ChunkFault) → bytes ≡ take n buffer
-    → IfSome o (λ m. Gets (Ok (Some n)) buffer (stored_bytes m dataset s cell)) → Some fault ≡ chunk_fault s cell bytes
-    → IfSome o (λ m. Reads (Err (Faulty (Chunk fault))) (chunk_in m dataset s cell) (Took s cell part picked (chunk_in m dataset s cell) old new))
-reads_fault None dataset s cell part picked buffer bytes old new n fault is got judge = tt
-reads_fault (Some m) dataset s cell part picked buffer bytes old new n fault is got judge = seen_bytes m dataset s cell buffer bytes n (Some fault) is got judge
-
--- or a fault on the way to them
-refused_as : (s : Scale) (cell : Cell) (buffer : Bytes) (fault : LookupFault) (stored : Result (Option Bytes) Fault) (T : Type 0) → Gets (Err fault) buffer stored → Reads (Err fault) (judged s cell stored) T
-refused_as s cell buffer NotRead stored T h = tt
-refused_as s cell buffer (Faulty fault) stored T h = ap (judged s cell) h
-
-pub reads_refused : (o : Option Objects) (dataset : Name) (s : Scale) (cell : Cell) (part : Box3) (picked : Channels) (buffer old new : Bytes) (fault : LookupFault)
-    → IfSome o (λ m. Gets (Err fault) buffer (stored_bytes m dataset s cell))
-    → IfSome o (λ m. Reads (Err fault) (chunk_in m dataset s cell) (Took s cell part picked (chunk_in m dataset s cell) old new))
-reads_refused None dataset s cell part picked buffer old new fault h = tt
-reads_refused (Some m) dataset s cell part picked buffer old new fault h =
-    subst (λ seen. Reads (Err fault) seen (Took s cell part picked (chunk_in m dataset s cell) old new)) (sym (chunk_in-is m dataset s cell))
-    (refused_as s cell buffer fault (stored_bytes m dataset s cell) (Took s cell part picked (chunk_in m dataset s cell) old new) h)
+-- or the fault that judging it finds
+pub reads_refused : (o : Option Objects) (dataset : Name) (s : Scale) (cell : Cell) (part : Box3) (picked : Channels) (old new : Bytes) (fault : LookupFault)
+    → IfSome o (λ m. Finds (Err fault) (chunk_in m dataset s cell)) → IfSome o (λ m. Reads (Err fault) (chunk_in m dataset s cell) (Took s cell part picked (chunk_in m dataset s cell) old new))
+reads_refused None dataset s cell part picked old new fault h = tt
+reads_refused (Some m) dataset s cell part picked old new NotRead h = tt
+reads_refused (Some m) dataset s cell part picked old new (Faulty fault) h = h
 
 -- the values of a cell are few
 pub cell_small : (s : Scale) (cell : Cell) → raw_size s cell ≤ 2 ^ 27

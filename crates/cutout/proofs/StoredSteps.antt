@@ -3,7 +3,6 @@ use Rattle.std.proofs.Common.{◌≡◌, ◌≤◌, ℕ, ◌+◌, ◌++◌, take
 use Rattle.std.proofs.Math.Seq.{take-append_seam}
 use Rattle.std.proofs.lemmas.Grind.{common_steps}
 use Rattle.std.specs.FinMap as fin
-use Rattle.chunk_pool.specs.Frames.{Filled}
 use Rattle.vol_base.specs.Outside.{got_of, Objects, part, Reads}
 use Rattle.vol_base.specs.declared.faults.Fault.{Fault}
 use Rattle.vol_base.specs.declared.outside.Got.{Got}
@@ -155,10 +154,3 @@ pub within_more : (r : Result (Option ℕ) LookupFault) (few many : ℕ) → few
 within_more (Ok None) few many h within = tt
 within_more (Ok (Some n)) few many h within = omega (arith, h, within)
 within_more (Err fault) few many h within = tt
-
--- the bytes that were lent and are used
-refilled : (n : ℕ) (old new : Bytes) → length new ≡ n → take n (new ++ drop (length new) old) ≡ new
-refilled n old new e = ap (λ k. take k (new ++ drop (length new) old)) (sym e) ∙ take-append_seam new (drop (length new) old)
-
-pub used_bytes : (f : Filled) (len n : ℕ) (old new bytes : Bytes) → f ≡ record { bytes = take n (new ++ drop (length new) old); used = len } → bytes ≡ take f.used f.bytes → length new ≡ n → bytes ≡ take len new
-used_bytes f len n old new bytes is e same = e ∙ ap (λ (g : Filled). take g.used g.bytes) is ∙ ap (take len) (refilled n old new same)

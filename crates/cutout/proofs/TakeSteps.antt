@@ -1,5 +1,5 @@
 -- Values of a cell put into those of a part.
-use Rattle.std.proofs.Common.{◌≡◌, ◌<◌, ◌≤◌, arith, ℕ, zero, suc, ◌+◌, ◌*◌, replicate, List, Some, None, Ok, refl, ap, ◌∙◌, sym}
+use Rattle.std.proofs.Common.{◌≡◌, ◌≢◌, ◌<◌, ◌≤◌, arith, ℕ, zero, suc, ◌+◌, ◌*◌, replicate, Some, None, Ok, refl, ap, ◌∙◌, sym}
 use Rattle.vol_base.specs.declared.boxes.Box3.{Box3}
 use Rattle.vol_base.specs.Boxes.{Covers, num, value}
 use Rattle.vol_spec.proofs.Plain.{value_at-raw}
@@ -8,6 +8,7 @@ use Rattle.vol_spec.specs.Raw.{number}
 use Rattle.vol_spec.specs.Types.{Bytes, Cell, Position}
 use Rattle.vol_spec.specs.Encodings.{by_encoding}
 use Rattle.vol_spec.specs.Limits.{first_bytes}
+use Rattle.vol_spec.specs.declared.encoding.Encoding.{Encoding}
 use Rattle.vol_spec.specs.declared.encoding.Encoding.TheVariants.{Raw, Seg}
 use Rattle.vol_spec.specs.declared.scale.Scale.{Scale}
 use Rattle.voxel_raw.specs.Copies.{HasValues, HasZeros, KeepsRest}
@@ -53,5 +54,9 @@ took_zeros s cell part common picked old new is zeros rest = record {
 }
 
 -- a chunk that is decoded has room for its values
-pub room_seg : (s : Scale) (block : List ℕ) → s.encoding ≡ Seg block → values_room s ≡ first_bytes s.width s.channels s.size s.chunk
-room_seg s block seg = ap (λ e. by_encoding e 0 (first_bytes s.width s.channels s.size s.chunk)) seg
+room_by : (e : Encoding) (n : ℕ) → e ≢ Raw → by_encoding e 0 n ≡ n
+room_by Raw n seg = absurd (seg refl)
+room_by (Seg block) n seg = refl
+
+pub room_seg : (s : Scale) → s.encoding ≢ Raw → values_room s ≡ first_bytes s.width s.channels s.size s.chunk
+room_seg s seg = room_by s.encoding (first_bytes s.width s.channels s.size s.chunk) seg

@@ -2,7 +2,8 @@
 ghost use Rattle.std.specs.Prelude.{◌≡◌, ◌≢◌, ◌∷◌, [], length, IfOk, IfSome, Err};
 ghost use Rattle.vol_spec.specs.Chunks.{chunk_in};
 ghost use Rattle.vol_spec.specs.Grid.{cells_in, Inside, IsCell};
-ghost use Rattle.cutout.specs.Finding.{Finds};
+ghost use Rattle.vol_spec.specs.StoredBytes.{stored_bytes};
+ghost use Rattle.cutout.specs.Finding.{Finds, HasRead};
 ghost use Rattle.cutout.specs.Reading.{placed, ReadsAll, ReadsCell};
 ghost use Rattle.cutout.specs.Targets.{IsTarget};
 
@@ -57,6 +58,32 @@ impl CellReader {
         })
     }
 
+    // Reads the bytes of a cell's chunk into the reader's room for one, and says whether there are any: those
+    // in use there are then the chunk.
+    fn read_chunk<S: Source>(
+        &mut self,
+        store: &mut S,
+        origin: &Origin,
+        cell: [u64; 3],
+    ) -> Result<bool, LookupFault>
+        requires cell { IsCell origin.now.scale cell }
+        requires serves { Serves (S.objects store.old) origin.now self.old }
+        ensures read { IfSome (S.objects store.old) (λ m.
+            HasRead result self.new.chunk (stored_bytes m origin.now.dataset origin.now.scale cell)) }
+        ensures serves { Serves (S.objects store.old) origin.now self.new }
+        ensures walks { Walks S.Source origin.now (cell ∷ []) LookupFault.NotRead store.old store.new
+            self.old.shards self.new.shards result }
+    {
+        let chunk = self.chunk.room();
+        let len = match read_stored(&mut self.shards, store, origin, cell, chunk) {
+            Err(fault) => return Err(fault),
+            Ok(None) => return Ok(false),
+            Ok(Some(len)) => len as usize,
+        };
+        self.chunk.set_used(len);
+        Ok(true)
+    }
+
     // Reads a cell that meets the part, and puts its values, in some channels, into those of the part.
     fn read_one<S: Source>(
         &mut self,
@@ -78,16 +105,14 @@ impl CellReader {
     {
         let own = cell_box(&origin.scale, cell);
         let home = BoxedCell { cell, own };
-        let chunk = self.chunk.room();
-        let len = match read_stored(&mut self.shards, store, origin, cell, chunk) {
+        match self.read_chunk(store, origin, cell) {
             Err(fault) => return Err(fault),
-            Ok(None) => {
+            Ok(false) => {
                 put_zeros(&origin.scale, &home, part, channels, out);
                 return Ok(());
             }
-            Ok(Some(len)) => len as usize,
-        };
-        self.chunk.set_used(len);
+            Ok(true) => {}
+        }
         let bytes = self.chunk.used();
         let values = self.values.room();
         match put_chunk(bytes, &origin.scale, &home, values, part, channels, out) {
@@ -113,13 +138,11 @@ impl CellReader {
     {
         let own = cell_box(&origin.scale, cell);
         let home = BoxedCell { cell, own };
-        let chunk = self.chunk.room();
-        let len = match read_stored(&mut self.shards, store, origin, cell, chunk) {
+        match self.read_chunk(store, origin, cell) {
             Err(fault) => return Err(fault),
-            Ok(None) => return Ok(false),
-            Ok(Some(len)) => len as usize,
-        };
-        self.chunk.set_used(len);
+            Ok(false) => return Ok(false),
+            Ok(true) => {}
+        }
         let bytes = self.chunk.used();
         match judge_bytes(bytes, &origin.scale, &home, self.values.room()) {
             Ok(()) => Ok(true),

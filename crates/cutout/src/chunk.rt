@@ -1,7 +1,8 @@
 //! The bytes of a cell's chunk, read from its own object or out of a shard.
-ghost use Rattle.std.specs.Prelude.{◌≡◌, ◌∷◌, [], ◌+◌, ◌<◌, ◌≤◌, ◌^◌, length, IfOk, IfSome};
+ghost use Rattle.std.specs.Prelude.{◌≡◌, ◌∷◌, [], ◌+◌, ◌<◌, ◌≤◌, ◌^◌, length, IfOk, IfSome, IsSome};
 ghost use Rattle.std.specs.FinMap as map;
 ghost use Rattle.vol_spec.specs.Grid.{IsCell};
+ghost use Rattle.vol_spec.specs.Places.{id_of};
 ghost use Rattle.vol_spec.specs.StoredBytes.{stored_bytes};
 ghost use Rattle.shard_reader.specs.Reading.{Gets};
 ghost use Rattle.cutout.specs.Calls.{ReadsFrom};
@@ -15,6 +16,16 @@ use morton_code::code;
 use segment_cells::chunk_limit;
 use shard_reader::{LookupFault, ShardReader};
 use vol_base::{Got, Name, Source};
+use vol_spec::Scale;
+
+/// The id of a cell's chunk in a shard.
+pub(crate) fn chunk_id(scale: &Scale, cell: [u64; 3]) -> u64
+    requires cell { IsCell scale.now cell }
+    requires sharded { IsSome scale.now.sharding }
+    ensures { result ≡ id_of scale.now cell }
+{
+    code(&grid(scale), cell)
+}
 
 // Reads the front of an object into a buffer, until it is full: how many bytes, None where there is no
 // such object.
@@ -60,7 +71,7 @@ pub(crate) fn read_stored<S: Source>(
     let buffer = &mut chunk[..limit as usize + 1];
     match origin.scale.sharding {
         Some(sharding) => {
-            let id = code(&grid(&origin.scale), cell);
+            let id = chunk_id(&origin.scale, cell);
             shards.read_chunk(
                 store,
                 &origin.dataset,

@@ -1,14 +1,22 @@
 //! Where the chunk of a cell stands.
+ghost use Rattle.std.specs.Prelude.{◌≡◌, ◌≢◌, IfErr, IfSome, Some};
 ghost use Rattle.vol_spec.specs.Grid.{IsCell};
+ghost use Rattle.vol_spec.specs.StoredBytes.{object_of};
+ghost use Rattle.shard_reader.specs.Reading.{Answers};
+ghost use Rattle.cutout.specs.Calls.{AsksFor};
+ghost use Rattle.cutout.specs.Keeping.{search_cost};
+ghost use Rattle.cutout.specs.Reading.{span_in};
 ghost use Rattle.cutout.specs.Searching.{Searches};
 
 use crate::cells::{CellReader, place_fault};
+use crate::chunk::chunk_id;
 use crate::{CutFault, Origin};
-use chunk_grid::{grid, object_name};
-use morton_code::code;
+use chunk_grid::object_name;
 use segment_cells::chunk_limit;
 use shard_index::{place, shard_name};
+use shard_reader::{LookupFault, ShardReader};
 use vol_base::{Name, Source};
+use vol_spec::{ChunkSpan, Sharding};
 
 /// Where the chunk of a cell stands: nowhere, or in an object, so many bytes from a place on. Both are
 /// counted in bytes, the place from the object's begin.
@@ -18,11 +26,45 @@ pub enum Found {
     At { name: Name, start: u64, len: u64 },
 }
 
+// Finds the span of a cell's chunk in its shard. Nothing is used of an index that was kept before.
+fn find_span<S: Source>(
+    shards: &mut ShardReader,
+    store: &mut S,
+    origin: &Origin,
+    sharding: &Sharding,
+    cell: [u64; 3],
+) -> Result<Option<ChunkSpan>, LookupFault>
+    requires cell { IsCell origin.now.scale cell }
+    requires sharding { origin.now.scale.sharding ≡ Some sharding.now }
+    ensures found { IfSome (S.objects store.old) (λ m.
+        Answers (span_in m origin.now.dataset origin.now.scale cell) result) }
+    ensures asks { AsksFor S.Source (λ m. search_cost m origin.now.dataset origin.now.scale cell)
+        LookupFault.NotRead store.old store.new result }
+    ensures still { IfErr result (λ fault. fault ≢ LookupFault.NotRead →
+        S.faults store.new ≡ S.faults store.old) }
+{
+    let limit = chunk_limit(&origin.scale, cell);
+    let id = chunk_id(&origin.scale, cell);
+    shards.forget();
+    shards.locate(store, &origin.dataset, &origin.scale, sharding, limit, id)
+}
+
+// The name of the shard that a cell's chunk belongs into.
+fn name_shard(origin: &Origin, sharding: &Sharding, cell: [u64; 3]) -> Name
+    requires cell { IsCell origin.now.scale cell }
+    requires sharding { origin.now.scale.sharding ≡ Some sharding.now }
+    ensures { result ≡ object_of origin.now.dataset origin.now.scale cell }
+{
+    let id = chunk_id(&origin.scale, cell);
+    shard_name(&origin.dataset, &origin.scale, place(sharding, id).shard)
+}
+
 impl CellReader {
     ghost use Rattle.cutout.specs.Serving.{HasRoom};
 
     /// Finds the chunk of a cell: the whole of an object of its own, or the span of a shard. Nothing is used of
     /// an index that was kept before.
+    #[tactic(auto, using(crate::proofs::FoundSteps::absent_told, crate::proofs::FoundSteps::span_told, crate::proofs::FoundSteps::fault_told))]
     pub(crate) fn locate<S: Source>(
         &mut self,
         store: &mut S,
@@ -35,10 +77,8 @@ impl CellReader {
         ensures searches { Searches S.Source origin.now.dataset origin.now.scale cell store.old store.new
             result }
     {
-        let dataset = &origin.dataset;
-        let scale = &origin.scale;
-        let Some(sharding) = scale.sharding else {
-            let name = object_name(dataset, scale, cell);
+        let Some(sharding) = origin.scale.sharding else {
+            let name = object_name(&origin.dataset, &origin.scale, cell);
             return match store.size(&name) {
                 Err(_) => Err(CutFault::StoreFault),
                 Ok(None) => Ok(Found::Absent),
@@ -49,17 +89,11 @@ impl CellReader {
                 }),
             };
         };
-        self.shards.forget();
-        let id = code(&grid(scale), cell);
-        let limit = chunk_limit(scale, cell);
-        match self
-            .shards
-            .locate(store, dataset, scale, &sharding, limit, id)
-        {
+        match find_span(&mut self.shards, store, origin, &sharding, cell) {
             Err(fault) => Err(place_fault(cell, fault)),
             Ok(None) => Ok(Found::Absent),
             Ok(Some(span)) => Ok(Found::At {
-                name: shard_name(dataset, scale, place(&sharding, id).shard),
+                name: name_shard(origin, &sharding, cell),
                 start: span.start,
                 len: span.len,
             }),

@@ -1,5 +1,5 @@
 //! The values of a cell's chunk, put into those of a part.
-ghost use Rattle.std.specs.Prelude.{◌≡◌, ◌≤◌, length, None, Ok, OnOk, Some};
+ghost use Rattle.std.specs.Prelude.{◌≡◌, ◌≢◌, ◌≤◌, length, None, Ok, OnOk, Some};
 ghost use Rattle.std.specs.Result.{result_err};
 ghost use Rattle.vol_spec.specs.Encodings.{chunk_fault, raw_size};
 ghost use Rattle.cutout.specs.Opened.{values_room};
@@ -57,6 +57,16 @@ pub(crate) fn put_zeros(
     fill_box(out, part, &common, channels.count, scale.width);
 }
 
+// How many bytes of values a chunk that is decoded has.
+fn decoded_len(scale: &Scale, home: &BoxedCell) -> usize
+    requires home { IsBoxed scale.now home.now }
+    requires decoded { scale.now.encoding ≢ Encoding.Raw }
+    ensures len { result ≡ raw_size scale.now home.now.cell }
+    ensures room { result ≤ values_room scale.now }
+{
+    byte_len(&home.own, scale.channels, scale.width) as usize
+}
+
 /// Puts the values of a cell's chunk, which is decoded once, whole, where it is segmented; or tells the chunk's
 /// first fault. `values` has room for what is decoded.
 pub(crate) fn put_chunk(
@@ -82,7 +92,7 @@ pub(crate) fn put_chunk(
             Ok(())
         }
         Encoding::Seg { block } => {
-            let len = byte_len(&home.own, scale.channels, scale.width) as usize;
+            let len = decoded_len(scale, home);
             let values = &mut values[..len];
             decode_cell(bytes, scale, home.cell, block, values)?;
             put_values(values, scale, home, part, channels, out);
@@ -106,7 +116,7 @@ pub(crate) fn judge_bytes(
     match scale.encoding {
         Encoding::Raw => check_len(bytes.len() as u64, &home.own, scale.channels, scale.width),
         Encoding::Seg { block } => {
-            let len = byte_len(&home.own, scale.channels, scale.width) as usize;
+            let len = decoded_len(scale, home);
             decode_cell(bytes, scale, home.cell, block, &mut values[..len])
         }
     }

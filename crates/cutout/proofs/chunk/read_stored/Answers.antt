@@ -1,5 +1,4 @@
-use Rattle.std.proofs.Common.{◌≡◌, ◌∙◌, ◌+◌, ap, arith, length, length-take, rules, take}
-use Rattle.vol_spec.specs.Codes.{code_of}
+use Rattle.std.proofs.Common.{◌≡◌, ◌+◌, arith, length, length-take, rules, take}
 use Rattle.segment_cells.proofs.CellSteps.{limit_first}
 use Rattle.cutout.proofs.RunSteps.{own_run, sharded_run}
 use Rattle.cutout.proofs.StoredSteps.{gets_front, keeps_as, keeps_index, own_told, sharded_told, within_more}
@@ -15,8 +14,8 @@ pub returns-in-Some-clause-read : goal.returns-in-Some-clause-read
 returns-in-Some-clause-read g c =
     let room : length (take (c.chunk_limit-limit.result + 1) c.args.chunk.now) ≡ c.chunk_limit-limit.result + 1 = omega (arith, length-take (c.chunk_limit-limit.result + 1) c.args.chunk.now, c.requires.room, c.chunk_limit-limit.ensures.first) in
     gets_front (g.S.Source.objects c.args.store.now) c.args.origin.now.dataset c.args.origin.now.scale c.args.cell c.read_chunk.result c.read_chunk.new.buffer _ (within_more c.read_chunk.result c.chunk_limit-limit.result (length c.read_chunk.new.buffer) (omega (arith, room, c.read_chunk.auto.buffer)) c.read_chunk.ensures.short)
-    (sharded_told (g.S.Source.objects c.args.store.now) c.args.origin.now.dataset c.args.origin.now.scale c.args.cell c.in-Some.sharding c.chunk_limit-limit.result c.code-id.result c.read_chunk.new.buffer c.read_chunk.result c.in-Some.is c.chunk_limit-limit.ensures.limit
-    (c.code-id.ensures ∙ ap (λ size. code_of size c.args.cell) c.grid.ensures) c.read_chunk.ensures.gets)
+    (sharded_told (g.S.Source.objects c.args.store.now) c.args.origin.now.dataset c.args.origin.now.scale c.args.cell c.in-Some.sharding c.chunk_limit-limit.result c.chunk_id-id.result c.read_chunk.new.buffer c.read_chunk.result c.in-Some.is c.chunk_limit-limit.ensures.limit
+    c.chunk_id-id.ensures c.read_chunk.ensures.gets)
 
 pub returns-in-None-clause-read : goal.returns-in-None-clause-read
 returns-in-None-clause-read g c =
@@ -28,8 +27,8 @@ returns-in-None-clause-read g c =
 pub returns-in-Some-clause-walks : goal.returns-in-Some-clause-walks
 returns-in-Some-clause-walks g c = record {
   run =
-      sharded_run (g.S.Source.objects c.args.store.now) c.read_chunk.result c.args.origin.now.dataset c.args.origin.now.scale c.args.cell c.in-Some.sharding c.chunk_limit-limit.result c.code-id.result (g.S.Source.asked c.args.store.now) (g.S.Source.asked c.read_chunk.new.store)
-      c.args.shards.now c.read_chunk.new.self c.in-Some.is c.chunk_limit-limit.ensures.limit (c.code-id.ensures ∙ ap (λ size. code_of size c.args.cell) c.grid.ensures) c.read_chunk.ensures.once c.read_chunk.ensures.onward;
+      sharded_run (g.S.Source.objects c.args.store.now) c.read_chunk.result c.args.origin.now.dataset c.args.origin.now.scale c.args.cell c.in-Some.sharding c.chunk_limit-limit.result c.chunk_id-id.result (g.S.Source.asked c.args.store.now) (g.S.Source.asked c.read_chunk.new.store)
+      c.args.shards.now c.read_chunk.new.self c.in-Some.is c.chunk_limit-limit.ensures.limit c.chunk_id-id.ensures c.read_chunk.ensures.once c.read_chunk.ensures.onward;
   reads = search rules;
 }
 
