@@ -11,7 +11,8 @@ ghost use Rattle.write_plan.specs.Pairs.{cell_count};
 ghost use Rattle.copier.specs.Held.{Holds, cells_of};
 ghost use Rattle.copier.specs.Sources.{HasPrepared, window_cost};
 
-use crate::found::find_copied;
+use crate::found::find_placed;
+use crate::placing::Copies;
 use crate::reading::read_jobs;
 use cutout::{KeepingReader, Reader};
 use std::alloc::{AllocError, Global};
@@ -91,7 +92,7 @@ impl Copier {
         let Ok(mut reader) = Reader::open(alloc, dataset, from) else {
             return Err(StoreRefusal::OutOfMemory);
         };
-        let cells = match find_copied(alloc, &mut reader, store, from, to) {
+        let cells = match find_placed::<Copies, S>(alloc, &mut reader, store, from, to) {
             Ok(cells) => cells,
             Err(refusal) => return Err(refusal),
         };

@@ -6,6 +6,7 @@ ghost use Rattle.vol_spec.specs.Raw.{raw_len};
 ghost use Rattle.reduce_laws.specs.Halves.{IsHalf};
 ghost use Rattle.reduce_laws.specs.Reduced.{IsNext, source_box as source_of, target_box as target_of};
 
+use copier::Placing;
 use vol_base::Box3;
 use vol_spec::Scale;
 
@@ -72,8 +73,8 @@ fn find_over(from: &Scale, to: &Scale, source: [u64; 3], axis: usize) -> (i64, u
     )
 }
 
-/// The target's positions over those of a cell of the source: a box inside the target.
-pub(crate) fn target_box(from: &Scale, to: &Scale, source: [u64; 3]) -> Box3
+// The target's positions over those of a cell of the source.
+fn target_box(from: &Scale, to: &Scale, source: [u64; 3]) -> Box3
     requires next { IsNext from.now to.now }
     requires source { IsCell from.now source }
     ensures { result ≡ target_of from.now to.now source }
@@ -84,5 +85,25 @@ pub(crate) fn target_box(from: &Scale, to: &Scale, source: [u64; 3]) -> Box3
     Box3 {
         begin: [x.0, y.0, z.0],
         size: [x.1, y.1, z.1],
+    }
+}
+
+/// A reduction into the next scale: a cell of the source lies over the target's positions over its own.
+pub(crate) struct Reductions;
+
+impl Placing for Reductions {
+    ghost use Rattle.reduce_laws.specs.Reduced.{reduced_cells};
+    ghost use Rattle.reducer.specs.PlacedLaws.{reduced_placed};
+
+    ghost fits = { IsNext };
+
+    ghost place = { target_of };
+
+    ghost made = { reduced_cells };
+
+    ghost placed = { reduced_placed };
+
+    fn place(from: &Scale, to: &Scale, source: [u64; 3]) -> Box3 {
+        target_box(from, to, source)
     }
 }
