@@ -93,6 +93,12 @@ ready_of h job =
 abbrev pub Holds : Scale → Vec ℕ Global → Type 0
 Holds to frame = first_bytes to.width to.channels to.size to.chunk ≤ vec_capacity frame
 
+-- a job's frame, of those for the jobs from a number on, has so many bytes or more,
+pub record HasFront (first job n : ℕ) (frames : List Bytes) : Type 0 where
+  pub low : first ≤ job
+  pub within : job - first < length frames
+  pub long : n ≤ length (slice_index_or frames (job - first) [])
+
 -- when it is filled it has as many bytes,
 abbrev pub IsFilled : Scale → Bytes → Type 0
 IsFilled to frame = length frame ≡ first_bytes to.width to.channels to.size to.chunk

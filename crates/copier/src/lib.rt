@@ -7,7 +7,7 @@ mod marks;
 mod placing;
 mod reading;
 
-pub use copier::{Copier, reserve_frames};
+pub use copier::{Copier, put_front, reserve_frames};
 pub use found::find_placed;
 pub use placing::{Copies, Placing};
 pub use reading::{fill_up, values_len};

@@ -13,7 +13,7 @@ ghost use Rattle.reducer.specs.Reading.{HasRoom};
 use crate::ahead::reduce_jobs;
 use crate::sources::{Reductions, source_box};
 use chunk_grid::{byte_len, find_folder};
-use copier::{find_placed, reserve_frames};
+use copier::{find_placed, put_front, reserve_frames};
 use cutout::{KeepingReader, Reader};
 use reduce_laws::Method;
 use std::alloc::{AllocError, Global};
@@ -223,7 +223,6 @@ impl<'a, R: Threads> Chunks for Reducer<'a, R> {
 
     /// Puts the bytes of a job's frame. It takes no memory.
     fn fill(&self, job: u64, raw: &mut [u8]) {
-        let frame = &self.frames[(job - self.first) as usize];
-        raw.copy_from_slice(&frame[..raw.len()]);
+        put_front(&self.frames, self.first, job, raw);
     }
 }
