@@ -10,4 +10,4 @@ mod reading;
 pub use copier::{Copier, put_front, reserve_frames};
 pub use found::find_placed;
 pub use placing::{Copies, Placing};
-pub use reading::{fill_up, values_len};
+pub use reading::{cut_box, fill_up, values_len};

@@ -18,10 +18,10 @@ use Rattle.write_plan.specs.Jobs.{cells_in}
 use Rattle.write_plan.specs.declared.jobs.Job.{Job}
 use Rattle.write_plan.specs.declared.chunks.PrepareFault.{PrepareFault}
 use Rattle.write_plan.specs.declared.chunks.PrepareFault.TheVariants.{Damaged, StoreFault}
-use Rattle.copier.specs.Held.{AreRead}
+use Rattle.copier.specs.Held.{AreRead, CutsBox}
 use Rattle.copier.proofs.FrameSteps.{read_more}
 use Rattle.coarse_laws.proofs.CoarseLaw.{read_is_reduced}
-use Rattle.reducer.specs.Reading.{CutsBox, IsReducedOf, ReadsReduced, reductions_of}
+use Rattle.reducer.specs.Reading.{IsReducedOf, ReadsReduced, reductions_of}
 
 -- what is reduced of a cutout is the job's
 pub source_reduced : (o : Option Objects) (method : Method) (dataset : List ℕ) (from to : Scale) (cell raw out : List ℕ) → IsNext from to → IsCell to cell → IfSome o HaveBytes → IsReducedOf method from to cell raw out

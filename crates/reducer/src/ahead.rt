@@ -7,9 +7,9 @@ ghost use Rattle.vol_spec.specs.Grid.{IsCell};
 ghost use Rattle.vol_spec.specs.Raw.{raw_len};
 ghost use Rattle.write_plan.specs.Jobs.{cells_in};
 ghost use Rattle.cutout.specs.Kept.{KeepsIndex};
-ghost use Rattle.copier.specs.Held.{AreFilled, Holds, IsFilled};
+ghost use Rattle.copier.specs.Held.{AreFilled, CutsBox, Holds, IsFilled};
 ghost use Rattle.reduce_laws.specs.Reduced.{IsNext, source_box as source_of};
-ghost use Rattle.reducer.specs.Reading.{CutsBox, HasRoom, IsReducedOf, ReadsReductions};
+ghost use Rattle.reducer.specs.Reading.{HasRoom, IsReducedOf, ReadsReductions};
 
 use crate::reading::{cut_source, reduce_in_turn, reduce_source};
 use cutout::KeepingReader;

@@ -3,51 +3,23 @@ ghost use Rattle.std.specs.Prelude.{◌≡◌, ◌+◌, ◌<◌, ◌≤◌, ◌^
 ghost use Rattle.vol_base.specs.Causes.{HasCauseOf};
 ghost use Rattle.vol_base.specs.Outside.{HaveBytes, OnlyReads};
 ghost use Rattle.vol_spec.specs.Encodings.{raw_size};
-ghost use Rattle.vol_spec.specs.Grid.{Inside, IsCell};
+ghost use Rattle.vol_spec.specs.Grid.{IsCell};
 ghost use Rattle.vol_spec.specs.Raw.{raw_len};
 ghost use Rattle.write_plan.specs.Jobs.{cells_in};
 ghost use Rattle.cutout.specs.Kept.{KeepsIndex};
-ghost use Rattle.copier.specs.Held.{AreFilled, Holds, IsFilled};
+ghost use Rattle.copier.specs.Held.{AreFilled, CutsBox, Holds, IsFilled};
 ghost use Rattle.reduce_laws.specs.Reduced.{IsNext, source_box as source_of};
-ghost use Rattle.reducer.specs.Reading.{CutsBox, HasRoom, IsReducedOf, ReadsReduced, ReadsReductions};
+ghost use Rattle.reducer.specs.Reading.{HasRoom, IsReducedOf, ReadsReduced, ReadsReductions};
 
 use crate::sources::source_box;
 use chunk_grid::{byte_len, cell_box};
-use copier::{fill_up, values_len};
-use cutout::{CutFault, KeepingReader};
+use copier::{cut_box, fill_up, values_len};
+use cutout::KeepingReader;
 use reduce_boxes::reduce_box;
 use reduce_laws::Method;
-use vol_base::{Box3, Source};
+use vol_base::Source;
 use vol_spec::Scale;
 use write_plan::{JobList, PrepareFault};
-
-// Cuts a box out of the source.
-fn cut_box<S: Source>(
-    reader: &mut KeepingReader,
-    store: &mut S,
-    part: &Box3,
-    raw: &mut [u8],
-) -> Result<(), PrepareFault>
-    requires inside { Inside reader.old.opened.scale part.now }
-    requires len { length raw.old ≡ raw_len part.now reader.old.opened.scale.channels
-        reader.old.opened.scale.width }
-    requires limit { length raw.old ≤ 2 ^ 30 }
-    requires keeps { KeepsIndex (S.objects store.old) reader.old }
-    ensures cut { IfSome (S.objects store.old) (λ m.
-        CutsBox result m reader.old.opened.dataset reader.old.opened.scale part.now raw.new) }
-    ensures keeps { KeepsIndex (S.objects store.old) reader.new }
-    ensures same { reader.new.opened ≡ reader.old.opened }
-    ensures kept { OnlyReads (S.objects store.old) (S.objects store.new) (S.draft store.old)
-        (S.draft store.new) }
-    ensures cause { HasCauseOf PrepareFault.StoreFault (S.faults store.old) (S.faults store.new) result }
-{
-    match reader.cutout(store, part, raw) {
-        Ok(()) => Ok(()),
-        Err(CutFault::StoreFault) => Err(PrepareFault::StoreFault),
-        Err(CutFault::Damaged { cell, fault }) => Err(PrepareFault::Damaged { cell, fault }),
-        Err(CutFault::OutsideScale) => unreachable!(),
-    }
-}
 
 // Makes a buffer that has the room so many bytes long.
 fn fit_buffer(buffer: &mut Vec<u8>, len: usize)

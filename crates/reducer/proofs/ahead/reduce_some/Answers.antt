@@ -7,11 +7,11 @@ use Rattle.vol_spec.proofs.Told.{from_told, in_told}
 use Rattle.cutout.specs.Kept.{KeepsIndex}
 use Rattle.cutout.specs.Opened.{Opened}
 use Rattle.write_plan.specs.Jobs.{cells_in}
-use Rattle.copier.specs.Held.{AreFilled, AreRead}
+use Rattle.copier.specs.Held.{AreFilled, AreRead, CutsBox}
 use Rattle.copier.proofs.FrameSteps.{filled_more, holds_set, read_failed, read_none}
 use Rattle.copier.proofs.JobSteps.{job_cell_at}
 use Rattle.reduce_laws.specs.Reduced.{source_box}
-use Rattle.reducer.specs.Reading.{CutsBox, HasRoom, ReadsReductions, reductions_of}
+use Rattle.reducer.specs.Reading.{HasRoom, ReadsReductions, reductions_of}
 use Rattle.reducer.proofs.JobSteps.{cell_own, failed_one, next_read}
 use Rattle.reducer.proofs.ahead.reduce_some.Goals as goal
 

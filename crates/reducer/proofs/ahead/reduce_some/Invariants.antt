@@ -6,9 +6,9 @@ use Rattle.vol_spec.specs.Raw.{raw_len}
 use Rattle.vol_spec.specs.StoredCells.{cell_of}
 use Rattle.cutout.specs.Kept.{KeepsIndex}
 use Rattle.write_plan.specs.Jobs.{cells_in}
-use Rattle.copier.specs.Held.{AreFilled, AreRead, Holds}
+use Rattle.copier.specs.Held.{AreFilled, AreRead, CutsBox, Holds}
 use Rattle.reduce_laws.specs.Reduced.{source_box}
-use Rattle.reducer.specs.Reading.{CutsBox, HasRoom, reductions_of}
+use Rattle.reducer.specs.Reading.{HasRoom, reductions_of}
 use Rattle.reducer.proofs.ahead.reduce_some.Given as goal
 
 abbrev pub invariant-loop-k : goal.invariant-loop-k
