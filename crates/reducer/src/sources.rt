@@ -10,6 +10,20 @@ use copier::Placing;
 use vol_base::Box3;
 use vol_spec::Scale;
 
+// Where a cell begins on an axis, counted from the scale's begin, and its size there.
+fn find_own(scale: &Scale, cell: [u64; 3], axis: usize) -> (u64, u64)
+    requires cell { IsCell scale.now cell }
+    requires axis { axis < 3 }
+    ensures begin { result.0 ≡ cell_begin scale.now cell axis }
+    ensures size { result.1 ≡ cell_size scale.now cell axis }
+    ensures within { result.0 + result.1 ≤ slice_index scale.now.size axis }
+    ensures small { slice_index scale.now.size axis ≤ 2 ^ 40 }
+{
+    let chunk = scale.chunk[axis];
+    let before = cell[axis] * chunk;
+    (before, chunk.min(scale.size[axis] - before))
+}
+
 // Where the positions under a cell begin on an axis, and how many there are.
 fn find_span(from: &Scale, to: &Scale, cell: [u64; 3], axis: usize) -> (i64, u64)
     requires next { IsNext from.now to.now }
@@ -19,9 +33,7 @@ fn find_span(from: &Scale, to: &Scale, cell: [u64; 3], axis: usize) -> (i64, u64
     ensures size { result.1 ≡ min (2 * cell_size to.now cell axis)
         (slice_index from.now.size axis - 2 * cell_begin to.now cell axis) }
 {
-    let chunk = to.chunk[axis];
-    let before = cell[axis] * chunk;
-    let own = chunk.min(to.size[axis] - before);
+    let (before, own) = find_own(to, cell, axis);
     (
         from.offset[axis] + (2 * before) as i64,
         (2 * own).min(from.size[axis] - 2 * before),
@@ -64,9 +76,7 @@ fn find_over(from: &Scale, to: &Scale, source: [u64; 3], axis: usize) -> (i64, u
     ensures size { result.1 ≡ (cell_begin from.now source axis + cell_size from.now source axis + 1) / 2
         - cell_begin from.now source axis / 2 }
 {
-    let chunk = from.chunk[axis];
-    let before = source[axis] * chunk;
-    let own = chunk.min(from.size[axis] - before);
+    let (before, own) = find_own(from, source, axis);
     (
         to.offset[axis] + (before / 2) as i64,
         (before + own + 1) / 2 - before / 2,
