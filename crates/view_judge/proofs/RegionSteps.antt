@@ -63,6 +63,17 @@ is_shared v grid part region b beside inside is meets e =
       few = subst (λ n. n ≤ 2 ^ 30) same short.few;
     }
 
+-- the same of the view as it is held,
+pub held_shared : (v held grid : Scale) (part : Box3) (region : Cell) (b : Box3) → v ≡ held → IsBeside v grid → Inside v part → IsCell grid region → Meets grid region part → b ≡ common (cell_box grid region) part → IsShared held grid b
+held_shared v held grid part region b same beside inside is meets e = subst (λ s. IsShared s grid b) same (is_shared v grid part region b beside inside is meets e)
+
+-- and of a cell of its own
+pub own_shared : (v held : Scale) (part : Box3) (cell : Cell) (b : Box3) → v ≡ held → Inside v part → IsCell v cell → Meets v cell part → b ≡ common (cell_box held cell) part → IsShared held v b
+own_shared v held part cell b same inside is meets e =
+    let own : b ≡ common (cell_box v cell) part = e ∙ ap (λ (s : Scale). common (cell_box s cell) part) (sym same) in
+    let short = is_short v part cell b meets own in
+    subst (λ s. IsShared s v b) same (record { inside = subst (Inside v) (sym own) (shared_inside v part cell inside is meets); room = short.room; few = short.few })
+
 -- tests that are the same on each element of a list keep the same ones
 filter_same : {X : Type 0} (p q : X → Bool) (xs : List X) → All (λ x. p x ≡ q x) xs → filter p xs ≡ filter q xs
 filter_same p q [] h = refl

@@ -1,7 +1,8 @@
 -- The further views that are held to be judged (this project's).
-use Rattle.std.specs.Prelude.{◌≡◌, ℕ, ◌≤◌, length, map, All, List, None}
+use Rattle.std.specs.Prelude.{◌≡◌, ℕ, ◌≤◌, ◌^◌, length, map, All, List, None}
 use Rattle.chunk_pool.specs.Frames.{Filled}
-use Rattle.vol_spec.specs.Grid.{whole}
+use Rattle.vol_base.specs.declared.boxes.Box3.{Box3}
+use Rattle.vol_spec.specs.Grid.{Inside, whole}
 use Rattle.vol_spec.specs.Limits.{first_bytes}
 use Rattle.vol_spec.specs.Types.{Name}
 use Rattle.vol_spec.specs.declared.scale.Scale.{Scale}
@@ -28,6 +29,19 @@ opened dataset view = record { dataset = dataset; scale = view }
 -- all further views of a scale
 abbrev pub all_opened : Name → Scale → List Opened
 all_opened dataset s = map (opened dataset) (further s)
+
+-- the further views of a first one, some and few, all opened, and a part inside it
+pub record AreOpened (first : Opened) (further : List Opened) (part : Box3) : Type 0 where
+  pub views : further ≡ all_opened first.dataset first.scale
+  pub some : 1 ≤ length further
+  pub few : length further ≤ 2 ^ 22
+  pub inside : Inside first.scale part
+
+-- a view of the same data set beside the first one, and a part inside it
+pub record StandsBeside (first view : Opened) (part : Box3) : Type 0 where
+  pub beside : IsBeside first.scale view.scale
+  pub same_dataset : view.dataset ≡ first.dataset
+  pub inside : Inside view.scale part
 
 -- so many bytes are room for the values of the longest cell of a scale;
 abbrev pub HasRoom : Scale → ℕ → Type 0

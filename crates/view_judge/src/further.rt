@@ -8,7 +8,7 @@ ghost use Rattle.vol_spec.specs.Grid.{cell_box as box_of, cells_in, Inside, IsCe
 ghost use Rattle.vol_spec.specs.Raw.{raw_len};
 ghost use Rattle.size_laws.specs.Findings.{common};
 ghost use Rattle.view_judge.specs.Answers.{AreNamed, ComparesBox, JudgesBox, JudgesCell, JudgesOwn, JudgesView};
-ghost use Rattle.view_judge.specs.Further.{HasRoom, IsBeside, opened};
+ghost use Rattle.view_judge.specs.Further.{HasRoom, IsBeside, opened, StandsBeside};
 ghost use Rattle.view_judge.specs.Judging.{cells_cost, own_cost, pair_cost};
 ghost use Rattle.view_judge.specs.Regions.{own_regions};
 
@@ -131,9 +131,7 @@ impl FurtherView {
         found: &mut [u8],
         wanted: &mut [u8],
     ) -> Result<(), ViewFault>
-        requires beside { IsBeside first.old.scale self.old.scale }
-        requires dataset { self.old.dataset ≡ first.old.dataset }
-        requires inside { Inside self.old.scale part.now }
+        requires beside { StandsBeside first.old self.old part.now }
         requires grid { IsBeside self.old.scale regions.now }
         requires region { IsCell regions.now region }
         requires meets { Meets regions.now region part.now }
@@ -176,9 +174,7 @@ impl FurtherView {
         found: &mut [u8],
         wanted: &mut [u8],
     ) -> Result<(), ViewFault>
-        requires beside { IsBeside first.old.scale self.old.scale }
-        requires dataset { self.old.dataset ≡ first.old.dataset }
-        requires inside { Inside self.old.scale part.now }
+        requires beside { StandsBeside first.old self.old part.now }
         requires grid { IsBeside self.old.scale regions.now }
         requires found { HasRoom regions.now (length found.old) }
         requires wanted { HasRoom regions.now (length wanted.old) }
@@ -215,9 +211,7 @@ impl FurtherView {
         found: &mut [u8],
         wanted: &mut [u8],
     ) -> Result<(), ViewFault>
-        requires beside { IsBeside first.old.scale self.old.scale }
-        requires dataset { self.old.dataset ≡ first.old.dataset }
-        requires inside { Inside self.old.scale part.now }
+        requires beside { StandsBeside first.old self.old part.now }
         requires scale { scale.now ≡ first.old.scale }
         requires found { HasRoom (own_regions first.old.scale self.old.scale) (length found.old) }
         requires wanted { HasRoom (own_regions first.old.scale self.old.scale) (length wanted.old) }
@@ -248,9 +242,7 @@ impl FurtherView {
         found: &mut [u8],
         wanted: &mut [u8],
     ) -> Result<bool, ViewFault>
-        requires beside { IsBeside first.old.scale self.old.scale }
-        requires dataset { self.old.dataset ≡ first.old.dataset }
-        requires inside { Inside self.old.scale part.now }
+        requires beside { StandsBeside first.old self.old part.now }
         requires cell { IsCell self.old.scale cell }
         requires meets { Meets self.old.scale cell part.now }
         requires found { HasRoom self.old.scale (length found.old) }
@@ -295,9 +287,7 @@ impl FurtherView {
         found: &mut [u8],
         wanted: &mut [u8],
     ) -> Result<ViewsReport, ViewFault>
-        requires beside { IsBeside first.old.scale self.old.scale }
-        requires dataset { self.old.dataset ≡ first.old.dataset }
-        requires inside { Inside self.old.scale part.now }
+        requires beside { StandsBeside first.old self.old part.now }
         requires few { length (cells_in self.old.scale part.now) ≤ 2 ^ 22 }
         requires found { HasRoom self.old.scale (length found.old) }
         requires wanted { HasRoom self.old.scale (length wanted.old) }

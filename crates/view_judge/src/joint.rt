@@ -8,7 +8,7 @@ ghost use Rattle.vol_spec.specs.Raw.{raw_len};
 ghost use Rattle.size_laws.specs.Findings.{common};
 ghost use Rattle.size_laws.specs.Further.{further as further_of};
 ghost use Rattle.view_judge.specs.Answers.{ComparesAll, JudgesBoxes, JudgesRegions};
-ghost use Rattle.view_judge.specs.Further.{all_opened, HasRoom, HasRooms};
+ghost use Rattle.view_judge.specs.Further.{all_opened, AreOpened, HasRoom, HasRooms};
 ghost use Rattle.view_judge.specs.Judging.{compare_cost, joint_cost, own_cost, region_cost, regions_cost};
 ghost use Rattle.view_judge.specs.Regions.{own_regions, regions as regions_of};
 
@@ -31,10 +31,7 @@ fn judge_boxes<S: Source>(
     found: &mut [u8],
     wanted: &mut [u8],
 ) -> Result<(), ViewFault>
-    requires views { further.old ≡ all_opened first.old.dataset first.old.scale }
-    requires some { 1 ≤ length further.old }
-    requires few { length further.old ≤ 2 ^ 22 }
-    requires inside { Inside first.old.scale part.now }
+    requires views { AreOpened first.old further.old part.now }
     requires found { length found.old ≡ raw_len part.now first.old.scale.channels first.old.scale.width }
     requires wanted { length wanted.old ≡ raw_len part.now first.old.scale.channels first.old.scale.width }
     requires limit { raw_len part.now first.old.scale.channels first.old.scale.width ≤ 2 ^ 30 }
@@ -75,11 +72,8 @@ fn judge_region<S: Source>(
     found: &mut [u8],
     wanted: &mut [u8],
 ) -> Result<(), ViewFault>
-    requires views { further.old ≡ all_opened first.old.dataset first.old.scale }
-    requires some { 1 ≤ length further.old }
-    requires few { length further.old ≤ 2 ^ 22 }
+    requires views { AreOpened first.old further.old part.now }
     requires regions { regions.now ≡ regions_of first.old.scale }
-    requires inside { Inside first.old.scale part.now }
     requires region { IsCell regions.now region }
     requires meets { Meets regions.now region part.now }
     requires found { HasRoom regions.now (length found.old) }
@@ -118,11 +112,8 @@ fn judge_regions<S: Source>(
     found: &mut [u8],
     wanted: &mut [u8],
 ) -> Result<(), ViewFault>
-    requires views { further.old ≡ all_opened first.old.dataset first.old.scale }
-    requires some { 1 ≤ length further.old }
-    requires few { length further.old ≤ 2 ^ 22 }
+    requires views { AreOpened first.old further.old part.now }
     requires regions { regions.now ≡ regions_of first.old.scale }
-    requires inside { Inside first.old.scale part.now }
     requires found { HasRoom regions.now (length found.old) }
     requires wanted { HasRoom regions.now (length wanted.old) }
     requires bytes { IfSome (S.objects store.old) HaveBytes }
@@ -205,11 +196,8 @@ pub(crate) fn compare_views<S: Source>(
     found: &mut [u8],
     wanted: &mut [u8],
 ) -> Result<(), ViewFault>
-    requires views { further.old ≡ all_opened first.old.dataset first.old.scale }
-    requires some { 1 ≤ length further.old }
-    requires few { length further.old ≤ 2 ^ 22 }
+    requires views { AreOpened first.old further.old part.now }
     requires scale { scale.now ≡ first.old.scale }
-    requires inside { Inside first.old.scale part.now }
     requires found { HasRooms first.old.scale (length found.old) }
     requires wanted { HasRooms first.old.scale (length wanted.old) }
     requires bytes { IfSome (S.objects store.old) HaveBytes }

@@ -13,13 +13,11 @@ use Rattle.view_judge.proofs.WalkSteps.{moved, moved_told}
 use Rattle.view_judge.proofs.joint.judge_apart.Goals as goal
 
 pub judge_own-requires-clause-beside : goal.judge_own-requires-clause-beside
-judge_own-requires-clause-beside g c = next_beside c.args.first.now c.loop-number.first c.loop-number.further c.loop-number.number c.index-further-number.result c.args.part.now c.loop-number.invariant.first (c.loop-number.invariant.views ∙ c.requires.views) c.loop-number-test.true
-
-pub judge_own-requires-clause-dataset : goal.judge_own-requires-clause-dataset
-judge_own-requires-clause-dataset g c = next_dataset c.args.first.now c.loop-number.first c.loop-number.further c.loop-number.number c.index-further-number.result c.args.part.now c.loop-number.invariant.first (c.loop-number.invariant.views ∙ c.requires.views) c.loop-number-test.true
-
-pub judge_own-requires-clause-inside : goal.judge_own-requires-clause-inside
-judge_own-requires-clause-inside g c = next_inside c.args.first.now c.loop-number.first c.loop-number.further c.loop-number.number c.index-further-number.result c.args.part.now c.loop-number.invariant.first (c.loop-number.invariant.views ∙ c.requires.views) c.loop-number-test.true c.requires.inside
+judge_own-requires-clause-beside g c = record {
+  beside = next_beside c.args.first.now c.loop-number.first c.loop-number.further c.loop-number.number c.index-further-number.result c.args.part.now c.loop-number.invariant.first (c.loop-number.invariant.views ∙ c.requires.views) c.loop-number-test.true;
+  same_dataset = next_dataset c.args.first.now c.loop-number.first c.loop-number.further c.loop-number.number c.index-further-number.result c.args.part.now c.loop-number.invariant.first (c.loop-number.invariant.views ∙ c.requires.views) c.loop-number-test.true;
+  inside = next_inside c.args.first.now c.loop-number.first c.loop-number.further c.loop-number.number c.index-further-number.result c.args.part.now c.loop-number.invariant.first (c.loop-number.invariant.views ∙ c.requires.views) c.loop-number-test.true c.requires.inside;
+}
 
 pub judge_own-requires-clause-scale : goal.judge_own-requires-clause-scale
 judge_own-requires-clause-scale g c = c.requires.scale ∙ ap (λ (r : Opened). r.scale) (sym c.loop-number.invariant.first)

@@ -8,52 +8,57 @@ shared_box-shared-requires g c = (c.requires.meets.0, subst (λ b. Covers b c.re
 
 pub overflow_cast-len : goal.overflow_cast-len
 overflow_cast-len g c =
-    let is = region_len c.args.first.now.scale c.args.regions.now c.args.part.now c.args.region c.cell_box.result c.shared_box-shared.result c.requires.regions c.requires.inside c.requires.region c.requires.meets c.cell_box.ensures.positions c.shared_box-shared.ensures c.byte_len-len.result c.byte_len-len.ensures in
-    let few = region_few c.args.first.now.scale c.args.regions.now c.args.part.now c.args.region c.cell_box.result c.shared_box-shared.result c.requires.regions c.requires.inside c.requires.region c.requires.meets c.cell_box.ensures.positions c.shared_box-shared.ensures in
+    let is = region_len c.args.first.now.scale c.args.regions.now c.args.part.now c.args.region c.cell_box.result c.shared_box-shared.result c.requires.regions c.requires.views.inside c.requires.region c.requires.meets c.cell_box.ensures.positions c.shared_box-shared.ensures c.byte_len-len.result c.byte_len-len.ensures in
+    let few = region_few c.args.first.now.scale c.args.regions.now c.args.part.now c.args.region c.cell_box.result c.shared_box-shared.result c.requires.regions c.requires.views.inside c.requires.region c.requires.meets c.cell_box.ensures.positions c.shared_box-shared.ensures in
     omega (arith, is, few)
 
 pub slice_bounds-judge_boxes-end : goal.slice_bounds-judge_boxes-end
 slice_bounds-judge_boxes-end g c =
-    let room = region_room c.args.first.now.scale c.args.regions.now c.args.part.now c.args.region c.cell_box.result c.shared_box-shared.result c.requires.regions c.requires.inside c.requires.region c.requires.meets c.cell_box.ensures.positions c.shared_box-shared.ensures (length c.args.found.now) c.requires.found in
-    let is = region_len c.args.first.now.scale c.args.regions.now c.args.part.now c.args.region c.cell_box.result c.shared_box-shared.result c.requires.regions c.requires.inside c.requires.region c.requires.meets c.cell_box.ensures.positions c.shared_box-shared.ensures c.byte_len-len.result c.byte_len-len.ensures in
+    let room = region_room c.args.first.now.scale c.args.regions.now c.args.part.now c.args.region c.cell_box.result c.shared_box-shared.result c.requires.regions c.requires.views.inside c.requires.region c.requires.meets c.cell_box.ensures.positions c.shared_box-shared.ensures (length c.args.found.now) c.requires.found in
+    let is = region_len c.args.first.now.scale c.args.regions.now c.args.part.now c.args.region c.cell_box.result c.shared_box-shared.result c.requires.regions c.requires.views.inside c.requires.region c.requires.meets c.cell_box.ensures.positions c.shared_box-shared.ensures c.byte_len-len.result c.byte_len-len.ensures in
     omega (arith, room, is)
 
 pub slice_bounds-judge_boxes-end-2 : goal.slice_bounds-judge_boxes-end-2
 slice_bounds-judge_boxes-end-2 g c =
-    let room = region_room c.args.first.now.scale c.args.regions.now c.args.part.now c.args.region c.cell_box.result c.shared_box-shared.result c.requires.regions c.requires.inside c.requires.region c.requires.meets c.cell_box.ensures.positions c.shared_box-shared.ensures (length c.args.found.now) c.requires.found in
-    let is = region_len c.args.first.now.scale c.args.regions.now c.args.part.now c.args.region c.cell_box.result c.shared_box-shared.result c.requires.regions c.requires.inside c.requires.region c.requires.meets c.cell_box.ensures.positions c.shared_box-shared.ensures c.byte_len-len.result c.byte_len-len.ensures in
+    let room = region_room c.args.first.now.scale c.args.regions.now c.args.part.now c.args.region c.cell_box.result c.shared_box-shared.result c.requires.regions c.requires.views.inside c.requires.region c.requires.meets c.cell_box.ensures.positions c.shared_box-shared.ensures (length c.args.found.now) c.requires.found in
+    let is = region_len c.args.first.now.scale c.args.regions.now c.args.part.now c.args.region c.cell_box.result c.shared_box-shared.result c.requires.regions c.requires.views.inside c.requires.region c.requires.meets c.cell_box.ensures.positions c.shared_box-shared.ensures c.byte_len-len.result c.byte_len-len.ensures in
     let cut = length-take c.byte_len-len.result c.args.found.now in
     omega (arith, room, is, cut)
 
 pub slice_bounds-judge_boxes-end-3 : goal.slice_bounds-judge_boxes-end-3
 slice_bounds-judge_boxes-end-3 g c =
-    let room = region_room c.args.first.now.scale c.args.regions.now c.args.part.now c.args.region c.cell_box.result c.shared_box-shared.result c.requires.regions c.requires.inside c.requires.region c.requires.meets c.cell_box.ensures.positions c.shared_box-shared.ensures (length c.args.wanted.now) c.requires.wanted in
-    let is = region_len c.args.first.now.scale c.args.regions.now c.args.part.now c.args.region c.cell_box.result c.shared_box-shared.result c.requires.regions c.requires.inside c.requires.region c.requires.meets c.cell_box.ensures.positions c.shared_box-shared.ensures c.byte_len-len.result c.byte_len-len.ensures in
+    let room = region_room c.args.first.now.scale c.args.regions.now c.args.part.now c.args.region c.cell_box.result c.shared_box-shared.result c.requires.regions c.requires.views.inside c.requires.region c.requires.meets c.cell_box.ensures.positions c.shared_box-shared.ensures (length c.args.wanted.now) c.requires.wanted in
+    let is = region_len c.args.first.now.scale c.args.regions.now c.args.part.now c.args.region c.cell_box.result c.shared_box-shared.result c.requires.regions c.requires.views.inside c.requires.region c.requires.meets c.cell_box.ensures.positions c.shared_box-shared.ensures c.byte_len-len.result c.byte_len-len.ensures in
     omega (arith, room, is)
 
 pub slice_bounds-judge_boxes-end-4 : goal.slice_bounds-judge_boxes-end-4
 slice_bounds-judge_boxes-end-4 g c =
-    let room = region_room c.args.first.now.scale c.args.regions.now c.args.part.now c.args.region c.cell_box.result c.shared_box-shared.result c.requires.regions c.requires.inside c.requires.region c.requires.meets c.cell_box.ensures.positions c.shared_box-shared.ensures (length c.args.wanted.now) c.requires.wanted in
-    let is = region_len c.args.first.now.scale c.args.regions.now c.args.part.now c.args.region c.cell_box.result c.shared_box-shared.result c.requires.regions c.requires.inside c.requires.region c.requires.meets c.cell_box.ensures.positions c.shared_box-shared.ensures c.byte_len-len.result c.byte_len-len.ensures in
+    let room = region_room c.args.first.now.scale c.args.regions.now c.args.part.now c.args.region c.cell_box.result c.shared_box-shared.result c.requires.regions c.requires.views.inside c.requires.region c.requires.meets c.cell_box.ensures.positions c.shared_box-shared.ensures (length c.args.wanted.now) c.requires.wanted in
+    let is = region_len c.args.first.now.scale c.args.regions.now c.args.part.now c.args.region c.cell_box.result c.shared_box-shared.result c.requires.regions c.requires.views.inside c.requires.region c.requires.meets c.cell_box.ensures.positions c.shared_box-shared.ensures c.byte_len-len.result c.byte_len-len.ensures in
     let cut = length-take c.byte_len-len.result c.args.wanted.now in
     omega (arith, room, is, cut)
 
-pub judge_boxes-requires-clause-inside : goal.judge_boxes-requires-clause-inside
-judge_boxes-requires-clause-inside g c = region_inside c.args.first.now.scale c.args.regions.now c.args.part.now c.args.region c.cell_box.result c.shared_box-shared.result c.requires.regions c.requires.inside c.requires.region c.requires.meets c.cell_box.ensures.positions c.shared_box-shared.ensures
+pub judge_boxes-requires-clause-views : goal.judge_boxes-requires-clause-views
+judge_boxes-requires-clause-views g c = record {
+  views = c.requires.views.views;
+  some = c.requires.views.some;
+  few = c.requires.views.few;
+  inside = region_inside c.args.first.now.scale c.args.regions.now c.args.part.now c.args.region c.cell_box.result c.shared_box-shared.result c.requires.regions c.requires.views.inside c.requires.region c.requires.meets c.cell_box.ensures.positions c.shared_box-shared.ensures;
+}
 
 pub judge_boxes-requires-clause-limit : goal.judge_boxes-requires-clause-limit
-judge_boxes-requires-clause-limit g c = region_few c.args.first.now.scale c.args.regions.now c.args.part.now c.args.region c.cell_box.result c.shared_box-shared.result c.requires.regions c.requires.inside c.requires.region c.requires.meets c.cell_box.ensures.positions c.shared_box-shared.ensures
+judge_boxes-requires-clause-limit g c = region_few c.args.first.now.scale c.args.regions.now c.args.part.now c.args.region c.cell_box.result c.shared_box-shared.result c.requires.regions c.requires.views.inside c.requires.region c.requires.meets c.cell_box.ensures.positions c.shared_box-shared.ensures
 
 pub judge_boxes-requires-clause-found : goal.judge_boxes-requires-clause-found
 judge_boxes-requires-clause-found g c =
-    let room = region_room c.args.first.now.scale c.args.regions.now c.args.part.now c.args.region c.cell_box.result c.shared_box-shared.result c.requires.regions c.requires.inside c.requires.region c.requires.meets c.cell_box.ensures.positions c.shared_box-shared.ensures (length c.args.found.now) c.requires.found in
-    let is = region_len c.args.first.now.scale c.args.regions.now c.args.part.now c.args.region c.cell_box.result c.shared_box-shared.result c.requires.regions c.requires.inside c.requires.region c.requires.meets c.cell_box.ensures.positions c.shared_box-shared.ensures c.byte_len-len.result c.byte_len-len.ensures in
+    let room = region_room c.args.first.now.scale c.args.regions.now c.args.part.now c.args.region c.cell_box.result c.shared_box-shared.result c.requires.regions c.requires.views.inside c.requires.region c.requires.meets c.cell_box.ensures.positions c.shared_box-shared.ensures (length c.args.found.now) c.requires.found in
+    let is = region_len c.args.first.now.scale c.args.regions.now c.args.part.now c.args.region c.cell_box.result c.shared_box-shared.result c.requires.regions c.requires.views.inside c.requires.region c.requires.meets c.cell_box.ensures.positions c.shared_box-shared.ensures c.byte_len-len.result c.byte_len-len.ensures in
     let cut = length-take c.byte_len-len.result c.args.found.now in
     omega (arith, room, is, cut)
 
 pub judge_boxes-requires-clause-wanted : goal.judge_boxes-requires-clause-wanted
 judge_boxes-requires-clause-wanted g c =
-    let room = region_room c.args.first.now.scale c.args.regions.now c.args.part.now c.args.region c.cell_box.result c.shared_box-shared.result c.requires.regions c.requires.inside c.requires.region c.requires.meets c.cell_box.ensures.positions c.shared_box-shared.ensures (length c.args.wanted.now) c.requires.wanted in
-    let is = region_len c.args.first.now.scale c.args.regions.now c.args.part.now c.args.region c.cell_box.result c.shared_box-shared.result c.requires.regions c.requires.inside c.requires.region c.requires.meets c.cell_box.ensures.positions c.shared_box-shared.ensures c.byte_len-len.result c.byte_len-len.ensures in
+    let room = region_room c.args.first.now.scale c.args.regions.now c.args.part.now c.args.region c.cell_box.result c.shared_box-shared.result c.requires.regions c.requires.views.inside c.requires.region c.requires.meets c.cell_box.ensures.positions c.shared_box-shared.ensures (length c.args.wanted.now) c.requires.wanted in
+    let is = region_len c.args.first.now.scale c.args.regions.now c.args.part.now c.args.region c.cell_box.result c.shared_box-shared.result c.requires.regions c.requires.views.inside c.requires.region c.requires.meets c.cell_box.ensures.positions c.shared_box-shared.ensures c.byte_len-len.result c.byte_len-len.ensures in
     let cut = length-take c.byte_len-len.result c.args.wanted.now in
     omega (arith, room, is, cut)

@@ -6,6 +6,8 @@ use Rattle.vol_spec.specs.declared.scale.Scale.{Scale}
 use Rattle.chunk_grid.proofs.Walked.{at_end, here, one_on}
 use Rattle.size_laws.specs.Findings.{common}
 use Rattle.view_judge.specs.Answers.{AllAgree, IsWrong, JudgesBoxes}
+use Rattle.cutout.specs.Opened.{Opened}
+use Rattle.view_judge.specs.Further.{AreOpened}
 use Rattle.view_judge.specs.Judging.{region_cost}
 use Rattle.view_judge.specs.Regions.{regions}
 use Rattle.view_judge.proofs.CellSteps.{beside_inside_back}
@@ -17,7 +19,7 @@ use Rattle.view_judge.proofs.joint.judge_regions.Goals as goal
 pub cells-region-items-requires : goal.cells-region-items-requires
 cells-region-items-requires g c =
     subst (λ (r : Scale). Inside r c.args.part.now) (sym c.requires.regions)
-    (beside_inside_back c.args.first.now.scale (regions c.args.first.now.scale) c.args.part.now (regions_beside c.args.first.now.scale) c.requires.inside)
+    (beside_inside_back c.args.first.now.scale (regions c.args.first.now.scale) c.args.part.now (regions_beside c.args.first.now.scale) c.requires.views.inside)
 
 pub loop-region-init : goal.loop-region-init
 loop-region-init g c = record {
@@ -29,6 +31,11 @@ loop-region-init g c = record {
   kept = record { same_objects = refl; same_draft = refl };
   later = refl;
 }
+
+pub judge_region-requires-clause-views : goal.judge_region-requires-clause-views
+judge_region-requires-clause-views g c =
+    subst (λ (r : Opened). AreOpened r c.loop-region.further c.args.part.now) (sym c.loop-region.invariant.first)
+    (subst (λ further. AreOpened c.args.first.now further c.args.part.now) (sym c.loop-region.invariant.further) c.requires.views)
 
 pub judge_region-requires-clause-region : goal.judge_region-requires-clause-region
 judge_region-requires-clause-region g c =

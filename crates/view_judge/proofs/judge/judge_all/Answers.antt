@@ -10,11 +10,11 @@ use Rattle.view_judge.proofs.ViewSteps.{opened_length, views_few}
 use Rattle.view_judge.proofs.WalkSteps.{moved, moved_told}
 use Rattle.view_judge.proofs.judge.judge_all.Goals as goal
 
-pub compare_views-requires-clause-few : goal.compare_views-requires-clause-few
-compare_views-requires-clause-few g c =
+pub compare_views-requires-clause-views : goal.compare_views-requires-clause-views
+compare_views-requires-clause-views g c =
     let len = opened_length c.args.first.now.dataset c.args.first.now.scale c.args.further.now c.requires.views in
     let few = views_few c.args.first.now.scale c.args.part.now c.requires.inside c.requires.few in
-    omega (arith, len, few)
+    record { views = c.requires.views; some = c.requires.some; few = omega (arith, len, few); inside = c.requires.inside }
 
 pub returns-in-Ok-judge_views-clause-judged : goal.returns-in-Ok-judge_views-clause-judged
 returns-in-Ok-judge_views-clause-judged g c =

@@ -22,13 +22,11 @@ overflow_add-k g c =
     omega (arith, below, few)
 
 pub judge_cells-requires-clause-beside : goal.judge_cells-requires-clause-beside
-judge_cells-requires-clause-beside g c = next_beside c.args.first.now c.loop-k.first c.loop-k.further c.loop-k.k c.index-further-k.result c.args.part.now c.loop-k.invariant.first (c.loop-k.invariant.views ∙ c.requires.views) c.loop-k-test.true
-
-pub judge_cells-requires-clause-dataset : goal.judge_cells-requires-clause-dataset
-judge_cells-requires-clause-dataset g c = next_dataset c.args.first.now c.loop-k.first c.loop-k.further c.loop-k.k c.index-further-k.result c.args.part.now c.loop-k.invariant.first (c.loop-k.invariant.views ∙ c.requires.views) c.loop-k-test.true
-
-pub judge_cells-requires-clause-inside : goal.judge_cells-requires-clause-inside
-judge_cells-requires-clause-inside g c = next_inside c.args.first.now c.loop-k.first c.loop-k.further c.loop-k.k c.index-further-k.result c.args.part.now c.loop-k.invariant.first (c.loop-k.invariant.views ∙ c.requires.views) c.loop-k-test.true c.requires.inside
+judge_cells-requires-clause-beside g c = record {
+  beside = next_beside c.args.first.now c.loop-k.first c.loop-k.further c.loop-k.k c.index-further-k.result c.args.part.now c.loop-k.invariant.first (c.loop-k.invariant.views ∙ c.requires.views) c.loop-k-test.true;
+  same_dataset = next_dataset c.args.first.now c.loop-k.first c.loop-k.further c.loop-k.k c.index-further-k.result c.args.part.now c.loop-k.invariant.first (c.loop-k.invariant.views ∙ c.requires.views) c.loop-k-test.true;
+  inside = next_inside c.args.first.now c.loop-k.first c.loop-k.further c.loop-k.k c.index-further-k.result c.args.part.now c.loop-k.invariant.first (c.loop-k.invariant.views ∙ c.requires.views) c.loop-k-test.true c.requires.inside;
+}
 
 pub judge_cells-requires-clause-few : goal.judge_cells-requires-clause-few
 judge_cells-requires-clause-few g c = next_few c.args.first.now c.loop-k.first c.loop-k.further c.loop-k.k c.index-further-k.result c.args.part.now c.loop-k.invariant.first (c.loop-k.invariant.views ∙ c.requires.views) c.loop-k-test.true c.requires.few
@@ -45,32 +43,14 @@ judge_cells-requires-clause-wanted g c =
     let same = c.loop-k.auto.wanted in
     omega (arith, room, same)
 
-pub add-report-requires-clause-cells : goal.add-report-requires-clause-cells
-add-report-requires-clause-cells g c =
+pub add-report-requires : goal.add-report-requires
+add-report-requires g c =
     let few = cells_within c.args.first.now.scale c.args.part.now c.loop-k.k c.loop-k.report.cells c.in-Ok.more.cells (next_below c.args.first.now c.loop-k.first c.loop-k.further c.loop-k.k c.index-further-k.result c.args.part.now c.loop-k.invariant.first (c.loop-k.invariant.views ∙ c.requires.views) c.loop-k-test.true) c.loop-k.invariant.cells
     (next_cells c.args.first.now c.loop-k.first c.loop-k.further c.loop-k.k c.index-further-k.result c.args.part.now c.loop-k.invariant.first (c.loop-k.invariant.views ∙ c.requires.views) c.loop-k-test.true c.in-Ok.more.cells c.in-Ok.ensures.cells) in
     let all = c.requires.few in
     let both = c.loop-k.invariant.both in
     let also = c.in-Ok.ensures.both in
-    omega (arith, few, all, both, also)
-
-pub add-report-requires-clause-stored : goal.add-report-requires-clause-stored
-add-report-requires-clause-stored g c =
-    let few = cells_within c.args.first.now.scale c.args.part.now c.loop-k.k c.loop-k.report.cells c.in-Ok.more.cells (next_below c.args.first.now c.loop-k.first c.loop-k.further c.loop-k.k c.index-further-k.result c.args.part.now c.loop-k.invariant.first (c.loop-k.invariant.views ∙ c.requires.views) c.loop-k-test.true) c.loop-k.invariant.cells
-    (next_cells c.args.first.now c.loop-k.first c.loop-k.further c.loop-k.k c.index-further-k.result c.args.part.now c.loop-k.invariant.first (c.loop-k.invariant.views ∙ c.requires.views) c.loop-k-test.true c.in-Ok.more.cells c.in-Ok.ensures.cells) in
-    let all = c.requires.few in
-    let both = c.loop-k.invariant.both in
-    let also = c.in-Ok.ensures.both in
-    omega (arith, few, all, both, also)
-
-pub add-report-requires-clause-absent : goal.add-report-requires-clause-absent
-add-report-requires-clause-absent g c =
-    let few = cells_within c.args.first.now.scale c.args.part.now c.loop-k.k c.loop-k.report.cells c.in-Ok.more.cells (next_below c.args.first.now c.loop-k.first c.loop-k.further c.loop-k.k c.index-further-k.result c.args.part.now c.loop-k.invariant.first (c.loop-k.invariant.views ∙ c.requires.views) c.loop-k-test.true) c.loop-k.invariant.cells
-    (next_cells c.args.first.now c.loop-k.first c.loop-k.further c.loop-k.k c.index-further-k.result c.args.part.now c.loop-k.invariant.first (c.loop-k.invariant.views ∙ c.requires.views) c.loop-k-test.true c.in-Ok.more.cells c.in-Ok.ensures.cells) in
-    let all = c.requires.few in
-    let both = c.loop-k.invariant.both in
-    let also = c.in-Ok.ensures.both in
-    omega (arith, few, all, both, also)
+    record { cells = omega (arith, few, all, both, also); stored = omega (arith, few, all, both, also); absent = omega (arith, few, all, both, also) }
 
 pub loop-k-preserved : goal.loop-k-preserved
 loop-k-preserved g c =

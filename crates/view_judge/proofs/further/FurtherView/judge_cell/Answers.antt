@@ -10,7 +10,8 @@ use Rattle.vol_spec.specs.CellNames.{cell_name}
 use Rattle.view_judge.specs.Answers.{JudgesBox}
 use Rattle.view_judge.specs.Further.{HasRoom}
 use Rattle.view_judge.specs.Judging.{pair_cost}
-use Rattle.view_judge.proofs.CellSteps.{asked_cell, box_inside, cause_again, held_again, is_short, refused_told, sound_told, stood_again}
+use Rattle.view_judge.proofs.CellSteps.{asked_cell, cause_again, held_again, refused_told, sound_told, stood_again}
+use Rattle.view_judge.proofs.RegionSteps.{own_shared}
 use Rattle.view_judge.proofs.further.FurtherView.judge_cell.Goals as goal
 
 pub shared_box-shared-requires : goal.shared_box-shared-requires
@@ -21,37 +22,27 @@ shared_box-shared-requires g c =
 
 pub judge_box-requires-clause-inside : goal.judge_box-requires-clause-inside
 judge_box-requires-clause-inside g c =
-    let same : c.self.inside.scale ≡ c.args.self.now.scale = ap (λ (r : Opened). r.scale) c.self.view_is in
-    let meets : Meets c.self.inside.scale c.args.cell c.args.part.now = subst (λ (v : Scale). Meets v c.args.cell c.args.part.now) (sym same) c.requires.meets in
-    let inside : Inside c.self.inside.scale c.args.part.now = subst (λ (v : Scale). Inside v c.args.part.now) (sym same) c.requires.inside in
-    let cell : IsCell c.self.inside.scale c.args.cell = subst (λ (v : Scale). IsCell v c.args.cell) (sym same) c.requires.cell in
-    box_inside (g.S.Source.objects c.args.store.now) (g.S.Source.objects c.args.store.now) c.args.first.now.dataset c.args.first.now.scale c.args.number c.self.inside.scale c.args.part.now c.args.cell c.shared_box-shared.result inside cell meets
-    (c.shared_box-shared.ensures ∙ ap (λ b. common b c.args.part.now) c.cell_box.ensures.positions) refl
+    let is = own_shared c.args.self.now.scale c.self.inside.scale c.args.part.now c.args.cell c.shared_box-shared.result (sym (ap (λ (r : Opened). r.scale) c.self.view_is)) c.requires.beside.inside c.requires.cell c.requires.meets
+    (c.shared_box-shared.ensures ∙ ap (λ b. common b c.args.part.now) c.cell_box.ensures.positions) in
+    is.inside
 
 pub judge_box-requires-clause-found : goal.judge_box-requires-clause-found
 judge_box-requires-clause-found g c =
-    let same : c.self.inside.scale ≡ c.args.self.now.scale = ap (λ (r : Opened). r.scale) c.self.view_is in
-    let meets : Meets c.self.inside.scale c.args.cell c.args.part.now = subst (λ (v : Scale). Meets v c.args.cell c.args.part.now) (sym same) c.requires.meets in
-    let short = is_short c.self.inside.scale c.args.part.now c.args.cell c.shared_box-shared.result meets (c.shared_box-shared.ensures ∙ ap (λ b. common b c.args.part.now) c.cell_box.ensures.positions) in
-    let room = short.room in
-    let held : HasRoom c.self.inside.scale (length c.args.found.now) = subst (λ (v : Scale). HasRoom v (length c.args.found.now)) (sym same) c.requires.found in
-    omega (arith, room, held)
+    let is = own_shared c.args.self.now.scale c.self.inside.scale c.args.part.now c.args.cell c.shared_box-shared.result (sym (ap (λ (r : Opened). r.scale) c.self.view_is)) c.requires.beside.inside c.requires.cell c.requires.meets
+    (c.shared_box-shared.ensures ∙ ap (λ b. common b c.args.part.now) c.cell_box.ensures.positions) in
+    omega (arith, is.room, c.requires.found)
 
 pub judge_box-requires-clause-wanted : goal.judge_box-requires-clause-wanted
 judge_box-requires-clause-wanted g c =
-    let same : c.self.inside.scale ≡ c.args.self.now.scale = ap (λ (r : Opened). r.scale) c.self.view_is in
-    let meets : Meets c.self.inside.scale c.args.cell c.args.part.now = subst (λ (v : Scale). Meets v c.args.cell c.args.part.now) (sym same) c.requires.meets in
-    let short = is_short c.self.inside.scale c.args.part.now c.args.cell c.shared_box-shared.result meets (c.shared_box-shared.ensures ∙ ap (λ b. common b c.args.part.now) c.cell_box.ensures.positions) in
-    let room = short.room in
-    let held : HasRoom c.self.inside.scale (length c.args.wanted.now) = subst (λ (v : Scale). HasRoom v (length c.args.wanted.now)) (sym same) c.requires.wanted in
-    omega (arith, room, held)
+    let is = own_shared c.args.self.now.scale c.self.inside.scale c.args.part.now c.args.cell c.shared_box-shared.result (sym (ap (λ (r : Opened). r.scale) c.self.view_is)) c.requires.beside.inside c.requires.cell c.requires.meets
+    (c.shared_box-shared.ensures ∙ ap (λ b. common b c.args.part.now) c.cell_box.ensures.positions) in
+    omega (arith, is.room, c.requires.wanted)
 
 pub judge_box-requires-clause-limit : goal.judge_box-requires-clause-limit
 judge_box-requires-clause-limit g c =
-    let same : c.self.inside.scale ≡ c.args.self.now.scale = ap (λ (r : Opened). r.scale) c.self.view_is in
-    let meets : Meets c.self.inside.scale c.args.cell c.args.part.now = subst (λ (v : Scale). Meets v c.args.cell c.args.part.now) (sym same) c.requires.meets in
-    let short = is_short c.self.inside.scale c.args.part.now c.args.cell c.shared_box-shared.result meets (c.shared_box-shared.ensures ∙ ap (λ b. common b c.args.part.now) c.cell_box.ensures.positions) in
-    short.few
+    let is = own_shared c.args.self.now.scale c.self.inside.scale c.args.part.now c.args.cell c.shared_box-shared.result (sym (ap (λ (r : Opened). r.scale) c.self.view_is)) c.requires.beside.inside c.requires.cell c.requires.meets
+    (c.shared_box-shared.ensures ∙ ap (λ b. common b c.args.part.now) c.cell_box.ensures.positions) in
+    is.few
 
 pub returns-in-Err-clause-judged : goal.returns-in-Err-clause-judged
 returns-in-Err-clause-judged g c =
@@ -61,7 +52,7 @@ returns-in-Err-clause-judged g c =
     let b = c.shared_box-shared.result in
     let e : b ≡ common (cell_box c.args.self.now.scale c.args.cell) c.args.part.now =
     c.shared_box-shared.ensures ∙ ap (λ x. common x c.args.part.now) c.cell_box.ensures.positions ∙ ap (λ (v : Scale). common (cell_box v c.args.cell) c.args.part.now) same in
-    refused_told o between c.args.first.now.dataset c.args.first.now.scale c.args.number c.args.self.now.scale c.args.part.now c.args.cell b c.requires.inside c.requires.cell c.requires.meets e c.find_stored.ensures.kept.same_objects
+    refused_told o between c.args.first.now.dataset c.args.first.now.scale c.args.number c.args.self.now.scale c.args.part.now c.args.cell b c.requires.beside.inside c.requires.cell c.requires.meets e c.find_stored.ensures.kept.same_objects
     c.in-Err.fault (subst (λ (v : Scale). IfSome between (λ m. JudgesBox (Err c.in-Err.fault) m c.args.first.now.dataset c.args.first.now.scale c.args.number v b)) same c.in-Err.ensures.judged)
 
 pub returns-clause-judged : goal.returns-clause-judged
@@ -72,8 +63,8 @@ returns-clause-judged g c =
     let b = c.shared_box-shared.result in
     let e : b ≡ common (cell_box c.args.self.now.scale c.args.cell) c.args.part.now =
     c.shared_box-shared.ensures ∙ ap (λ x. common x c.args.part.now) c.cell_box.ensures.positions ∙ ap (λ (v : Scale). common (cell_box v c.args.cell) c.args.part.now) same in
-    let one : c.self.inside.dataset ≡ c.args.first.now.dataset = ap (λ (r : Opened). r.dataset) c.self.view_is ∙ c.requires.dataset in
-    sound_told o between c.args.first.now.dataset c.args.first.now.scale c.args.number c.args.self.now.scale c.args.part.now c.args.cell b c.requires.inside c.requires.cell c.requires.meets e c.find_stored.ensures.kept.same_objects
+    let one : c.self.inside.dataset ≡ c.args.first.now.dataset = ap (λ (r : Opened). r.dataset) c.self.view_is ∙ c.requires.beside.same_dataset in
+    sound_told o between c.args.first.now.dataset c.args.first.now.scale c.args.number c.args.self.now.scale c.args.part.now c.args.cell b c.requires.beside.inside c.requires.cell c.requires.meets e c.find_stored.ensures.kept.same_objects
     tt c.in_ok-is_stored.is_stored (ap (λ (v : Scale). v.sharding) (sym same) ∙ c.self.invariant.unsharded)
     (subst (λ (v : Scale). IfSome o (λ m. c.in_ok-is_stored.is_stored ≡ is_some (fin.get m (cell_name c.args.first.now.dataset v c.args.cell)))) same
     (subst (λ d. IfSome o (λ m. c.in_ok-is_stored.is_stored ≡ is_some (fin.get m (cell_name d c.self.inside.scale c.args.cell)))) one c.in_ok-is_stored.ensures.found))
@@ -87,7 +78,7 @@ returns-in-Err-clause-asked g c =
     let b = c.shared_box-shared.result in
     let e : b ≡ common (cell_box c.args.self.now.scale c.args.cell) c.args.part.now =
     c.shared_box-shared.ensures ∙ ap (λ x. common x c.args.part.now) c.cell_box.ensures.positions ∙ ap (λ (v : Scale). common (cell_box v c.args.cell) c.args.part.now) same in
-    asked_cell o between c.args.first.now.dataset c.args.first.now.scale c.args.number c.args.self.now.scale c.args.part.now c.args.cell b c.requires.inside c.requires.cell c.requires.meets e c.find_stored.ensures.kept.same_objects
+    asked_cell o between c.args.first.now.dataset c.args.first.now.scale c.args.number c.args.self.now.scale c.args.part.now c.args.cell b c.requires.beside.inside c.requires.cell c.requires.meets e c.find_stored.ensures.kept.same_objects
     (g.S.Source.asked c.args.store.now) (g.S.Source.asked c.find_stored.new.store) _ c.find_stored.ensures.asked
     (subst (λ (v : Scale). IfSome between (λ m. g.S.Source.asked c.judge_box.new.store ≤ g.S.Source.asked c.find_stored.new.store + pair_cost m c.args.first.now.dataset c.args.first.now.scale v b)) same c.judge_box.ensures.asked)
 
@@ -99,7 +90,7 @@ returns-clause-asked g c =
     let b = c.shared_box-shared.result in
     let e : b ≡ common (cell_box c.args.self.now.scale c.args.cell) c.args.part.now =
     c.shared_box-shared.ensures ∙ ap (λ x. common x c.args.part.now) c.cell_box.ensures.positions ∙ ap (λ (v : Scale). common (cell_box v c.args.cell) c.args.part.now) same in
-    asked_cell o between c.args.first.now.dataset c.args.first.now.scale c.args.number c.args.self.now.scale c.args.part.now c.args.cell b c.requires.inside c.requires.cell c.requires.meets e c.find_stored.ensures.kept.same_objects
+    asked_cell o between c.args.first.now.dataset c.args.first.now.scale c.args.number c.args.self.now.scale c.args.part.now c.args.cell b c.requires.beside.inside c.requires.cell c.requires.meets e c.find_stored.ensures.kept.same_objects
     (g.S.Source.asked c.args.store.now) (g.S.Source.asked c.find_stored.new.store) _ c.find_stored.ensures.asked
     (subst (λ (v : Scale). IfSome between (λ m. g.S.Source.asked c.judge_box.new.store ≤ g.S.Source.asked c.find_stored.new.store + pair_cost m c.args.first.now.dataset c.args.first.now.scale v b)) same c.judge_box.ensures.asked)
 

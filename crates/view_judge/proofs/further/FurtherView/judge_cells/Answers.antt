@@ -8,7 +8,7 @@ use Rattle.chunk_grid.proofs.Walked.{at_end, here, one_on}
 use Rattle.cutout.specs.Opened.{Opened}
 use Rattle.size_laws.specs.Findings.{common}
 use Rattle.view_judge.specs.Answers.{AreCells, JudgesCell}
-use Rattle.view_judge.specs.Further.{IsBeside}
+use Rattle.view_judge.specs.Further.{IsBeside, StandsBeside}
 use Rattle.view_judge.specs.Judging.{pair_cost}
 use Rattle.view_judge.proofs.WalkSteps.{IsOne, IsSum, asked_all, asked_more, asked_next, asked_none, both_more, cell_stops, cells_more, moved, moved_told}
 use Rattle.view_judge.proofs.further.FurtherView.judge_cells.Goals as goal
@@ -28,13 +28,8 @@ loop-cell-init g c = record {
 
 pub judge_cell-requires-clause-beside : goal.judge_cell-requires-clause-beside
 judge_cell-requires-clause-beside g c =
-    subst (λ (r : Opened). IsBeside r.scale c.loop-cell.self.scale) (sym c.loop-cell.invariant.first) (subst (λ (r : Opened). IsBeside c.args.first.now.scale r.scale) (sym c.loop-cell.invariant.same) c.requires.beside)
-
-pub judge_cell-requires-clause-dataset : goal.judge_cell-requires-clause-dataset
-judge_cell-requires-clause-dataset g c = ap (λ (r : Opened). r.dataset) c.loop-cell.invariant.same ∙ c.requires.dataset ∙ ap (λ (r : Opened). r.dataset) (sym c.loop-cell.invariant.first)
-
-pub judge_cell-requires-clause-inside : goal.judge_cell-requires-clause-inside
-judge_cell-requires-clause-inside g c = subst (λ (r : Opened). Inside r.scale c.args.part.now) (sym c.loop-cell.invariant.same) c.requires.inside
+    subst (λ (r : Opened). StandsBeside r c.loop-cell.self c.args.part.now) (sym c.loop-cell.invariant.first)
+    (subst (λ (r : Opened). StandsBeside c.args.first.now r c.args.part.now) (sym c.loop-cell.invariant.same) c.requires.beside)
 
 pub judge_cell-requires-clause-cell : goal.judge_cell-requires-clause-cell
 judge_cell-requires-clause-cell g c =

@@ -6,7 +6,7 @@ use Rattle.size_laws.specs.Findings.{common}
 use Rattle.view_judge.specs.Answers.{JudgesBox}
 use Rattle.view_judge.specs.Judging.{pair_cost}
 use Rattle.view_judge.proofs.CellSteps.{held_again}
-use Rattle.view_judge.proofs.RegionSteps.{IsShared, is_shared}
+use Rattle.view_judge.proofs.RegionSteps.{held_shared}
 use Rattle.view_judge.proofs.further.FurtherView.judge_region.Goals as goal
 
 pub shared_box-shared-requires : goal.shared_box-shared-requires
@@ -14,38 +14,26 @@ shared_box-shared-requires g c = (c.requires.meets.0, subst (λ b. Covers b c.re
 
 pub judge_box-requires-clause-inside : goal.judge_box-requires-clause-inside
 judge_box-requires-clause-inside g c =
-    let same : c.args.self.now.scale ≡ c.self.inside.scale = sym (ap (λ (r : Opened). r.scale) c.self.view_is) in
-    let is : IsShared c.self.inside.scale c.args.regions.now c.shared_box-shared.result = subst (λ v. IsShared v c.args.regions.now c.shared_box-shared.result) same
-    (is_shared c.args.self.now.scale c.args.regions.now c.args.part.now c.args.region c.shared_box-shared.result c.requires.grid c.requires.inside c.requires.region c.requires.meets
-    (c.shared_box-shared.ensures ∙ ap (λ x. common x c.args.part.now) c.cell_box.ensures.positions)) in
+    let is = held_shared c.args.self.now.scale c.self.inside.scale c.args.regions.now c.args.part.now c.args.region c.shared_box-shared.result (sym (ap (λ (r : Opened). r.scale) c.self.view_is)) c.requires.grid c.requires.beside.inside c.requires.region c.requires.meets
+    (c.shared_box-shared.ensures ∙ ap (λ x. common x c.args.part.now) c.cell_box.ensures.positions) in
     is.inside
 
 pub judge_box-requires-clause-found : goal.judge_box-requires-clause-found
 judge_box-requires-clause-found g c =
-    let same : c.args.self.now.scale ≡ c.self.inside.scale = sym (ap (λ (r : Opened). r.scale) c.self.view_is) in
-    let is : IsShared c.self.inside.scale c.args.regions.now c.shared_box-shared.result = subst (λ v. IsShared v c.args.regions.now c.shared_box-shared.result) same
-    (is_shared c.args.self.now.scale c.args.regions.now c.args.part.now c.args.region c.shared_box-shared.result c.requires.grid c.requires.inside c.requires.region c.requires.meets
-    (c.shared_box-shared.ensures ∙ ap (λ x. common x c.args.part.now) c.cell_box.ensures.positions)) in
-    let room = is.room in
-    let held = c.requires.found in
-    omega (arith, room, held)
+    let is = held_shared c.args.self.now.scale c.self.inside.scale c.args.regions.now c.args.part.now c.args.region c.shared_box-shared.result (sym (ap (λ (r : Opened). r.scale) c.self.view_is)) c.requires.grid c.requires.beside.inside c.requires.region c.requires.meets
+    (c.shared_box-shared.ensures ∙ ap (λ x. common x c.args.part.now) c.cell_box.ensures.positions) in
+    omega (arith, is.room, c.requires.found)
 
 pub judge_box-requires-clause-wanted : goal.judge_box-requires-clause-wanted
 judge_box-requires-clause-wanted g c =
-    let same : c.args.self.now.scale ≡ c.self.inside.scale = sym (ap (λ (r : Opened). r.scale) c.self.view_is) in
-    let is : IsShared c.self.inside.scale c.args.regions.now c.shared_box-shared.result = subst (λ v. IsShared v c.args.regions.now c.shared_box-shared.result) same
-    (is_shared c.args.self.now.scale c.args.regions.now c.args.part.now c.args.region c.shared_box-shared.result c.requires.grid c.requires.inside c.requires.region c.requires.meets
-    (c.shared_box-shared.ensures ∙ ap (λ x. common x c.args.part.now) c.cell_box.ensures.positions)) in
-    let room = is.room in
-    let held = c.requires.wanted in
-    omega (arith, room, held)
+    let is = held_shared c.args.self.now.scale c.self.inside.scale c.args.regions.now c.args.part.now c.args.region c.shared_box-shared.result (sym (ap (λ (r : Opened). r.scale) c.self.view_is)) c.requires.grid c.requires.beside.inside c.requires.region c.requires.meets
+    (c.shared_box-shared.ensures ∙ ap (λ x. common x c.args.part.now) c.cell_box.ensures.positions) in
+    omega (arith, is.room, c.requires.wanted)
 
 pub judge_box-requires-clause-limit : goal.judge_box-requires-clause-limit
 judge_box-requires-clause-limit g c =
-    let same : c.args.self.now.scale ≡ c.self.inside.scale = sym (ap (λ (r : Opened). r.scale) c.self.view_is) in
-    let is : IsShared c.self.inside.scale c.args.regions.now c.shared_box-shared.result = subst (λ v. IsShared v c.args.regions.now c.shared_box-shared.result) same
-    (is_shared c.args.self.now.scale c.args.regions.now c.args.part.now c.args.region c.shared_box-shared.result c.requires.grid c.requires.inside c.requires.region c.requires.meets
-    (c.shared_box-shared.ensures ∙ ap (λ x. common x c.args.part.now) c.cell_box.ensures.positions)) in
+    let is = held_shared c.args.self.now.scale c.self.inside.scale c.args.regions.now c.args.part.now c.args.region c.shared_box-shared.result (sym (ap (λ (r : Opened). r.scale) c.self.view_is)) c.requires.grid c.requires.beside.inside c.requires.region c.requires.meets
+    (c.shared_box-shared.ensures ∙ ap (λ x. common x c.args.part.now) c.cell_box.ensures.positions) in
     is.few
 
 pub returns-clause-judged : goal.returns-clause-judged

@@ -7,7 +7,7 @@ use Rattle.chunk_grid.proofs.Walked.{at_end, here, one_on}
 use Rattle.cutout.specs.Opened.{Opened}
 use Rattle.size_laws.specs.Findings.{common}
 use Rattle.view_judge.specs.Answers.{Agree, JudgesBox, JudgesOwn}
-use Rattle.view_judge.specs.Further.{IsBeside}
+use Rattle.view_judge.specs.Further.{IsBeside, StandsBeside}
 use Rattle.view_judge.specs.Judging.{pair_cost}
 use Rattle.view_judge.proofs.CellSteps.{beside_inside_back}
 use Rattle.view_judge.proofs.SharedSteps.{common_right, common_some}
@@ -27,14 +27,8 @@ loop-region-init g c = record {
 
 pub judge_region-requires-clause-beside : goal.judge_region-requires-clause-beside
 judge_region-requires-clause-beside g c =
-    subst (λ (r : Opened). IsBeside r.scale c.loop-region.self.scale) (sym c.loop-region.invariant.first) (subst (λ (r : Opened). IsBeside c.args.first.now.scale r.scale) (sym c.loop-region.invariant.same) c.requires.beside)
-
-pub judge_region-requires-clause-dataset : goal.judge_region-requires-clause-dataset
-judge_region-requires-clause-dataset g c =
-    ap (λ (r : Opened). r.dataset) c.loop-region.invariant.same ∙ c.requires.dataset ∙ ap (λ (r : Opened). r.dataset) (sym c.loop-region.invariant.first)
-
-pub judge_region-requires-clause-inside : goal.judge_region-requires-clause-inside
-judge_region-requires-clause-inside g c = subst (λ (r : Opened). Inside r.scale c.args.part.now) (sym c.loop-region.invariant.same) c.requires.inside
+    subst (λ (r : Opened). StandsBeside r c.loop-region.self c.args.part.now) (sym c.loop-region.invariant.first)
+    (subst (λ (r : Opened). StandsBeside c.args.first.now r c.args.part.now) (sym c.loop-region.invariant.same) c.requires.beside)
 
 pub judge_region-requires-clause-region : goal.judge_region-requires-clause-region
 judge_region-requires-clause-region g c =
@@ -82,7 +76,7 @@ returns-clause-asked g c =
     asked_all (g.S.Source.objects c.args.store.now) (λ m region. pair_cost m c.args.first.now.dataset c.args.first.now.scale c.args.self.now.scale (common (cell_box c.args.regions.now region) c.args.part.now)) c.loop-region.yielded c.loop-region.region-iterator (cells_in c.args.regions.now c.args.part.now) _ _ c.loop-region.invariant.left c.loop-region.invariant.asked
 
 pub cells-region-items-requires : goal.cells-region-items-requires
-cells-region-items-requires g c = beside_inside_back c.args.self.now.scale c.args.regions.now c.args.part.now c.requires.grid c.requires.inside
+cells-region-items-requires g c = beside_inside_back c.args.self.now.scale c.args.regions.now c.args.part.now c.requires.grid c.requires.beside.inside
 
 pub judge_region-requires-clause-grid : goal.judge_region-requires-clause-grid
 judge_region-requires-clause-grid g c = subst (λ (r : Opened). IsBeside r.scale c.args.regions.now) (sym c.loop-region.invariant.same) c.requires.grid

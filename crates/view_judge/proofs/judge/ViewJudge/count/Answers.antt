@@ -16,32 +16,14 @@ count-requires-clause-inside g c = item_inside c.args.self.now.dataset c.args.se
 pub count-requires-clause-few : goal.count-requires-clause-few
 count-requires-clause-few g c = item_few c.args.self.now.dataset c.args.self.now.scale c.deref-view-items.result.now c.loop-view.view-index c.view-item.result c.args.part.now (c.deref-view-items.ensures.value ∙ c.self.invariant.views ∙ ap (λ (r : Opened). all_opened r.dataset r.scale) c.self.view_is) c.loop-view-test.true c.view-item.is c.requires.few
 
-pub add-report-requires-clause-cells : goal.add-report-requires-clause-cells
-add-report-requires-clause-cells g c =
+pub add-report-requires : goal.add-report-requires
+add-report-requires g c =
     let few = cells_within c.args.self.now.scale c.args.part.now c.loop-view.view-index c.loop-view.report.cells c.in-Ok.more.cells (item_below c.args.self.now.dataset c.args.self.now.scale c.deref-view-items.result.now c.loop-view.view-index c.view-item.result c.args.part.now (c.deref-view-items.ensures.value ∙ c.self.invariant.views ∙ ap (λ (r : Opened). all_opened r.dataset r.scale) c.self.view_is) c.loop-view-test.true c.view-item.is) c.loop-view.invariant.cells
     (item_cells c.args.self.now.dataset c.args.self.now.scale c.deref-view-items.result.now c.loop-view.view-index c.view-item.result c.args.part.now (c.deref-view-items.ensures.value ∙ c.self.invariant.views ∙ ap (λ (r : Opened). all_opened r.dataset r.scale) c.self.view_is) c.loop-view-test.true c.view-item.is c.in-Ok.more.cells c.in-Ok.ensures.cells) in
     let all = c.requires.few in
     let both = c.loop-view.invariant.both in
     let also = c.in-Ok.ensures.both in
-    omega (arith, few, all, both, also)
-
-pub add-report-requires-clause-stored : goal.add-report-requires-clause-stored
-add-report-requires-clause-stored g c =
-    let few = cells_within c.args.self.now.scale c.args.part.now c.loop-view.view-index c.loop-view.report.cells c.in-Ok.more.cells (item_below c.args.self.now.dataset c.args.self.now.scale c.deref-view-items.result.now c.loop-view.view-index c.view-item.result c.args.part.now (c.deref-view-items.ensures.value ∙ c.self.invariant.views ∙ ap (λ (r : Opened). all_opened r.dataset r.scale) c.self.view_is) c.loop-view-test.true c.view-item.is) c.loop-view.invariant.cells
-    (item_cells c.args.self.now.dataset c.args.self.now.scale c.deref-view-items.result.now c.loop-view.view-index c.view-item.result c.args.part.now (c.deref-view-items.ensures.value ∙ c.self.invariant.views ∙ ap (λ (r : Opened). all_opened r.dataset r.scale) c.self.view_is) c.loop-view-test.true c.view-item.is c.in-Ok.more.cells c.in-Ok.ensures.cells) in
-    let all = c.requires.few in
-    let both = c.loop-view.invariant.both in
-    let also = c.in-Ok.ensures.both in
-    omega (arith, few, all, both, also)
-
-pub add-report-requires-clause-absent : goal.add-report-requires-clause-absent
-add-report-requires-clause-absent g c =
-    let few = cells_within c.args.self.now.scale c.args.part.now c.loop-view.view-index c.loop-view.report.cells c.in-Ok.more.cells (item_below c.args.self.now.dataset c.args.self.now.scale c.deref-view-items.result.now c.loop-view.view-index c.view-item.result c.args.part.now (c.deref-view-items.ensures.value ∙ c.self.invariant.views ∙ ap (λ (r : Opened). all_opened r.dataset r.scale) c.self.view_is) c.loop-view-test.true c.view-item.is) c.loop-view.invariant.cells
-    (item_cells c.args.self.now.dataset c.args.self.now.scale c.deref-view-items.result.now c.loop-view.view-index c.view-item.result c.args.part.now (c.deref-view-items.ensures.value ∙ c.self.invariant.views ∙ ap (λ (r : Opened). all_opened r.dataset r.scale) c.self.view_is) c.loop-view-test.true c.view-item.is c.in-Ok.more.cells c.in-Ok.ensures.cells) in
-    let all = c.requires.few in
-    let both = c.loop-view.invariant.both in
-    let also = c.in-Ok.ensures.both in
-    omega (arith, few, all, both, also)
+    record { cells = omega (arith, few, all, both, also); stored = omega (arith, few, all, both, also); absent = omega (arith, few, all, both, also) }
 
 pub loop-view-preserved : goal.loop-view-preserved
 loop-view-preserved g c =
