@@ -45,7 +45,7 @@ span-sharded m dataset s cell sharding e =
     ap (λ o. span_as o s cell (fin.get m (object_by o dataset s cell))) e
     ∙ in_shard sharding s cell (fin.get m (shard_name dataset s (shard_of sharding (id_of s cell))))
 
-pub object-sharded : (dataset : Name) (s : Scale) (cell : Cell) (sharding : Sharding) → s.sharding ≡ Some sharding → object_of dataset s cell ≡ shard_name dataset s (shard_of sharding (id_of s cell))
+object-sharded : (dataset : Name) (s : Scale) (cell : Cell) (sharding : Sharding) → s.sharding ≡ Some sharding → object_of dataset s cell ≡ shard_name dataset s (shard_of sharding (id_of s cell))
 object-sharded dataset s cell sharding e = ap (λ o. object_by o dataset s cell) e
 
 -- a chunk in a shard
@@ -68,10 +68,13 @@ absent_told None dataset s cell seen none h = tt
 absent_told (Some m) dataset s cell seen none h = h ∙ ap (λ x. Ok x) none
 
 -- where it stands,
-pub span_told : (o : Option Objects) (dataset : Name) (s : Scale) (cell : Cell) (name : Name) (span : ChunkSpan) (seen : Option ChunkSpan) → name ≡ object_of dataset s cell → seen ≡ Some span
-    → IfSome o (λ m. Answers (span_in m dataset s cell) (Ok seen)) → IfSome o (λ m. Locates (Ok (At name span.start span.len)) m dataset s cell)
-span_told None dataset s cell name span seen named some h = tt
-span_told (Some m) dataset s cell name span seen named some h = (named, h ∙ ap (λ x. Ok x) some)
+pub span_told : (o : Option Objects) (dataset : Name) (s : Scale) (cell : Cell) (sharding : Sharding) (id : ℕ) (name : Name) (span : ChunkSpan) (seen : Option ChunkSpan) → s.sharding ≡ Some sharding → id ≡ id_of s cell
+    → name ≡ shard_name dataset s (shard_of sharding id) → seen ≡ Some span → IfSome o (λ m. Answers (span_in m dataset s cell) (Ok seen)) → IfSome o (λ m. Locates (Ok (At name span.start span.len)) m dataset s cell)
+span_told None dataset s cell sharding id name span seen e is_id named some h = tt
+span_told (Some m) dataset s cell sharding id name span seen e is_id named some h = (
+  named ∙ ap (λ k. shard_name dataset s (shard_of sharding k)) is_id ∙ sym (object-sharded dataset s cell sharding e),
+  h ∙ ap (λ x. Ok x) some,
+)
 
 -- or a fault
 fault_located : (m : Objects) (dataset : Name) (s : Scale) (cell : Cell) (fault : LookupFault) → Answers (span_in m dataset s cell) (Err fault) → Locates (Err (placed cell fault)) m dataset s cell

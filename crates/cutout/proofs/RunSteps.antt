@@ -116,32 +116,29 @@ run_more whole m dataset s cell before after old new once onward done begin has 
     behind : (next : Cell) → follows s (last_from None (done ++ cell ∷ [])) next ≡ true → follows s (Some cell) next ≡ true
     behind next f = ap (λ o. follows s o next) (sym (last-one None done cell)) ∙ f
 
+    both : after ≤ begin + run_cost m dataset s (done ++ cell ∷ [])
+        → (whole ≡ true → (next : Cell) → follows s (Some cell) next ≡ true → after + index ≤ begin + run_cost m dataset s (done ++ cell ∷ []) + 24 * past s new next)
+        → (after ≤ begin + run_cost m dataset s (done ++ cell ∷ [])) × (whole ≡ true → HasRun m dataset s (done ++ cell ∷ []) begin after new)
+    both total more = (
+      total,
+      λ went. record {
+        total = total;
+        onward = λ next f.
+            let g = behind next f in
+            subst (λ k. after + k ≤ begin + run_cost m dataset s (done ++ cell ∷ []) + 24 * past s new next) (sym (next_index next g)) (more went next g);
+      },
+    )
+
     by : (b : Bool) → b ≡ follows s (last_from None done) cell → (after ≤ begin + run_cost m dataset s (done ++ cell ∷ [])) × (whole ≡ true → HasRun m dataset s (done ++ cell ∷ []) begin after new)
     by true is =
         let sum : run_cost m dataset s (done ++ cell ∷ []) ≡ run_cost m dataset s done + (own + 0) = run-one m dataset s None done cell ∙ ap (λ b. run_cost m dataset s done + (own + (if b then 0 else index))) (sym is) in
         let had = has.onward cell (sym is) in
-        let total = total_on before after own index (past s old cell) begin (run_cost m dataset s done) (run_cost m dataset s (done ++ cell ∷ [])) had sum all in (
-          total,
-          λ went. record {
-            total = total;
-            onward = λ next f.
-                let e = next_index next (behind next f) in
-                subst (λ k. after + k ≤ begin + run_cost m dataset s (done ++ cell ∷ []) + 24 * past s new next) (sym e)
-                (more_on before after own index (past s old cell) (past s new next) begin (run_cost m dataset s done) (run_cost m dataset s (done ++ cell ∷ [])) had sum (onward went next (behind next f)));
-          },
-        )
+        let total = total_on before after own index (past s old cell) begin (run_cost m dataset s done) (run_cost m dataset s (done ++ cell ∷ [])) had sum all in
+        both total (λ went next f. more_on before after own index (past s old cell) (past s new next) begin (run_cost m dataset s done) (run_cost m dataset s (done ++ cell ∷ [])) had sum (onward went next f))
     by false is =
         let sum : run_cost m dataset s (done ++ cell ∷ []) ≡ run_cost m dataset s done + (own + index) = run-one m dataset s None done cell ∙ ap (λ b. run_cost m dataset s done + (own + (if b then 0 else index))) (sym is) in
-        let total = total_anew before after own index (past s old cell) begin (run_cost m dataset s done) (run_cost m dataset s (done ++ cell ∷ [])) has.total sum all in (
-          total,
-          λ went. record {
-            total = total;
-            onward = λ next f.
-                let e = next_index next (behind next f) in
-                subst (λ k. after + k ≤ begin + run_cost m dataset s (done ++ cell ∷ []) + 24 * past s new next) (sym e)
-                (more_anew before after own index (past s old cell) (past s new next) begin (run_cost m dataset s done) (run_cost m dataset s (done ++ cell ∷ [])) has.total sum (onward went next (behind next f)));
-          },
-        )
+        let total = total_anew before after own index (past s old cell) begin (run_cost m dataset s done) (run_cost m dataset s (done ++ cell ∷ [])) has.total sum all in
+        both total (λ went next f. more_anew before after own index (past s old cell) (past s new next) begin (run_cost m dataset s done) (run_cost m dataset s (done ++ cell ∷ [])) has.total sum (onward went next f))
 
 -- a chunk that was read out of a shard,
 run_sharded : {A E : Type 0} (r : Result A E) (m : Objects) (dataset : Name) (s : Scale) (cell : Cell) (sharding : Sharding) (limit id before after : ℕ) (old new : ShardReader)

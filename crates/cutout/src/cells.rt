@@ -1,6 +1,7 @@
 //! The values of a part, read from the chunks of its cells.
-ghost use Rattle.std.specs.Prelude.{◌≡◌, ◌≢◌, ◌∷◌, [], length, IfOk, IfSome, Err};
+ghost use Rattle.std.specs.Prelude.{◌≡◌, ◌≢◌, ◌≤◌, ◌+◌, ◌∷◌, [], length, IfOk, IfSome, Err};
 ghost use Rattle.vol_spec.specs.Chunks.{chunk_in};
+ghost use Rattle.vol_spec.specs.Costs.{cost};
 ghost use Rattle.vol_spec.specs.Grid.{cells_in, Inside, IsCell};
 ghost use Rattle.vol_spec.specs.StoredBytes.{stored_bytes};
 ghost use Rattle.cutout.specs.Finding.{Finds, HasRead};
@@ -166,6 +167,8 @@ impl CellReader {
         ensures read { IfSome (S.objects store.old) (λ m. ReadsAll result m origin.now.dataset
             origin.now.scale part.now channels out.new) }
         ensures inside { result ≢ Err CutFault.OutsideScale }
+        ensures asked { IfSome (S.objects store.old) (λ m.
+            S.asked store.new ≤ S.asked store.old + cost m origin.now.dataset origin.now.scale part.now) }
         ensures serves { Serves (S.objects store.old) origin.now self.new }
         ensures walks { Walks S.Source origin.now (cells_in origin.now.scale part.now) CutFault.StoreFault
             store.old store.new self.old.shards self.new.shards result }

@@ -1,7 +1,8 @@
 //! Where the chunk of a cell stands.
 ghost use Rattle.std.specs.Prelude.{◌≡◌, ◌≢◌, IfErr, IfSome, Some};
 ghost use Rattle.vol_spec.specs.Grid.{IsCell};
-ghost use Rattle.vol_spec.specs.StoredBytes.{object_of};
+ghost use Rattle.vol_spec.specs.Places.{id_of, shard_of};
+ghost use Rattle.vol_spec.specs.ShardNames as ShardNames;
 ghost use Rattle.shard_reader.specs.Reading.{Answers};
 ghost use Rattle.cutout.specs.Calls.{AsksFor};
 ghost use Rattle.cutout.specs.Keeping.{search_cost};
@@ -33,9 +34,11 @@ fn find_span<S: Source>(
     origin: &Origin,
     sharding: &Sharding,
     cell: [u64; 3],
+    id: u64,
 ) -> Result<Option<ChunkSpan>, LookupFault>
     requires cell { IsCell origin.now.scale cell }
     requires sharding { origin.now.scale.sharding ≡ Some sharding.now }
+    requires id { id ≡ id_of origin.now.scale cell }
     ensures found { IfSome (S.objects store.old) (λ m.
         Answers (span_in m origin.now.dataset origin.now.scale cell) result) }
     ensures asks { AsksFor S.Source (λ m. search_cost m origin.now.dataset origin.now.scale cell)
@@ -44,18 +47,15 @@ fn find_span<S: Source>(
         S.faults store.new ≡ S.faults store.old) }
 {
     let limit = chunk_limit(&origin.scale, cell);
-    let id = chunk_id(&origin.scale, cell);
     shards.forget();
     shards.locate(store, &origin.dataset, &origin.scale, sharding, limit, id)
 }
 
-// The name of the shard that a cell's chunk belongs into.
-fn name_shard(origin: &Origin, sharding: &Sharding, cell: [u64; 3]) -> Name
-    requires cell { IsCell origin.now.scale cell }
-    requires sharding { origin.now.scale.sharding ≡ Some sharding.now }
-    ensures { result ≡ object_of origin.now.dataset origin.now.scale cell }
+// The name of the shard that the chunk of an id belongs into.
+fn name_shard(origin: &Origin, sharding: &Sharding, id: u64) -> Name
+    requires { origin.now.scale.sharding ≡ Some sharding.now }
+    ensures { result ≡ ShardNames.shard_name origin.now.dataset origin.now.scale (shard_of sharding.now id) }
 {
-    let id = chunk_id(&origin.scale, cell);
     shard_name(&origin.dataset, &origin.scale, place(sharding, id).shard)
 }
 
@@ -89,11 +89,12 @@ impl CellReader {
                 }),
             };
         };
-        match find_span(&mut self.shards, store, origin, &sharding, cell) {
+        let id = chunk_id(&origin.scale, cell);
+        match find_span(&mut self.shards, store, origin, &sharding, cell, id) {
             Err(fault) => Err(place_fault(cell, fault)),
             Ok(None) => Ok(Found::Absent),
             Ok(Some(span)) => Ok(Found::At {
-                name: name_shard(origin, &sharding, cell),
+                name: name_shard(origin, &sharding, id),
                 start: span.start,
                 len: span.len,
             }),

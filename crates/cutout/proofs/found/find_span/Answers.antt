@@ -4,13 +4,13 @@ use Rattle.cutout.proofs.found.find_span.Goals as goal
 
 pub returns-clause-found : goal.returns-clause-found
 returns-clause-found g c =
-    span_found (g.S.Source.objects c.args.store.now) c.args.origin.now.dataset c.args.origin.now.scale c.args.cell c.args.sharding.now c.chunk_limit-limit.result c.chunk_id-id.result c.locate.result c.requires.sharding
-    c.chunk_limit-limit.ensures.limit c.chunk_id-id.ensures c.locate.ensures.found
+    span_found (g.S.Source.objects c.args.store.now) c.args.origin.now.dataset c.args.origin.now.scale c.args.cell c.args.sharding.now c.chunk_limit-limit.result c.args.id c.locate.result c.requires.sharding
+    c.chunk_limit-limit.ensures.limit c.requires.id c.locate.ensures.found
 
 pub returns-clause-asks : goal.returns-clause-asks
 returns-clause-asks g c = record {
   asked =
-      search_told (g.S.Source.objects c.args.store.now) c.args.origin.now.dataset c.args.origin.now.scale c.args.cell c.args.sharding.now c.chunk_id-id.result (g.S.Source.asked c.args.store.now) (g.S.Source.asked c.locate.new.store) c.requires.sharding
-      c.chunk_id-id.ensures c.locate.ensures.asked;
+      search_told (g.S.Source.objects c.args.store.now) c.args.origin.now.dataset c.args.origin.now.scale c.args.cell c.args.sharding.now c.args.id (g.S.Source.asked c.args.store.now) (g.S.Source.asked c.locate.new.store) c.requires.sharding
+      c.requires.id c.locate.ensures.asked;
   reads = search rules;
 }

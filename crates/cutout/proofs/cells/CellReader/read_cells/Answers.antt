@@ -1,12 +1,12 @@
 use Rattle.std.proofs.Common.{◌≡◌, ◌↔◌, ◌∙◌, arith, refl, rules, subst, sym}
-use Rattle.std.specs.Prelude.{Contains, true, ◌∷◌, []}
+use Rattle.std.specs.Prelude.{Contains, false, true, ◌∷◌, []}
 use Rattle.std.proofs.lemmas.List.Elements.{All-contains}
 use Rattle.vol_base.specs.Boxes.{Covers}
 use Rattle.vol_spec.specs.Grid.{cell_at, cell_box, cells_in, IsCell}
 use Rattle.cutout.specs.Reading.{ReadSoFar}
 use Rattle.cutout.proofs.CellSteps.{read_none, read_more, read_refused, read_whole, IsHome}
 use Rattle.cutout.specs.Runs.{RunsOn}
-use Rattle.cutout.proofs.RunSteps.{run_next, run_none, run_stopped}
+use Rattle.cutout.proofs.RunSteps.{run_asked, run_next, run_none, run_stopped}
 use Rattle.cutout.proofs.ServeSteps.{serves_still}
 use Rattle.chunk_grid.proofs.Walked.{here, one_on, at_end}
 use Rattle.vol_spec.proofs.Told.{from_told, in_told}
@@ -91,3 +91,13 @@ returns-clause-walks g c = record {
       (at_end c.loop-cell.yielded c.loop-cell.cell-iterator (cells_in c.args.origin.now.scale c.args.part.now) c.in-None.ensures.steps.0 c.loop-cell.invariant.left) (c.loop-cell.invariant.run m told));
   reads = search rules;
 }
+
+pub returns-in-Err-clause-asked : goal.returns-in-Err-clause-asked
+returns-in-Err-clause-asked g c =
+    run_asked (g.S.Source.objects c.args.store.now) false c.args.origin.now.dataset c.args.origin.now.scale c.args.part.now (g.S.Source.asked c.args.store.now) (g.S.Source.asked c.read_one.new.store) c.args.self.now.shards c.read_one.new.self.shards
+    (returns-in-Err-clause-walks g c).run
+
+pub returns-clause-asked : goal.returns-clause-asked
+returns-clause-asked g c =
+    run_asked (g.S.Source.objects c.args.store.now) true c.args.origin.now.dataset c.args.origin.now.scale c.args.part.now (g.S.Source.asked c.args.store.now) (g.S.Source.asked c.loop-cell.store) c.args.self.now.shards c.loop-cell.self.shards
+    (returns-clause-walks g c).run

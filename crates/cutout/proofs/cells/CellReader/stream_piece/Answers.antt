@@ -2,7 +2,6 @@ use Rattle.std.proofs.Common.{◌≡◌, arith, drop, length, length-take, take,
 use Rattle.std.proofs.lemmas.List.{take-append-drop}
 use Rattle.vol_spec.proofs.Told.{from_told}
 use Rattle.vol_spec.specs.Raw.{raw_len}
-use Rattle.cutout.proofs.RunSteps.{run_asked}
 use Rattle.cutout.proofs.StreamSteps.{leaves_none, piece_read, piece_unread}
 use Rattle.cutout.proofs.cells.CellReader.stream_piece.Goals as goal
 
@@ -13,10 +12,7 @@ returns-in-Err-clause-pours g c = record {
       piece_unread m c.args.origin.now.dataset c.args.origin.now.scale c.args.part.now _ c.args.channel c.in-Err.fault c.as_streamed.result _ c.as_streamed.ensures (from_told _ _ m told c.in-Err.ensures.read));
   inside = search rules;
   memory = search rules;
-  asks = record {
-    asked = run_asked (g.S.Source.objects c.args.store.now) _ c.args.origin.now.dataset c.args.origin.now.scale c.args.part.now _ _ c.args.self.now.shards c.read_cells.new.self.shards c.read_cells.ensures.walks.run;
-    reads = search rules;
-  };
+  asks = search rules;
   out_cause = search rules;
 }
 
@@ -33,10 +29,7 @@ returns-in-Ok-write_all-clause-pours g c = record {
       };
   inside = search rules;
   memory = search rules;
-  asks = record {
-    asked = run_asked (g.S.Source.objects c.args.store.now) _ c.args.origin.now.dataset c.args.origin.now.scale c.args.part.now _ _ c.args.self.now.shards c.read_cells.new.self.shards c.read_cells.ensures.walks.run;
-    reads = search rules;
-  };
+  asks = search rules;
   out_cause = search rules;
 }
 
@@ -54,10 +47,7 @@ returns-in-Err-write_all-clause-pours g c = record {
       };
   inside = search rules;
   memory = search rules;
-  asks = record {
-    asked = run_asked (g.S.Source.objects c.args.store.now) _ c.args.origin.now.dataset c.args.origin.now.scale c.args.part.now _ _ c.args.self.now.shards c.read_cells.new.self.shards c.read_cells.ensures.walks.run;
-    reads = search rules;
-  };
+  asks = search rules;
   out_cause = search rules;
 }
 
