@@ -11,7 +11,7 @@ ghost use Rattle.vol_shell.specs.Absences.{says_absent};
 
 use crate::counts::count_fault;
 use std::alloc::Global;
-use std::fs::{File, Files, Metadata};
+use std::fs::{File, Files, Metadata, OpenOptions};
 use std::io::{self, ErrorKind, Write};
 use std::marker::Model;
 use std::os::unix::fs::{FileExt, MetadataExt};
@@ -242,9 +242,9 @@ fn discard<R: Files>(rt: &R, unfinished: Unfinished) {
     let _ = fs::remove_file(rt, unfinished.path.as_str());
 }
 
-// Makes a file that is to be written, and the folders above it. What isn't a file is told before it is
-// opened, since an open would wait at a pipe.
-fn create_file<R: Files<File = File>>(rt: &R, path: &str) -> Result<File, Failed> {
+// Makes a file that is to be written, and the folders above it, or empties the one that stands there. What isn't a file
+// is told before it is opened, since an open would wait at a pipe.
+fn create_anyway<R: Files<File = File>>(rt: &R, path: &str) -> Result<File, Failed> {
     if let Some((folder, _)) = path.rsplit_once('/') {
         if fs::create_dir_all(rt, folder).is_err() {
             return Err(Failed);
@@ -254,6 +254,16 @@ fn create_file<R: Files<File = File>>(rt: &R, path: &str) -> Result<File, Failed
     match fs::create(rt, path) {
         Ok(file) => Ok(file),
         Err(_) => Err(Failed),
+    }
+}
+
+// Makes a file that is to be written. Mostly its folder is there and it isn't, so that one call is enough.
+fn create_file<R: Files<File = File>>(rt: &R, path: &str) -> Result<File, Failed> {
+    let mut options = OpenOptions::new();
+    options.write(true).create_new(true);
+    match options.open(rt, path) {
+        Ok(file) => Ok(file),
+        Err(_) => create_anyway(rt, path),
     }
 }
 
