@@ -1,4 +1,3 @@
-pub mod AnswerSteps
 mod BegunSteps
 pub mod DownsampleSteps
 pub mod FaultSteps

@@ -17,7 +17,7 @@ use Rattle.info_doc.specs.declared.fault.InfoFault.TheVariants.{TooLong}
 use Rattle.command_base.specs.Scales.{HasOneSize, IsReady, info_name, judged_info, scale_from, stored_scale}
 use Rattle.command_base.specs.declared.refusal.NoScale.{NoScale}
 use Rattle.reduce_laws.specs.Halves.{IsHalf}
-use Rattle.reshard_cmd.specs.Copying.{OfBoth}
+use Rattle.reshard_cmd.specs.Making.{OfBoth}
 use Rattle.reshard_cmd.specs.Judging.{too_many}
 use Rattle.downsample_cmd.specs.Answering.{CanDownsample, IsReadyReduction}
 

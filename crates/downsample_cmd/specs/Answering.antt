@@ -1,39 +1,33 @@
 -- What `downsample` answers (this project's profile). Its refusals are those of a copy, with the same statuses and lines.
-use Rattle.std.specs.Prelude.{◌≡◌, ◌⊎◌, ◌<◌, true, length, All, Option, Some, None, Result, Ok as Done, Err, IfSome, IsOkAnd, IsSomeAnd}
-use Rattle.vol_base.specs.Outside.{any_under, Draft, Objects}
+use Rattle.std.specs.Prelude.{◌≡◌, ◌⊎◌, length, Option, Some, None, Result, IfSome, IsSomeAnd}
+use Rattle.vol_base.specs.Outside.{Draft, Objects}
 use Rattle.vol_base.specs.declared.boxes.Box3.{Box3}
-use Rattle.vol_spec.specs.CellNames.{folder_of}
 use Rattle.vol_spec.specs.Grid.{Inside, whole}
 use Rattle.vol_spec.specs.Types.{Name}
-use Rattle.vol_spec.specs.Writable.{IsWritable}
 use Rattle.vol_spec.specs.declared.scale.Scale.{Scale}
 use Rattle.chunk_laws.specs.Told.{HasNoFault}
 use Rattle.coarse_laws.specs.Coarse.{HasReduced, ReadsAsReduced, reduced_in}
-use Rattle.size_laws.specs.Further.{all_views}
 use Rattle.reduce_laws.specs.Halves.{IsHalf}
 use Rattle.reduce_laws.specs.Reduced.{IsNext, reduced_cells}
 use Rattle.reduce_laws.specs.declared.method.Method.{Method}
 use Rattle.shard_writer.specs.Writing.{BeginsNext, Drops}
 use Rattle.shard_writer.specs.declared.written.Written.{Written}
-use Rattle.view_writer.specs.Views.{first_wide}
 use Rattle.command_base.specs.Ending.{Ends}
 use Rattle.command_base.specs.Outlets.{Outlets}
-use Rattle.command_base.specs.Scales.{HasOneSize, IsReady, IsWritableAlone, stored_scale}
+use Rattle.command_base.specs.Scales.{HasOneSize, IsReady, stored_scale}
 use Rattle.command_base.specs.declared.refusal.NoScale.{NoScale}
 use Rattle.command_base.specs.declared.status.Status.{Status}
-use Rattle.reshard_cmd.specs.Copying.{KeepsScales, OfBoth, counts_line}
+use Rattle.reshard_cmd.specs.Copying.{KeepsScales, counts_line}
+use Rattle.reshard_cmd.specs.Making.{CanBegin, Making, MakesScale, MakesStored, OfBoth}
 use Rattle.reshard_cmd.specs.Judging.{too_many}
 use Rattle.reshard_cmd.specs.Refusals.{reshard_line, reshard_status}
 use Rattle.reshard_cmd.specs.declared.refusal.ReshardRefusal.{ReshardRefusal}
-use Rattle.reshard_cmd.specs.declared.refusal.ReshardRefusal.TheVariants as refused
-use Rattle.downsample_cmd.specs.Downsampling.{PutsReducedFront, reduced_list, source_fault}
-use Rattle.downsample_cmd.specs.Judging.{DiffersNext}
+use Rattle.downsample_cmd.specs.Downsampling.{PutsReducedFront, reduced_list, reducing, source_fault}
 
 -- a reduction can be begun: the target keeps the writing limit and has one chunk size, it is the scale after the source, no grid has too many cells,
 -- and the target's folder is empty
 abbrev pub IsReadyReduction : Objects → Name → Scale → Scale → Type 0
-IsReadyReduction m dataset from to = IsNext from to × (too_many from to ≡ None) × IsReady m dataset to ×
-    HasOneSize to
+IsReadyReduction m dataset from to = CanBegin (IsNext from to) m from dataset to
 
 -- what stands after a reduction: its objects were put in and nothing else was changed, so both scales are as
 -- before; the source has no fault, each value of the target is the reduced one, and the target has no fault
@@ -69,44 +63,25 @@ abbrev pub ReducedFront : Method → Objects → Option Objects → Name → Sca
 ReducedFront method m now dataset from to = IsReadyReduction m dataset from to ×
     PutsReducedFront method m now dataset from to
 
+-- what is said of a reduction once it is told
+abbrev pub told_reduction : Method → Objects → Option Objects → Name → Scale → Scale → Making
+told_reduction method m now dataset from to = record (reducing method m now dataset from to) {
+  made = λ written. HasDownsampled method m now dataset from to × CountsReduced written method m dataset from to;
+  faulty = λ cell found. (source_fault m dataset from to ≡ Some (cell, found)) × ¬ HasNoFault m dataset from;
+  front = ReducedFront method m now dataset from to;
+}
+
 -- what reducing a scale into one that keeps the writing limit and has one chunk size answers, and what stands after it
 abbrev pub ReducesScale : Result Written ReshardRefusal → Method → Objects → Option Objects → Name → Scale →
     Scale → Type 0
-ReducesScale (Done written) method m now dataset from to =
-    HasDownsampled method m now dataset from to × CountsReduced written method m dataset from to
-ReducesScale (Err (refused.Differs item)) method m now dataset from to = (now ≡ Some m) ×
-    IsWritableAlone to × DiffersNext from to item
-ReducesScale (Err (refused.TooManyCells cells)) method m now dataset from to =
-    (now ≡ Some m) × IsWritableAlone to × IsNext from to × (too_many from to ≡ Some cells)
-ReducesScale (Err refused.NotEmpty) method m now dataset from to =
-    (now ≡ Some m) × IsWritableAlone to × IsNext from to × (too_many from to ≡ None) ×
-    (any_under m (folder_of dataset to) ≡ true)
-ReducesScale (Err (refused.Damaged cell found)) method m now dataset from to =
-    ReducedFront method m now dataset from to ×
-    (source_fault m dataset from to ≡ Some (cell, found)) × ¬ HasNoFault m dataset from
-ReducesScale (Err refused.StoreFault) method m now dataset from to = (now ≡ Some m) ⊎
-    ReducedFront method m now dataset from to
-ReducesScale (Err refused.NoMemory) method m now dataset from to = (now ≡ Some m) ⊎
-    ReducedFront method m now dataset from to
-ReducesScale (Err other) method m now dataset from to = ⊥
+ReducesScale result method m now dataset from to =
+    MakesScale (told_reduction method m now dataset from to) result m now dataset from to
 
 -- what `downsample` answers before it prints, by the two scales that are told
 abbrev pub ReducesStored : Result Written ReshardRefusal → Result Scale NoScale → Result Scale NoScale →
     Method → Objects → Option Objects → Name → Type 0
-ReducesStored (Err (refused.NoSource why)) source target method m now dataset = (now ≡ Some m) ×
-    (source ≡ Err why)
-ReducesStored (Err (refused.NoTarget why)) source target method m now dataset = (now ≡ Some m) ×
-    IsOkAnd source (λ from. target ≡ Err why)
-ReducesStored (Err (refused.TooManyVoxels voxels)) source target method m now dataset =
-    (now ≡ Some m) × OfBoth source target (λ from to. first_wide (all_views to) ≡ Some voxels)
-ReducesStored (Err refused.SeveralSizes) source target method m now dataset =
-    (now ≡ Some m) × OfBoth source target (λ from to. All IsWritable (all_views to) × (0 < length to.more))
-ReducesStored (Err refused.StoreFault) source target method m now dataset =
-    (now ≡ Some m) ⊎ OfBoth source target (λ from to. ReducedFront method m now dataset from to)
-ReducesStored (Err refused.NoMemory) source target method m now dataset =
-    (now ≡ Some m) ⊎ OfBoth source target (λ from to. ReducedFront method m now dataset from to)
 ReducesStored result source target method m now dataset =
-    OfBoth source target (λ from to. ReducesScale result method m now dataset from to)
+    MakesStored (told_reduction method m now dataset) result source target m now dataset
 
 -- both scales are there, and of the objects of the reduced one the next is being written, behind those that were put in
 abbrev pub BeginsReduction : Result Scale NoScale → Result Scale NoScale → Method → Objects → Option Objects →

@@ -1,10 +1,9 @@
 -- What reducing a scale into the next one answers, and what stands after it (this project's).
-use Rattle.std.specs.Prelude.{◌≡◌, ◌≢◌, ◌⊎◌, true, false, map, length, Option, Some, None, Result, Ok, Err, Contains, IfSome}
+use Rattle.std.specs.Prelude.{◌≡◌, ◌≢◌, ◌⊎◌, map, length, Option, Some, None, Result, Contains, IfSome}
 use Rattle.std.specs.FinMap as fin
-use Rattle.vol_base.specs.Outside.{Draft, Objects, any_under}
+use Rattle.vol_base.specs.Outside.{Draft, Objects}
 use Rattle.vol_base.specs.declared.faults.Fault.{Fault}
 use Rattle.vol_spec.specs.BoxValues.{first_some}
-use Rattle.vol_spec.specs.CellNames.{folder_of}
 use Rattle.vol_spec.specs.Chunks.{fault_in}
 use Rattle.vol_spec.specs.Cut.{first_fault}
 use Rattle.vol_spec.specs.Grid.{IsCell}
@@ -15,13 +14,14 @@ use Rattle.vol_spec.specs.declared.scale.Scale.{Scale}
 use Rattle.chunk_laws.specs.Told.{HasNoFault}
 use Rattle.coarse_laws.specs.Coarse.{HasReduced, reduced_in}
 use Rattle.copier.specs.Held.{cells_of}
-use Rattle.reduce_laws.specs.Reduced.{reduced_cells, reduced_chunks, source_box}
+use Rattle.reduce_laws.specs.Reduced.{IsNext, reduced_cells, reduced_chunks, source_box}
 use Rattle.reduce_laws.specs.declared.method.Method.{Method}
 use Rattle.reducer.specs.Works.{Reduction}
 use Rattle.shard_writer.specs.Writing.{BeginsNext, Drops, PutsFront, joint_len}
 use Rattle.shard_writer.specs.declared.written.Written.{Written}
 use Rattle.reshard_cmd.specs.declared.fault.ReshardFault.{ReshardFault}
-use Rattle.reshard_cmd.specs.declared.fault.ReshardFault.TheVariants.{Differs, TooManyCells, NotEmpty, StoreFault, Damaged, OutOfMemory}
+use Rattle.reshard_cmd.specs.Making.{Makes, Making, Puts}
+use Rattle.downsample_cmd.specs.Judging.{DiffersNext}
 
 -- the objects that the reduced scale is stored as
 abbrev pub reduced_list : Method → Objects → Name → Scale → Scale → Listed
@@ -75,25 +75,23 @@ abbrev pub HasReducedJobs : Objects → Reduction → Scale → Type 0
 HasReducedJobs m reducer to =
     cells_of reducer.held ≡ in_key_order to (reduced_cells m reducer.held.dataset reducer.held.from to)
 
+-- what is said of a reduction
+abbrev pub reducing : Method → Objects → Option Objects → Name → Scale → Scale → Making
+reducing method m now dataset from to = record {
+  differs = DiffersNext from to;
+  fits = IsNext from to;
+  made = IsReduced method m now dataset from to;
+  faulty = IsFirstFault m dataset from to;
+  front = PutsReducedFront method m now dataset from to;
+}
+
 -- what storing a reduced scale in an empty folder answers over objects that are told
 abbrev pub Reduces : Result Written ReshardFault → Method → Objects → Option Objects → Name → Scale → Scale →
     Type 0
-Reduces (Ok written) method m now dataset from to = IsReduced method m now dataset from to written
-Reduces (Err (Damaged cell fault)) method m now dataset from to =
-    IsFirstFault m dataset from to cell fault × PutsReducedFront method m now dataset from to
-Reduces (Err StoreFault) method m now dataset from to = PutsReducedFront method m now dataset from to
-Reduces (Err OutOfMemory) method m now dataset from to = PutsReducedFront method m now dataset from to
-Reduces (Err other) method m now dataset from to = ⊥
+Reduces result method m now dataset from to = Puts (reducing method m now dataset from to) result
 
--- what reducing a scale answers over objects that are told: the folder is judged after the scales, and nothing is put where it isn't empty
+-- what reducing a scale answers over objects that are told
 abbrev pub Downsamples : Result Written ReshardFault → Method → Objects → Option Objects → Name → Scale →
     Scale → Type 0
-Downsamples (Err (Differs item)) method m now dataset from to = now ≡ Some m
-Downsamples (Err (TooManyCells cells)) method m now dataset from to = now ≡ Some m
-Downsamples (Err NotEmpty) method m now dataset from to = (any_under m (folder_of dataset to) ≡ true) ×
-    (now ≡ Some m)
-Downsamples (Err StoreFault) method m now dataset from to =
-    (now ≡ Some m) ⊎ ((any_under m (folder_of dataset to) ≡ false) ×
-    PutsReducedFront method m now dataset from to)
-Downsamples result method m now dataset from to = (any_under m (folder_of dataset to) ≡ false) ×
-    Reduces result method m now dataset from to
+Downsamples result method m now dataset from to =
+    Makes (reducing method m now dataset from to) result m now dataset to

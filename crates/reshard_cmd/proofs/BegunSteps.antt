@@ -7,7 +7,8 @@ use Rattle.copier.specs.Held.{Held, work_of}
 use Rattle.shard_writer.specs.Writing.{BeginsNext, Drops, DropsOrBegins}
 use Rattle.command_base.specs.Scales.{ReadsScale, stored_scale}
 use Rattle.reshard_cmd.proofs.CopyingSteps.{copier_objects}
-use Rattle.reshard_cmd.specs.Copying.{OfBoth, ReadsTarget}
+use Rattle.reshard_cmd.specs.Copying.{ReadsTarget}
+use Rattle.reshard_cmd.specs.Making.{OfBoth}
 use Rattle.reshard_cmd.specs.Resharding.{DropsOrCopies, HasCopyJobs}
 
 -- the jobs of a copier are the copy's objects

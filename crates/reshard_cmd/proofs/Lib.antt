@@ -3,4 +3,5 @@ pub mod BegunSteps
 pub mod CopySteps
 pub mod CopyingSteps
 pub mod FaultSteps
+pub mod MakingSteps
 pub mod ReshardSteps

@@ -1,8 +1,7 @@
 -- What `reshard` answers (this project's profile).
-use Rattle.std.specs.Prelude.{◌≡◌, ◌⊎◌, ◌<◌, true, length, All, Option, Some, None, Result, Ok as Done, Err, IfOk, IfSome, IsOkAnd, IsSomeAnd}
-use Rattle.vol_base.specs.Outside.{any_under, Draft, Objects}
+use Rattle.std.specs.Prelude.{◌≡◌, ◌⊎◌, ◌<◌, length, All, Option, Some, None, Result, Ok as Done, Err, IfOk, IfSome, IsOkAnd, IsSomeAnd}
+use Rattle.vol_base.specs.Outside.{Draft, Objects}
 use Rattle.vol_base.specs.declared.boxes.Box3.{Box3}
-use Rattle.vol_spec.specs.CellNames.{folder_of}
 use Rattle.vol_spec.specs.Copies.{AreOfOneVolume, copied_cells}
 use Rattle.vol_spec.specs.Grid.{Inside}
 use Rattle.vol_spec.specs.Types.{Bytes, Name}
@@ -17,26 +16,21 @@ use Rattle.view_writer.specs.Views.{first_wide}
 use Rattle.command_base.specs.Ending.{Ends}
 use Rattle.command_base.specs.Lines.{written_line}
 use Rattle.command_base.specs.Outlets.{Outlets}
-use Rattle.command_base.specs.Scales.{HasOneSize, IsReady, IsWritableAlone, stored_scale}
+use Rattle.command_base.specs.Scales.{IsWritableAlone, stored_scale}
 use Rattle.command_base.specs.declared.refusal.NoScale.{NoScale}
 use Rattle.command_base.specs.declared.status.Status.{Status}
-use Rattle.reshard_cmd.specs.Judging.{DiffersFirst, too_many}
+use Rattle.reshard_cmd.specs.Making.{CanBegin, Making, MakesScale, MakesStored, OfBoth}
 use Rattle.reshard_cmd.specs.Refusals.{reshard_line, reshard_status}
-use Rattle.reshard_cmd.specs.Resharding.{copy_fault, copy_list, PutsCopyFront}
+use Rattle.reshard_cmd.specs.Resharding.{copy_fault, copy_list, copying, PutsCopyFront}
 use Rattle.reshard_cmd.specs.declared.fault.ReshardFault.{ReshardFault}
 use Rattle.reshard_cmd.specs.declared.fault.ReshardFault.TheVariants as fault
 use Rattle.reshard_cmd.specs.declared.refusal.ReshardRefusal.{ReshardRefusal}
 use Rattle.reshard_cmd.specs.declared.refusal.ReshardRefusal.TheVariants as refused
 
--- what is said of a source and a target that are both there
-abbrev pub OfBoth : Result Scale NoScale → Result Scale NoScale → (Scale → Scale → Type 0) → Type 0
-OfBoth source target Of = IsOkAnd source (λ from. IsOkAnd target (λ to. Of from to))
-
 -- a copy can be begun: the target keeps the writing limit and has one chunk size, both scales are of one volume, no grid has too many cells, and
 -- the target's folder is empty
 abbrev pub IsReadyCopy : Objects → Scale → Name → Scale → Type 0
-IsReadyCopy m from to_dataset to = AreOfOneVolume from to × (too_many from to ≡ None) ×
-    IsReady m to_dataset to × HasOneSize to
+IsReadyCopy m from to_dataset to = CanBegin (AreOfOneVolume from to) m from to_dataset to
 
 -- each scale that was there, of whatever data set and key, is there as before
 abbrev pub KeepsScales : Objects → Objects → Type 0
@@ -98,44 +92,28 @@ ReadsTarget (Err refused.StoreFault) told = Unit {0}
 ReadsTarget (Err refused.NoMemory) told = Unit {0}
 ReadsTarget (Err other) told = ⊥
 
+-- what is said of a copy once it is told
+abbrev pub told_copy : Objects → Option Objects → Name → Scale → Name → Scale → Making
+told_copy m now from_dataset from to_dataset to = record (copying m now from_dataset from to_dataset to) {
+  made = λ written. HasCopied m now from_dataset from to_dataset to ×
+      CountsCopy written m from_dataset from to_dataset to;
+  faulty = λ cell found. (copy_fault m from_dataset from to ≡ Some (cell, found)) ×
+      ¬ HasNoFault m from_dataset from;
+  front = CopyFront m now from_dataset from to_dataset to;
+}
+
 -- what copying a scale into one that keeps the writing limit and has one chunk size answers, and what stands after it
 abbrev pub CopiesScale : Result Written ReshardRefusal → Objects → Option Objects → Name → Scale → Name →
     Scale → Type 0
-CopiesScale (Done written) m now from_dataset from to_dataset to =
-    HasCopied m now from_dataset from to_dataset to × CountsCopy written m from_dataset from to_dataset to
-CopiesScale (Err (refused.Differs item)) m now from_dataset from to_dataset to = (now ≡ Some m) ×
-    IsWritableAlone to × DiffersFirst from to item
-CopiesScale (Err (refused.TooManyCells cells)) m now from_dataset from to_dataset to =
-    (now ≡ Some m) × IsWritableAlone to × AreOfOneVolume from to × (too_many from to ≡ Some cells)
-CopiesScale (Err refused.NotEmpty) m now from_dataset from to_dataset to =
-    (now ≡ Some m) × IsWritableAlone to × AreOfOneVolume from to × (too_many from to ≡ None) ×
-    (any_under m (folder_of to_dataset to) ≡ true)
-CopiesScale (Err (refused.Damaged cell found)) m now from_dataset from to_dataset to =
-    CopyFront m now from_dataset from to_dataset to ×
-    (copy_fault m from_dataset from to ≡ Some (cell, found)) × ¬ HasNoFault m from_dataset from
-CopiesScale (Err refused.StoreFault) m now from_dataset from to_dataset to = (now ≡ Some m) ⊎
-    CopyFront m now from_dataset from to_dataset to
-CopiesScale (Err refused.NoMemory) m now from_dataset from to_dataset to = (now ≡ Some m) ⊎
-    CopyFront m now from_dataset from to_dataset to
-CopiesScale (Err other) m now from_dataset from to_dataset to = ⊥
+CopiesScale result m now from_dataset from to_dataset to =
+    MakesScale (told_copy m now from_dataset from to_dataset to) result m now to_dataset from to
 
 -- what `reshard` answers before it prints, by the two scales that are told
 abbrev pub CopiesStored : Result Written ReshardRefusal → Result Scale NoScale → Result Scale NoScale →
     Objects → Option Objects → Name → Name → Type 0
-CopiesStored (Err (refused.NoSource why)) source target m now from_dataset to_dataset = (now ≡ Some m) ×
-    (source ≡ Err why)
-CopiesStored (Err (refused.NoTarget why)) source target m now from_dataset to_dataset = (now ≡ Some m) ×
-    IsOkAnd source (λ from. target ≡ Err why)
-CopiesStored (Err (refused.TooManyVoxels voxels)) source target m now from_dataset to_dataset =
-    (now ≡ Some m) × OfBoth source target (λ from to. first_wide (all_views to) ≡ Some voxels)
-CopiesStored (Err refused.SeveralSizes) source target m now from_dataset to_dataset =
-    (now ≡ Some m) × OfBoth source target (λ from to. All IsWritable (all_views to) × (0 < length to.more))
-CopiesStored (Err refused.StoreFault) source target m now from_dataset to_dataset =
-    (now ≡ Some m) ⊎ OfBoth source target (λ from to. CopyFront m now from_dataset from to_dataset to)
-CopiesStored (Err refused.NoMemory) source target m now from_dataset to_dataset =
-    (now ≡ Some m) ⊎ OfBoth source target (λ from to. CopyFront m now from_dataset from to_dataset to)
 CopiesStored result source target m now from_dataset to_dataset =
-    OfBoth source target (λ from to. CopiesScale result m now from_dataset from to_dataset to)
+    MakesStored (λ from to. told_copy m now from_dataset from to_dataset to) result source target m now
+    to_dataset
 
 -- where the target isn't sharded, nothing is being written, or what was before
 abbrev pub DropsUnsharded : Result Scale NoScale → Option Draft → Option Draft → Type 0

@@ -12,14 +12,18 @@ use Rattle.write_plan.specs.Pairs.{cell_count}
 use Rattle.reshard_cmd.specs.declared.fault.ReshardFault.{ReshardFault}
 use Rattle.reshard_cmd.specs.declared.fault.ReshardFault.TheVariants.{Differs, TooManyCells, NotEmpty, StoreFault}
 
--- the first item in which two scales differ: the sizes, the offsets, the data types (which a width tells), the numbers of channels
-abbrev pub DiffersFirst : Scale → Scale → Item → Type 0
-DiffersFirst from to Size = from.size ≢ to.size
-DiffersFirst from to VoxelOffset = (from.size ≡ to.size) × (from.offset ≢ to.offset)
-DiffersFirst from to DataType = (from.size ≡ to.size) × (from.offset ≡ to.offset) × (from.width ≢ to.width)
-DiffersFirst from to NumChannels = (from.size ≡ to.size) × (from.offset ≡ to.offset) ×
+-- the first item in which a target isn't as it is to be: the size, the offset, the data type (which a width tells), the number of channels
+abbrev pub DiffersAt : Type 0 → Type 0 → Scale → Scale → Item → Type 0
+DiffersAt SameSize SameOffset from to Size = ¬ SameSize
+DiffersAt SameSize SameOffset from to VoxelOffset = SameSize × ¬ SameOffset
+DiffersAt SameSize SameOffset from to DataType = SameSize × SameOffset × (from.width ≢ to.width)
+DiffersAt SameSize SameOffset from to NumChannels = SameSize × SameOffset ×
     (from.width ≡ to.width) × (from.channels ≢ to.channels)
-DiffersFirst from to other = ⊥
+DiffersAt SameSize SameOffset from to other = ⊥
+
+-- the first item in which two scales differ
+abbrev pub DiffersFirst : Scale → Scale → Item → Type 0
+DiffersFirst from to item = DiffersAt (from.size ≡ to.size) (from.offset ≡ to.offset) from to item
 
 -- the number of cells of the first grid, the source's or the target's, that has more than 2^22 (this project's limit)
 abbrev pub too_many : Scale → Scale → Option ℕ
@@ -27,11 +31,14 @@ too_many from to =
     if nat_lt (2 ^ 22) (cell_count from) then Some (cell_count from)
     else (if nat_lt (2 ^ 22) (cell_count to) then Some (cell_count to) else None)
 
--- what is answered by the scales alone
+-- what is answered by the scales alone: in which item the target isn't as it is to be; or it is, and a grid has too many cells, or none has
+abbrev pub JudgesAs : (Item → Type 0) → Type 0 → {A : Type 0} → Result A ReshardFault → Scale → Scale → Type 0
+JudgesAs Differing Fits (Err (Differs item)) from to = Differing item
+JudgesAs Differing Fits (Err (TooManyCells cells)) from to = Fits × (too_many from to ≡ Some cells)
+JudgesAs Differing Fits result from to = Fits × (too_many from to ≡ None)
+
 abbrev pub Judges : {A : Type 0} → Result A ReshardFault → Scale → Scale → Type 0
-Judges (Err (Differs item)) from to = DiffersFirst from to item
-Judges (Err (TooManyCells cells)) from to = AreOfOneVolume from to × (too_many from to ≡ Some cells)
-Judges result from to = AreOfOneVolume from to × (too_many from to ≡ None)
+Judges result from to = JudgesAs (DiffersFirst from to) (AreOfOneVolume from to) result from to
 
 -- what is answered by the folder over objects that are told
 abbrev pub JudgesFolder : Result ⊤ ReshardFault → Objects → Name → Scale → Type 0

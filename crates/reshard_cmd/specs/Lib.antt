@@ -1,5 +1,6 @@
 pub mod Copying
 pub mod Judging
 pub mod Lines
+pub mod Making
 pub mod Refusals
 pub mod Resharding

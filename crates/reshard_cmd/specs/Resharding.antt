@@ -1,12 +1,11 @@
 -- What copying a scale into another layout answers, and what stands after it (this project's).
-use Rattle.std.specs.Prelude.{◌≡◌, ◌≢◌, ◌⊎◌, true, false, map, length, Option, Some, None, Result, Ok, Err, Contains, IfSome}
+use Rattle.std.specs.Prelude.{◌≡◌, ◌≢◌, ◌⊎◌, map, length, Option, Some, None, Result, Contains, IfSome}
 use Rattle.std.specs.FinMap as fin
-use Rattle.vol_base.specs.Outside.{Draft, Objects, OnlyReads, any_under}
+use Rattle.vol_base.specs.Outside.{Draft, Objects, OnlyReads}
 use Rattle.vol_base.specs.declared.faults.Fault.{Fault}
 use Rattle.vol_spec.specs.BoxValues.{first_some}
-use Rattle.vol_spec.specs.CellNames.{folder_of}
 use Rattle.vol_spec.specs.Chunks.{fault_in}
-use Rattle.vol_spec.specs.Copies.{copied_cells, copy}
+use Rattle.vol_spec.specs.Copies.{AreOfOneVolume, copied_cells, copy}
 use Rattle.vol_spec.specs.Cut.{first_fault}
 use Rattle.vol_spec.specs.Grid.{IsCell, cell_box}
 use Rattle.vol_spec.specs.StoredBytes.{object_of}
@@ -18,6 +17,8 @@ use Rattle.copy_laws.specs.Copied.{KeepsValues, copied_in}
 use Rattle.copier.specs.Held.{Held, cells_of}
 use Rattle.shard_writer.specs.Writing.{BeginsNext, Drops, PutsFront, joint_len}
 use Rattle.shard_writer.specs.declared.written.Written.{Written}
+use Rattle.reshard_cmd.specs.Judging.{DiffersFirst}
+use Rattle.reshard_cmd.specs.Making.{Makes, Making, Puts}
 use Rattle.reshard_cmd.specs.declared.fault.ReshardFault.{ReshardFault}
 use Rattle.reshard_cmd.specs.declared.fault.ReshardFault.TheVariants.{Differs, TooManyCells, NotEmpty, StoreFault, Damaged, OutOfMemory}
 
@@ -80,32 +81,27 @@ IsLate StoreFault = Unit {0}
 IsLate OutOfMemory = Unit {0}
 IsLate other = ⊥
 
+-- what is said of a copy
+abbrev pub copying : Objects → Option Objects → Name → Scale → Name → Scale → Making
+copying m now from_dataset from to_dataset to = record {
+  differs = DiffersFirst from to;
+  fits = AreOfOneVolume from to;
+  made = IsCopied m now from_dataset from to_dataset to;
+  faulty = IsFirstFault m from_dataset from to;
+  front = PutsCopyFront m now from_dataset from to_dataset to;
+}
+
 -- what storing a copy in an empty folder answers over objects that are told
 abbrev pub Copies : Result Written ReshardFault → Objects → Option Objects → Name → Scale → Name → Scale →
     Type 0
-Copies (Ok written) m now from_dataset from to_dataset to =
-    IsCopied m now from_dataset from to_dataset to written
-Copies (Err (Damaged cell fault)) m now from_dataset from to_dataset to =
-    IsFirstFault m from_dataset from to cell fault ×
-    PutsCopyFront m now from_dataset from to_dataset to
-Copies (Err StoreFault) m now from_dataset from to_dataset to =
-    PutsCopyFront m now from_dataset from to_dataset to
-Copies (Err OutOfMemory) m now from_dataset from to_dataset to =
-    PutsCopyFront m now from_dataset from to_dataset to
-Copies (Err other) m now from_dataset from to_dataset to = ⊥
+Copies result m now from_dataset from to_dataset to =
+    Puts (copying m now from_dataset from to_dataset to) result
 
--- what copying a scale answers over objects that are told: the folder is judged after the scales, and nothing is put where it isn't empty
+-- what copying a scale answers over objects that are told
 abbrev pub Reshards : Result Written ReshardFault → Objects → Option Objects → Name → Scale → Name → Scale →
     Type 0
-Reshards (Err (Differs item)) m now from_dataset from to_dataset to = now ≡ Some m
-Reshards (Err (TooManyCells cells)) m now from_dataset from to_dataset to = now ≡ Some m
-Reshards (Err NotEmpty) m now from_dataset from to_dataset to =
-    (any_under m (folder_of to_dataset to) ≡ true) × (now ≡ Some m)
-Reshards (Err StoreFault) m now from_dataset from to_dataset to =
-    (now ≡ Some m) ⊎ ((any_under m (folder_of to_dataset to) ≡ false) ×
-    PutsCopyFront m now from_dataset from to_dataset to)
-Reshards result m now from_dataset from to_dataset to = (any_under m (folder_of to_dataset to) ≡ false) ×
-    Copies result m now from_dataset from to_dataset to
+Reshards result m now from_dataset from to_dataset to =
+    Makes (copying m now from_dataset from to_dataset to) result m now to_dataset to
 
 -- what stands after a refusal, also where nothing is told: the store is only read before the copy is begun
 abbrev pub KeepsStore : ReshardFault → Option Objects → Option Objects → Option Draft → Option Draft → Type 0

@@ -214,27 +214,31 @@ is_short v part cell b meets e =
     let most = v.first_ok in
     record { room = short; few = omega (arith, short, most) }
 
--- the same where the objects may be untold
-module _ (o same : Option Objects) (dataset : Name) (s : Scale) (view : ℕ) (v : Scale) (part : Box3) (cell : Cell) (b : Box3) (inside : Inside v part) (is : IsCell v cell) (meets : Meets v cell part) (e : b ≡ common (cell_box v cell) part) (kept : same ≡ o) where
-  pub refused_told : (why : ViewFault) → IfSome same (λ m. JudgesBox (Err why) m dataset s view v b) → IfSome o (λ m. JudgesCell (Err why) m dataset s view v part cell)
-  refused_told why h =
-      in_told o _ (λ m told.
-      cell_refused v part cell inside is meets m dataset s view why (subst (λ x. JudgesBox (Err why) m dataset s view v x) e (from_told same _ m (kept ∙ told) h)))
+-- the box of what is common, of the view as it is held, is that of the view
+pub own_box : (v held : Scale) (part : Box3) (cell : Cell) (b : Box3) → v ≡ held → b ≡ common (cell_box held cell) part → b ≡ common (cell_box v cell) part
+own_box v held part cell b is_held e = e ∙ ap (λ (s : Scale). common (cell_box s cell) part) (sym is_held)
 
-  pub sound_told : (done : ⊤) (stored : Bool) → v.sharding ≡ None → IfSome o (λ m. stored ≡ is_some (fin.get m (cell_name dataset v cell))) → IfSome same (λ m. JudgesBox (Ok done) m dataset s view v b)
+-- the same where the objects may be untold, of the view as it is held
+module _ (o same : Option Objects) (dataset : Name) (s : Scale) (view : ℕ) (v held : Scale) (part : Box3) (cell : Cell) (b : Box3) (inside : Inside v part) (is : IsCell v cell) (meets : Meets v cell part) (is_held : v ≡ held)
+    (e : b ≡ common (cell_box held cell) part) (kept : same ≡ o) where
+  told_of : (P : Objects → Scale → Box3 → Type 0) → IfSome same (λ m. P m held b) → (m : Objects) → o ≡ Some m → P m v (common (cell_box v cell) part)
+  told_of P h m told = subst (P m v) (own_box v held part cell b is_held e) (subst (λ x. P m x b) (sym is_held) (from_told same _ m (kept ∙ told) h))
+
+  pub refused_told : (why : ViewFault) → IfSome same (λ m. JudgesBox (Err why) m dataset s view held b) → IfSome o (λ m. JudgesCell (Err why) m dataset s view v part cell)
+  refused_told why h = in_told o _ (λ m told. cell_refused v part cell inside is meets m dataset s view why (told_of (λ m x box. JudgesBox (Err why) m dataset s view x box) h m told))
+
+  pub sound_told : (done : ⊤) (stored : Bool) (own : Name) → own ≡ dataset → held.sharding ≡ None → IfSome o (λ m. stored ≡ is_some (fin.get m (cell_name own held cell))) → IfSome same (λ m. JudgesBox (Ok done) m dataset s view held b)
       → IfSome o (λ m. JudgesCell (Ok stored) m dataset s view v part cell)
-  sound_told done stored alone found h =
+  sound_told done stored own is_own alone found h =
       in_told o _ (λ m told.
-      cell_sound v part cell inside is meets m dataset s view done stored alone (from_told o _ m told found) (subst (λ x. JudgesBox (Ok done) m dataset s view v x) e (from_told same _ m (kept ∙ told) h)))
+      cell_sound v part cell inside is meets m dataset s view done stored (ap (λ (x : Scale). x.sharding) is_held ∙ alone)
+      (from_told o _ m told found ∙ (λ i. is_some (fin.get m (cell_name (is_own i) (sym is_held i) cell)))) (told_of (λ m x box. JudgesBox (Ok done) m dataset s view x box) h m told))
 
-  pub asked_cell : (was between now : ℕ) → between ≡ was → IfSome same (λ m. now ≤ between + pair_cost m dataset s v b) → IfSome o (λ m. now ≤ was + pair_cost m dataset s v (common (cell_box v cell) part))
+  pub asked_cell : (was between now : ℕ) → between ≡ was → IfSome same (λ m. now ≤ between + pair_cost m dataset s held b) → IfSome o (λ m. now ≤ was + pair_cost m dataset s v (common (cell_box v cell) part))
   asked_cell was between now stands h =
       in_told o _ (λ m told.
-      let own : now ≤ between + pair_cost m dataset s v (common (cell_box v cell) part) = subst (λ x. now ≤ between + pair_cost m dataset s v x) e (from_told same _ m (kept ∙ told) h) in
+      let own : now ≤ between + pair_cost m dataset s v (common (cell_box v cell) part) = told_of (λ m x box. now ≤ between + pair_cost m dataset s x box) h m told in
       omega (arith, own, stands))
-
-  pub box_inside : Inside v b
-  box_inside = subst (Inside v) (sym e) (shared_inside v part cell inside is meets)
 
 -- its reader is as before
 pub held_again : (dataset : Name) (v : Scale) (reader now : Opened) → IsHeld dataset v reader → now ≡ reader → IsHeld dataset v now

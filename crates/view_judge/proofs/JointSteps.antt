@@ -1,5 +1,5 @@
 -- All further views of a scale, region by region.
-use Rattle.std.proofs.Common.{◌≡◌, ◌≤◌, ◌<◌, ◌+◌, ◌-◌, ◌^◌, ℕ, zero, suc, List, [], ◌∷◌, ◌++◌, IfSome, length, get_or, min, drop, take, Option, Result, Some, Ok, Err, refl, ap, ◌∙◌, sym, subst, arith}
+use Rattle.std.proofs.Common.{◌≡◌, ◌≤◌, ◌<◌, ◌+◌, ◌-◌, ◌^◌, ℕ, zero, suc, List, [], ◌∷◌, ◌++◌, IfSome, length, length-take, get_or, min, drop, take, Option, Result, Some, Ok, Err, refl, ap, ◌∙◌, sym, subst, arith}
 use Rattle.std.specs.Prelude.{⊤}
 use Rattle.std.specs.List.{length_refill, refill, sum_by}
 use Rattle.std.proofs.lemmas.List.Elements.{All-weaker}
@@ -124,6 +124,13 @@ module _ (s grid : Scale) (part : Box3) (region : Cell) (own b : Box3) (are : gr
       let same : raw_len b grid.channels grid.width ≡ raw_len b s.channels s.width = ap (λ (r : Scale). raw_len b r.channels r.width) are ∙ sym (raw_same b s (regions s) (regions_beside s)) in
       let few = shared.few in
       omega (arith, e, same, few)
+
+  -- so that many bytes of a buffer are there, and hold the box's values
+  pub region_fits : (len most : ℕ) → HasRoom grid most → len ≡ min (raw_len b grid.channels grid.width) (2 ^ 128 - 1) → len ≤ most
+  region_fits len most h e = let room = region_room most h in let is = region_len len e in omega (arith, room, is)
+
+  pub region_front : (len : ℕ) (bytes : Bytes) → HasRoom grid (length bytes) → len ≡ min (raw_len b grid.channels grid.width) (2 ^ 128 - 1) → length (take len bytes) ≡ raw_len b s.channels s.width
+  region_front len bytes h e = let fits = region_fits len (length bytes) h e in let is = region_len len e in let cut = length-take len bytes in omega (arith, fits, is, cut)
 
 -- the first view wasn't read
 pub first_unread : (o : Option Objects) (dataset : Name) (s : Scale) (b : Box3) (out : Bytes) (why : CutFault) (told : ViewFault) → 1 ≤ length (further s) → told ≡ of_first why → IfSome o (λ m. HasCut (Err why) m dataset s b out)

@@ -30,7 +30,7 @@ use Rattle.view_judge.specs.Regions.{own_regions, regions}
 use Rattle.view_judge.specs.declared.fault.ViewFault.{ViewFault}
 use Rattle.view_judge.specs.declared.fault.ViewFault.TheVariants as fault
 use Rattle.view_judge.specs.declared.report.ViewsReport.{ViewsReport}
-use Rattle.view_judge.proofs.CellSteps.{behind_fault, beside_inside, beside_inside_back, has_stored, in_part, is_short, shared_inside, unsound}
+use Rattle.view_judge.proofs.CellSteps.{behind_fault, beside_inside, beside_inside_back, has_stored, in_part, is_short, own_box, shared_inside, unsound}
 use Rattle.view_judge.proofs.SharedSteps.{common_covers, common_right, common_some}
 use Rattle.view_judge.proofs.SumSteps.{first_two, no_number, none_at}
 
@@ -70,7 +70,7 @@ held_shared v held grid part region b same beside inside is meets e = subst (λ 
 -- and of a cell of its own
 pub own_shared : (v held : Scale) (part : Box3) (cell : Cell) (b : Box3) → v ≡ held → Inside v part → IsCell v cell → Meets v cell part → b ≡ common (cell_box held cell) part → IsShared held v b
 own_shared v held part cell b same inside is meets e =
-    let own : b ≡ common (cell_box v cell) part = e ∙ ap (λ (s : Scale). common (cell_box s cell) part) (sym same) in
+    let own = own_box v held part cell b same e in
     let short = is_short v part cell b meets own in
     subst (λ s. IsShared s v b) same (record { inside = subst (Inside v) (sym own) (shared_inside v part cell inside is meets); room = short.room; few = short.few })
 

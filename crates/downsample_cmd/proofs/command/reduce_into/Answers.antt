@@ -1,20 +1,21 @@
 use Rattle.std.proofs.Common.{◌≡◌, Err, rules}
 use Rattle.reshard_cmd.proofs.BegunSteps.{target_begun}
+use Rattle.reshard_cmd.proofs.MakingSteps.{target_made, untargeted}
 use Rattle.reshard_cmd.proofs.ReshardSteps.{target_drops, target_kept}
-use Rattle.downsample_cmd.proofs.DownsampleSteps.{target_reduced, untargeted}
+use Rattle.downsample_cmd.specs.Answering.{told_reduction}
 use Rattle.downsample_cmd.specs.Downsampling.{reduced_list}
 use Rattle.shard_writer.specs.Writing.{BeginsNext}
 use Rattle.downsample_cmd.proofs.command.reduce_into.Goals as goal
 
 pub returns-clause-reduces : goal.returns-clause-reduces
 returns-clause-reduces g c =
-    target_reduced c.reduce_scale.result (g.S.Source.objects c.args.store.now) (g.S.Source.objects c.read_target.new.store) (g.S.Source.objects c.reduce_scale.new.store) c.args.method c.args.dataset.now c.args.to_key.now
+    target_made (λ m. told_reduction c.args.method m (g.S.Source.objects c.reduce_scale.new.store) c.args.dataset.now) (g.S.Source.objects c.args.store.now) (g.S.Source.objects c.reduce_scale.new.store) c.args.dataset.now c.reduce_scale.result (g.S.Source.objects c.read_target.new.store) c.args.to_key.now
     c.args.from.now c.in_ok-to.to c.read_target.ensures.kept.same_objects c.in_ok-to.ensures.read c.reduce_scale.ensures.reduces
 
 pub returns-in_err-to-clause-reduces : goal.returns-in_err-to-clause-reduces
 returns-in_err-to-clause-reduces g c =
     let is : c.from_residual.result ≡ Err c.in_err-to.field-0.0 = search rules in
-    untargeted c.from_residual.result c.in_err-to.field-0.0 (g.S.Source.objects c.args.store.now) (g.S.Source.objects c.read_target.new.store) c.args.method c.args.dataset.now c.args.to_key.now c.args.from.now
+    untargeted (λ m. told_reduction c.args.method m (g.S.Source.objects c.read_target.new.store) c.args.dataset.now) (g.S.Source.objects c.args.store.now) (g.S.Source.objects c.read_target.new.store) c.args.dataset.now c.from_residual.result c.in_err-to.field-0.0 c.args.to_key.now c.args.from.now
     is c.read_target.ensures.kept.same_objects c.in_err-to.ensures.read
 
 pub returns-clause-unsharded : goal.returns-clause-unsharded

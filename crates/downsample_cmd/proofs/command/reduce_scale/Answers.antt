@@ -9,8 +9,8 @@ returns-in-Ok-clause-reduces g c =
 
 pub returns-in-Err-clause-reduces : goal.returns-in-Err-clause-reduces
 returns-in-Err-clause-reduces g c =
-    refused_reduction (g.S.Source.objects c.args.store.now) (g.S.Source.objects c.downsample.new.store) c.args.method c.args.dataset.now c.args.from.now c.args.to.now c.downsample.result c.in-Err.fault c.refuse.result
-    c.in-Err.is c.refuse.ensures (c.requires.writable, c.requires.one) c.in-Err.ensures.judges c.in-Err.ensures.downsamples
+    refused_reduction (g.S.Source.objects c.args.store.now) (g.S.Source.objects c.downsample.new.store) c.args.method c.args.dataset.now c.args.from.now c.args.to.now c.in-Err.fault c.refuse.result
+    c.refuse.ensures (c.requires.writable, c.requires.one) c.in-Err.ensures.judges c.in-Err.ensures.downsamples
 
 pub returns-in-Err-clause-kept : goal.returns-in-Err-clause-kept
 returns-in-Err-clause-kept g c =

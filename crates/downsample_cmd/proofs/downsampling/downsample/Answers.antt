@@ -4,27 +4,29 @@ use Rattle.vol_spec.specs.CellNames.{folder_of}
 use Rattle.reshard_cmd.proofs.AnswerSteps.{copy_kept, few_cells, folder_kept, scales_kept}
 use Rattle.reshard_cmd.proofs.BegunSteps.{begun_read}
 use Rattle.reshard_cmd.proofs.CopyingSteps.{told_in}
-use Rattle.downsample_cmd.proofs.AnswerSteps.{folder_judged, folder_told, reduced_judged, reduced_told, scales_judged, scales_told}
-use Rattle.downsample_cmd.specs.Downsampling.{reduced_list}
+use Rattle.reshard_cmd.proofs.MakingSteps.{folder_judged, folder_told, late_judged, late_told, scales_judged, scales_told}
+use Rattle.reduce_laws.specs.Reduced.{IsNext}
+use Rattle.downsample_cmd.specs.Judging.{DiffersNext}
+use Rattle.downsample_cmd.specs.Downsampling.{reduced_list, reducing}
 use Rattle.shard_writer.specs.Writing.{BeginsNext}
 use Rattle.downsample_cmd.proofs.downsampling.downsample.Goals as goal
 
 pub returns-in-Err-clause-judges : goal.returns-in-Err-clause-judges
-returns-in-Err-clause-judges g c = scales_judged c.in-Err.fault c.args.from.now c.args.to.now c.in-Err.ensures.early c.in-Err.ensures.judges
+returns-in-Err-clause-judges g c = scales_judged (DiffersNext c.args.from.now c.args.to.now) (IsNext c.args.from.now c.args.to.now) c.in-Err.fault c.args.from.now c.args.to.now c.in-Err.ensures.early c.in-Err.ensures.judges
 
 pub returns-in-Err-clause-downsamples : goal.returns-in-Err-clause-downsamples
 returns-in-Err-clause-downsamples g c =
-    scales_told c.in-Err.fault (g.S.Source.objects c.args.store.now) c.args.method c.args.dataset.now c.args.from.now c.args.to.now c.in-Err.ensures.early
+    scales_told (λ m. reducing c.args.method m (g.S.Source.objects c.args.store.now) c.args.dataset.now c.args.from.now c.args.to.now) c.in-Err.fault (g.S.Source.objects c.args.store.now) c.args.dataset.now c.args.to.now c.in-Err.ensures.early
 
 pub returns-in-Err-clause-kept : goal.returns-in-Err-clause-kept
 returns-in-Err-clause-kept g c = scales_kept c.in-Err.fault (g.S.Source.objects c.args.store.now) (g.S.Source.draft c.args.store.now) c.in-Err.ensures.early
 
 pub returns-in-Err-judge_folder-clause-judges : goal.returns-in-Err-judge_folder-clause-judges
-returns-in-Err-judge_folder-clause-judges g c = folder_judged c.in-Err-judge_folder.refusal c.args.from.now c.args.to.now c.in-Err-judge_folder.ensures.early c.in-Ok.ensures.judges
+returns-in-Err-judge_folder-clause-judges g c = folder_judged (DiffersNext c.args.from.now c.args.to.now) (IsNext c.args.from.now c.args.to.now) c.in-Err-judge_folder.refusal c.args.from.now c.args.to.now c.in-Err-judge_folder.ensures.early c.in-Ok.ensures.judges
 
 pub returns-in-Err-judge_folder-clause-downsamples : goal.returns-in-Err-judge_folder-clause-downsamples
 returns-in-Err-judge_folder-clause-downsamples g c =
-    folder_told c.in-Err-judge_folder.refusal (g.S.Source.objects c.args.store.now) (g.S.Source.objects c.judge_folder.new.store) c.args.method c.args.dataset.now c.args.from.now c.args.to.now c.in-Err-judge_folder.ensures.early
+    folder_told (λ m. reducing c.args.method m (g.S.Source.objects c.judge_folder.new.store) c.args.dataset.now c.args.from.now c.args.to.now) c.in-Err-judge_folder.refusal (g.S.Source.objects c.args.store.now) (g.S.Source.objects c.judge_folder.new.store) c.args.dataset.now c.args.to.now c.in-Err-judge_folder.ensures.early
     c.judge_folder.ensures.kept.same_objects c.in-Err-judge_folder.ensures.empty
 
 pub returns-in-Err-judge_folder-clause-kept : goal.returns-in-Err-judge_folder-clause-kept
@@ -44,11 +46,11 @@ pub write_reduced-requires-clause-bytes : goal.write_reduced-requires-clause-byt
 write_reduced-requires-clause-bytes g c κs within = told_in (g.S.Source.objects c.args.store.now) (g.S.Source.objects c.judge_folder.new.store) HaveBytes c.judge_folder.ensures.kept.same_objects c.judge_folder.ensures.bytes
 
 pub returns-clause-judges : goal.returns-clause-judges
-returns-clause-judges g c = reduced_judged c.write_reduced.result c.args.from.now c.args.to.now c.write_reduced.ensures.late c.in-Ok.ensures.judges
+returns-clause-judges g c = late_judged (DiffersNext c.args.from.now c.args.to.now) (IsNext c.args.from.now c.args.to.now) c.write_reduced.result c.args.from.now c.args.to.now c.write_reduced.ensures.late c.in-Ok.ensures.judges
 
 pub returns-clause-downsamples : goal.returns-clause-downsamples
 returns-clause-downsamples g c =
-    reduced_told c.write_reduced.result (g.S.Source.objects c.args.store.now) (g.S.Source.objects c.judge_folder.new.store) (g.S.Source.objects c.write_reduced.new.store) c.args.method c.args.dataset.now c.args.from.now c.args.to.now
+    late_told (λ m. reducing c.args.method m (g.S.Source.objects c.write_reduced.new.store) c.args.dataset.now c.args.from.now c.args.to.now) c.write_reduced.result (g.S.Source.objects c.args.store.now) (g.S.Source.objects c.judge_folder.new.store) (g.S.Source.objects c.write_reduced.new.store) c.args.dataset.now c.args.to.now
     c.judge_folder.ensures.kept.same_objects c.in-Ok-judge_folder.ensures.empty c.write_reduced.ensures.reduces
 
 pub returns-clause-kept : goal.returns-clause-kept

@@ -1,19 +1,21 @@
 use Rattle.std.proofs.Common.{◌≡◌, Err, rules}
 use Rattle.reshard_cmd.proofs.BegunSteps.{target_begun}
-use Rattle.reshard_cmd.proofs.ReshardSteps.{target_copied, target_drops, target_kept, untargeted}
+use Rattle.reshard_cmd.proofs.MakingSteps.{target_made, untargeted}
+use Rattle.reshard_cmd.proofs.ReshardSteps.{target_drops, target_kept}
+use Rattle.reshard_cmd.specs.Copying.{told_copy}
 use Rattle.reshard_cmd.specs.Resharding.{copy_list}
 use Rattle.shard_writer.specs.Writing.{BeginsNext}
 use Rattle.reshard_cmd.proofs.command.copy_into.Goals as goal
 
 pub returns-clause-copies : goal.returns-clause-copies
 returns-clause-copies g c =
-    target_copied c.copy_scale.result (g.S.Source.objects c.args.store.now) (g.S.Source.objects c.read_target.new.store) (g.S.Source.objects c.copy_scale.new.store) c.args.from_dataset.now c.args.to_dataset.now c.args.to_key.now
+    target_made (λ m from to. told_copy m (g.S.Source.objects c.copy_scale.new.store) c.args.from_dataset.now from c.args.to_dataset.now to) (g.S.Source.objects c.args.store.now) (g.S.Source.objects c.copy_scale.new.store) c.args.to_dataset.now c.copy_scale.result (g.S.Source.objects c.read_target.new.store) c.args.to_key.now
     c.args.from.now c.in_ok-to.to c.read_target.ensures.kept.same_objects c.in_ok-to.ensures.read c.copy_scale.ensures.copies
 
 pub returns-in_err-to-clause-copies : goal.returns-in_err-to-clause-copies
 returns-in_err-to-clause-copies g c =
     let is : c.from_residual.result ≡ Err c.in_err-to.field-0.0 = search rules in
-    untargeted c.from_residual.result c.in_err-to.field-0.0 (g.S.Source.objects c.args.store.now) (g.S.Source.objects c.read_target.new.store) c.args.from_dataset.now c.args.to_dataset.now c.args.to_key.now c.args.from.now
+    untargeted (λ m from to. told_copy m (g.S.Source.objects c.read_target.new.store) c.args.from_dataset.now from c.args.to_dataset.now to) (g.S.Source.objects c.args.store.now) (g.S.Source.objects c.read_target.new.store) c.args.to_dataset.now c.from_residual.result c.in_err-to.field-0.0 c.args.to_key.now c.args.from.now
     is c.read_target.ensures.kept.same_objects c.in_err-to.ensures.read
 
 pub returns-clause-unsharded : goal.returns-clause-unsharded

@@ -8,8 +8,8 @@ returns-in-Ok-clause-copies g c =
 
 pub returns-in-Err-clause-copies : goal.returns-in-Err-clause-copies
 returns-in-Err-clause-copies g c =
-    refused_copy (g.S.Source.objects c.args.store.now) (g.S.Source.objects c.reshard.new.store) c.args.from_dataset.now c.args.to_dataset.now c.args.from.now c.args.to.now c.reshard.result c.in-Err.fault c.refuse.result
-    c.in-Err.is c.refuse.ensures (c.requires.writable, c.requires.one) c.in-Err.ensures.judges c.in-Err.ensures.reshards
+    refused_copy (g.S.Source.objects c.args.store.now) (g.S.Source.objects c.reshard.new.store) c.args.from_dataset.now c.args.to_dataset.now c.args.from.now c.args.to.now c.in-Err.fault c.refuse.result
+    c.refuse.ensures (c.requires.writable, c.requires.one) c.in-Err.ensures.judges c.in-Err.ensures.reshards
 
 pub returns-in-Err-clause-kept : goal.returns-in-Err-clause-kept
 returns-in-Err-clause-kept g c =

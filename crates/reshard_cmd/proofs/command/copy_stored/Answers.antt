@@ -1,20 +1,22 @@
 use Rattle.command_base.proofs.Choices.{err_is}
 use Rattle.reshard_cmd.specs.Refusals.{reshard_without}
 use Rattle.reshard_cmd.proofs.BegunSteps.{source_begun}
-use Rattle.reshard_cmd.proofs.ReshardSteps.{source_copied, source_drops, target_kept, unsourced}
+use Rattle.reshard_cmd.proofs.MakingSteps.{source_made, unsourced}
+use Rattle.reshard_cmd.proofs.ReshardSteps.{source_drops, target_kept}
+use Rattle.reshard_cmd.specs.Copying.{told_copy}
 use Rattle.reshard_cmd.specs.Resharding.{copy_list}
 use Rattle.shard_writer.specs.Writing.{BeginsNext}
 use Rattle.reshard_cmd.proofs.command.copy_stored.Goals as goal
 
 pub returns-clause-copies : goal.returns-clause-copies
 returns-clause-copies g c =
-    source_copied c.copy_into.result (g.S.Source.objects c.args.store.now) (g.S.Source.objects c.read_scale.new.store) (g.S.Source.objects c.copy_into.new.store) c.args.from_dataset.now c.args.from_key.now c.args.to_dataset.now
+    source_made (λ m from to. told_copy m (g.S.Source.objects c.copy_into.new.store) c.args.from_dataset.now from c.args.to_dataset.now to) (g.S.Source.objects c.args.store.now) (g.S.Source.objects c.copy_into.new.store) c.args.to_dataset.now c.copy_into.result (g.S.Source.objects c.read_scale.new.store) c.args.from_dataset.now c.args.from_key.now
     c.args.to_key.now c.in_ok-from.from c.read_scale.ensures.kept.same_objects c.in_ok-from.ensures.read c.copy_into.ensures.copies
 
 pub returns-in_err-from-clause-copies : goal.returns-in_err-from-clause-copies
 returns-in_err-from-clause-copies g c =
     let is = err_is c.from_residual.result (reshard_without c.in_err-from.field-0.0) c.from_residual.ensures.1 in
-    unsourced c.from_residual.result c.in_err-from.field-0.0 (g.S.Source.objects c.args.store.now) (g.S.Source.objects c.read_scale.new.store) c.args.from_dataset.now c.args.from_key.now c.args.to_dataset.now c.args.to_key.now
+    unsourced (λ m from to. told_copy m (g.S.Source.objects c.read_scale.new.store) c.args.from_dataset.now from c.args.to_dataset.now to) (g.S.Source.objects c.args.store.now) (g.S.Source.objects c.read_scale.new.store) c.args.to_dataset.now c.from_residual.result c.in_err-from.field-0.0 c.args.from_dataset.now c.args.from_key.now c.args.to_key.now
     is c.read_scale.ensures.kept.same_objects c.in_err-from.ensures.read
 
 pub returns-clause-unsharded : goal.returns-clause-unsharded

@@ -1,6 +1,6 @@
-use Rattle.std.proofs.Common.{arith, length, length-take, subst, sym}
+use Rattle.std.proofs.Common.{arith, length, subst, sym}
 use Rattle.vol_base.specs.Boxes.{Covers}
-use Rattle.view_judge.proofs.JointSteps.{region_few, region_inside, region_len, region_room}
+use Rattle.view_judge.proofs.JointSteps.{region_few, region_fits, region_front, region_inside, region_len}
 use Rattle.view_judge.proofs.joint.judge_region.Goals as goal
 
 pub shared_box-shared-requires : goal.shared_box-shared-requires
@@ -14,29 +14,23 @@ overflow_cast-len g c =
 
 pub slice_bounds-judge_boxes-end : goal.slice_bounds-judge_boxes-end
 slice_bounds-judge_boxes-end g c =
-    let room = region_room c.args.first.now.scale c.args.regions.now c.args.part.now c.args.region c.cell_box.result c.shared_box-shared.result c.requires.regions c.requires.views.inside c.requires.region c.requires.meets c.cell_box.ensures.positions c.shared_box-shared.ensures (length c.args.found.now) c.requires.found in
-    let is = region_len c.args.first.now.scale c.args.regions.now c.args.part.now c.args.region c.cell_box.result c.shared_box-shared.result c.requires.regions c.requires.views.inside c.requires.region c.requires.meets c.cell_box.ensures.positions c.shared_box-shared.ensures c.byte_len-len.result c.byte_len-len.ensures in
-    omega (arith, room, is)
+    region_fits c.args.first.now.scale c.args.regions.now c.args.part.now c.args.region c.cell_box.result c.shared_box-shared.result c.requires.regions c.requires.views.inside c.requires.region c.requires.meets c.cell_box.ensures.positions c.shared_box-shared.ensures c.byte_len-len.result (length c.args.found.now) c.requires.found c.byte_len-len.ensures
 
 pub slice_bounds-judge_boxes-end-2 : goal.slice_bounds-judge_boxes-end-2
 slice_bounds-judge_boxes-end-2 g c =
-    let room = region_room c.args.first.now.scale c.args.regions.now c.args.part.now c.args.region c.cell_box.result c.shared_box-shared.result c.requires.regions c.requires.views.inside c.requires.region c.requires.meets c.cell_box.ensures.positions c.shared_box-shared.ensures (length c.args.found.now) c.requires.found in
     let is = region_len c.args.first.now.scale c.args.regions.now c.args.part.now c.args.region c.cell_box.result c.shared_box-shared.result c.requires.regions c.requires.views.inside c.requires.region c.requires.meets c.cell_box.ensures.positions c.shared_box-shared.ensures c.byte_len-len.result c.byte_len-len.ensures in
-    let cut = length-take c.byte_len-len.result c.args.found.now in
-    omega (arith, room, is, cut)
+    let front = region_front c.args.first.now.scale c.args.regions.now c.args.part.now c.args.region c.cell_box.result c.shared_box-shared.result c.requires.regions c.requires.views.inside c.requires.region c.requires.meets c.cell_box.ensures.positions c.shared_box-shared.ensures c.byte_len-len.result c.args.found.now c.requires.found c.byte_len-len.ensures in
+    omega (arith, is, front)
 
 pub slice_bounds-judge_boxes-end-3 : goal.slice_bounds-judge_boxes-end-3
 slice_bounds-judge_boxes-end-3 g c =
-    let room = region_room c.args.first.now.scale c.args.regions.now c.args.part.now c.args.region c.cell_box.result c.shared_box-shared.result c.requires.regions c.requires.views.inside c.requires.region c.requires.meets c.cell_box.ensures.positions c.shared_box-shared.ensures (length c.args.wanted.now) c.requires.wanted in
-    let is = region_len c.args.first.now.scale c.args.regions.now c.args.part.now c.args.region c.cell_box.result c.shared_box-shared.result c.requires.regions c.requires.views.inside c.requires.region c.requires.meets c.cell_box.ensures.positions c.shared_box-shared.ensures c.byte_len-len.result c.byte_len-len.ensures in
-    omega (arith, room, is)
+    region_fits c.args.first.now.scale c.args.regions.now c.args.part.now c.args.region c.cell_box.result c.shared_box-shared.result c.requires.regions c.requires.views.inside c.requires.region c.requires.meets c.cell_box.ensures.positions c.shared_box-shared.ensures c.byte_len-len.result (length c.args.wanted.now) c.requires.wanted c.byte_len-len.ensures
 
 pub slice_bounds-judge_boxes-end-4 : goal.slice_bounds-judge_boxes-end-4
 slice_bounds-judge_boxes-end-4 g c =
-    let room = region_room c.args.first.now.scale c.args.regions.now c.args.part.now c.args.region c.cell_box.result c.shared_box-shared.result c.requires.regions c.requires.views.inside c.requires.region c.requires.meets c.cell_box.ensures.positions c.shared_box-shared.ensures (length c.args.wanted.now) c.requires.wanted in
     let is = region_len c.args.first.now.scale c.args.regions.now c.args.part.now c.args.region c.cell_box.result c.shared_box-shared.result c.requires.regions c.requires.views.inside c.requires.region c.requires.meets c.cell_box.ensures.positions c.shared_box-shared.ensures c.byte_len-len.result c.byte_len-len.ensures in
-    let cut = length-take c.byte_len-len.result c.args.wanted.now in
-    omega (arith, room, is, cut)
+    let front = region_front c.args.first.now.scale c.args.regions.now c.args.part.now c.args.region c.cell_box.result c.shared_box-shared.result c.requires.regions c.requires.views.inside c.requires.region c.requires.meets c.cell_box.ensures.positions c.shared_box-shared.ensures c.byte_len-len.result c.args.wanted.now c.requires.wanted c.byte_len-len.ensures in
+    omega (arith, is, front)
 
 pub judge_boxes-requires-clause-views : goal.judge_boxes-requires-clause-views
 judge_boxes-requires-clause-views g c = record {
@@ -51,14 +45,8 @@ judge_boxes-requires-clause-limit g c = region_few c.args.first.now.scale c.args
 
 pub judge_boxes-requires-clause-found : goal.judge_boxes-requires-clause-found
 judge_boxes-requires-clause-found g c =
-    let room = region_room c.args.first.now.scale c.args.regions.now c.args.part.now c.args.region c.cell_box.result c.shared_box-shared.result c.requires.regions c.requires.views.inside c.requires.region c.requires.meets c.cell_box.ensures.positions c.shared_box-shared.ensures (length c.args.found.now) c.requires.found in
-    let is = region_len c.args.first.now.scale c.args.regions.now c.args.part.now c.args.region c.cell_box.result c.shared_box-shared.result c.requires.regions c.requires.views.inside c.requires.region c.requires.meets c.cell_box.ensures.positions c.shared_box-shared.ensures c.byte_len-len.result c.byte_len-len.ensures in
-    let cut = length-take c.byte_len-len.result c.args.found.now in
-    omega (arith, room, is, cut)
+    region_front c.args.first.now.scale c.args.regions.now c.args.part.now c.args.region c.cell_box.result c.shared_box-shared.result c.requires.regions c.requires.views.inside c.requires.region c.requires.meets c.cell_box.ensures.positions c.shared_box-shared.ensures c.byte_len-len.result c.args.found.now c.requires.found c.byte_len-len.ensures
 
 pub judge_boxes-requires-clause-wanted : goal.judge_boxes-requires-clause-wanted
 judge_boxes-requires-clause-wanted g c =
-    let room = region_room c.args.first.now.scale c.args.regions.now c.args.part.now c.args.region c.cell_box.result c.shared_box-shared.result c.requires.regions c.requires.views.inside c.requires.region c.requires.meets c.cell_box.ensures.positions c.shared_box-shared.ensures (length c.args.wanted.now) c.requires.wanted in
-    let is = region_len c.args.first.now.scale c.args.regions.now c.args.part.now c.args.region c.cell_box.result c.shared_box-shared.result c.requires.regions c.requires.views.inside c.requires.region c.requires.meets c.cell_box.ensures.positions c.shared_box-shared.ensures c.byte_len-len.result c.byte_len-len.ensures in
-    let cut = length-take c.byte_len-len.result c.args.wanted.now in
-    omega (arith, room, is, cut)
+    region_front c.args.first.now.scale c.args.regions.now c.args.part.now c.args.region c.cell_box.result c.shared_box-shared.result c.requires.regions c.requires.views.inside c.requires.region c.requires.meets c.cell_box.ensures.positions c.shared_box-shared.ensures c.byte_len-len.result c.args.wanted.now c.requires.wanted c.byte_len-len.ensures

@@ -1,15 +1,9 @@
-use Rattle.std.proofs.Common.{◌≡◌, ◌∙◌, ◌≤◌, ◌+◌, Err, IfSome, Ok, ap, arith, length, refl, subst, sym}
-use Rattle.std.specs.FinMap as fin
-use Rattle.std.specs.Option.{is_some}
+use Rattle.std.proofs.Common.{◌≡◌, ◌∙◌, ap, arith, subst, sym}
 use Rattle.vol_base.specs.Boxes.{Covers}
-use Rattle.vol_spec.specs.Grid.{Inside, IsCell, Meets, cell_box}
+use Rattle.vol_spec.specs.Grid.{Meets}
 use Rattle.vol_spec.specs.declared.scale.Scale.{Scale}
 use Rattle.cutout.specs.Opened.{Opened}
 use Rattle.size_laws.specs.Findings.{common}
-use Rattle.vol_spec.specs.CellNames.{cell_name}
-use Rattle.view_judge.specs.Answers.{JudgesBox}
-use Rattle.view_judge.specs.Further.{HasRoom}
-use Rattle.view_judge.specs.Judging.{pair_cost}
 use Rattle.view_judge.proofs.CellSteps.{asked_cell, cause_again, held_again, refused_told, sound_told, stood_again}
 use Rattle.view_judge.proofs.RegionSteps.{own_shared}
 use Rattle.view_judge.proofs.further.FurtherView.judge_cell.Goals as goal
@@ -46,53 +40,27 @@ judge_box-requires-clause-limit g c =
 
 pub returns-in-Err-clause-judged : goal.returns-in-Err-clause-judged
 returns-in-Err-clause-judged g c =
-    let same : c.self.inside.scale ≡ c.args.self.now.scale = ap (λ (r : Opened). r.scale) c.self.view_is in
-    let o = g.S.Source.objects c.args.store.now in
-    let between = g.S.Source.objects c.find_stored.new.store in
-    let b = c.shared_box-shared.result in
-    let e : b ≡ common (cell_box c.args.self.now.scale c.args.cell) c.args.part.now =
-    c.shared_box-shared.ensures ∙ ap (λ x. common x c.args.part.now) c.cell_box.ensures.positions ∙ ap (λ (v : Scale). common (cell_box v c.args.cell) c.args.part.now) same in
-    refused_told o between c.args.first.now.dataset c.args.first.now.scale c.args.number c.args.self.now.scale c.args.part.now c.args.cell b c.requires.beside.inside c.requires.cell c.requires.meets e c.find_stored.ensures.kept.same_objects
-    c.in-Err.fault (subst (λ (v : Scale). IfSome between (λ m. JudgesBox (Err c.in-Err.fault) m c.args.first.now.dataset c.args.first.now.scale c.args.number v b)) same c.in-Err.ensures.judged)
+    refused_told (g.S.Source.objects c.args.store.now) (g.S.Source.objects c.find_stored.new.store) c.args.first.now.dataset c.args.first.now.scale c.args.number c.args.self.now.scale c.self.inside.scale c.args.part.now c.args.cell c.shared_box-shared.result
+    c.requires.beside.inside c.requires.cell c.requires.meets (sym (ap (λ (r : Opened). r.scale) c.self.view_is)) (c.shared_box-shared.ensures ∙ ap (λ b. common b c.args.part.now) c.cell_box.ensures.positions) c.find_stored.ensures.kept.same_objects
+    c.in-Err.fault c.in-Err.ensures.judged
 
 pub returns-clause-judged : goal.returns-clause-judged
 returns-clause-judged g c =
-    let same : c.self.inside.scale ≡ c.args.self.now.scale = ap (λ (r : Opened). r.scale) c.self.view_is in
-    let o = g.S.Source.objects c.args.store.now in
-    let between = g.S.Source.objects c.find_stored.new.store in
-    let b = c.shared_box-shared.result in
-    let e : b ≡ common (cell_box c.args.self.now.scale c.args.cell) c.args.part.now =
-    c.shared_box-shared.ensures ∙ ap (λ x. common x c.args.part.now) c.cell_box.ensures.positions ∙ ap (λ (v : Scale). common (cell_box v c.args.cell) c.args.part.now) same in
-    let one : c.self.inside.dataset ≡ c.args.first.now.dataset = ap (λ (r : Opened). r.dataset) c.self.view_is ∙ c.requires.beside.same_dataset in
-    sound_told o between c.args.first.now.dataset c.args.first.now.scale c.args.number c.args.self.now.scale c.args.part.now c.args.cell b c.requires.beside.inside c.requires.cell c.requires.meets e c.find_stored.ensures.kept.same_objects
-    tt c.in_ok-is_stored.is_stored (ap (λ (v : Scale). v.sharding) (sym same) ∙ c.self.invariant.unsharded)
-    (subst (λ (v : Scale). IfSome o (λ m. c.in_ok-is_stored.is_stored ≡ is_some (fin.get m (cell_name c.args.first.now.dataset v c.args.cell)))) same
-    (subst (λ d. IfSome o (λ m. c.in_ok-is_stored.is_stored ≡ is_some (fin.get m (cell_name d c.self.inside.scale c.args.cell)))) one c.in_ok-is_stored.ensures.found))
-    (subst (λ (v : Scale). IfSome between (λ m. JudgesBox (Ok tt) m c.args.first.now.dataset c.args.first.now.scale c.args.number v b)) same c.in-Ok.ensures.judged)
+    sound_told (g.S.Source.objects c.args.store.now) (g.S.Source.objects c.find_stored.new.store) c.args.first.now.dataset c.args.first.now.scale c.args.number c.args.self.now.scale c.self.inside.scale c.args.part.now c.args.cell c.shared_box-shared.result
+    c.requires.beside.inside c.requires.cell c.requires.meets (sym (ap (λ (r : Opened). r.scale) c.self.view_is)) (c.shared_box-shared.ensures ∙ ap (λ b. common b c.args.part.now) c.cell_box.ensures.positions) c.find_stored.ensures.kept.same_objects
+    tt c.in_ok-is_stored.is_stored c.self.inside.dataset (ap (λ (r : Opened). r.dataset) c.self.view_is ∙ c.requires.beside.same_dataset) c.self.invariant.unsharded c.in_ok-is_stored.ensures.found c.in-Ok.ensures.judged
 
 pub returns-in-Err-clause-asked : goal.returns-in-Err-clause-asked
 returns-in-Err-clause-asked g c =
-    let same : c.self.inside.scale ≡ c.args.self.now.scale = ap (λ (r : Opened). r.scale) c.self.view_is in
-    let o = g.S.Source.objects c.args.store.now in
-    let between = g.S.Source.objects c.find_stored.new.store in
-    let b = c.shared_box-shared.result in
-    let e : b ≡ common (cell_box c.args.self.now.scale c.args.cell) c.args.part.now =
-    c.shared_box-shared.ensures ∙ ap (λ x. common x c.args.part.now) c.cell_box.ensures.positions ∙ ap (λ (v : Scale). common (cell_box v c.args.cell) c.args.part.now) same in
-    asked_cell o between c.args.first.now.dataset c.args.first.now.scale c.args.number c.args.self.now.scale c.args.part.now c.args.cell b c.requires.beside.inside c.requires.cell c.requires.meets e c.find_stored.ensures.kept.same_objects
-    (g.S.Source.asked c.args.store.now) (g.S.Source.asked c.find_stored.new.store) _ c.find_stored.ensures.asked
-    (subst (λ (v : Scale). IfSome between (λ m. g.S.Source.asked c.judge_box.new.store ≤ g.S.Source.asked c.find_stored.new.store + pair_cost m c.args.first.now.dataset c.args.first.now.scale v b)) same c.judge_box.ensures.asked)
+    asked_cell (g.S.Source.objects c.args.store.now) (g.S.Source.objects c.find_stored.new.store) c.args.first.now.dataset c.args.first.now.scale c.args.number c.args.self.now.scale c.self.inside.scale c.args.part.now c.args.cell c.shared_box-shared.result
+    c.requires.beside.inside c.requires.cell c.requires.meets (sym (ap (λ (r : Opened). r.scale) c.self.view_is)) (c.shared_box-shared.ensures ∙ ap (λ b. common b c.args.part.now) c.cell_box.ensures.positions) c.find_stored.ensures.kept.same_objects
+    (g.S.Source.asked c.args.store.now) (g.S.Source.asked c.find_stored.new.store) _ c.find_stored.ensures.asked c.judge_box.ensures.asked
 
 pub returns-clause-asked : goal.returns-clause-asked
 returns-clause-asked g c =
-    let same : c.self.inside.scale ≡ c.args.self.now.scale = ap (λ (r : Opened). r.scale) c.self.view_is in
-    let o = g.S.Source.objects c.args.store.now in
-    let between = g.S.Source.objects c.find_stored.new.store in
-    let b = c.shared_box-shared.result in
-    let e : b ≡ common (cell_box c.args.self.now.scale c.args.cell) c.args.part.now =
-    c.shared_box-shared.ensures ∙ ap (λ x. common x c.args.part.now) c.cell_box.ensures.positions ∙ ap (λ (v : Scale). common (cell_box v c.args.cell) c.args.part.now) same in
-    asked_cell o between c.args.first.now.dataset c.args.first.now.scale c.args.number c.args.self.now.scale c.args.part.now c.args.cell b c.requires.beside.inside c.requires.cell c.requires.meets e c.find_stored.ensures.kept.same_objects
-    (g.S.Source.asked c.args.store.now) (g.S.Source.asked c.find_stored.new.store) _ c.find_stored.ensures.asked
-    (subst (λ (v : Scale). IfSome between (λ m. g.S.Source.asked c.judge_box.new.store ≤ g.S.Source.asked c.find_stored.new.store + pair_cost m c.args.first.now.dataset c.args.first.now.scale v b)) same c.judge_box.ensures.asked)
+    asked_cell (g.S.Source.objects c.args.store.now) (g.S.Source.objects c.find_stored.new.store) c.args.first.now.dataset c.args.first.now.scale c.args.number c.args.self.now.scale c.self.inside.scale c.args.part.now c.args.cell c.shared_box-shared.result
+    c.requires.beside.inside c.requires.cell c.requires.meets (sym (ap (λ (r : Opened). r.scale) c.self.view_is)) (c.shared_box-shared.ensures ∙ ap (λ b. common b c.args.part.now) c.cell_box.ensures.positions) c.find_stored.ensures.kept.same_objects
+    (g.S.Source.asked c.args.store.now) (g.S.Source.asked c.find_stored.new.store) _ c.find_stored.ensures.asked c.judge_box.ensures.asked
 
 pub invariant_of-self : goal.invariant_of-self
 invariant_of-self g c =

@@ -3,12 +3,12 @@ use Rattle.std.specs.List.{All}
 use Rattle.std.proofs.lemmas.List.{length-append}
 use Rattle.std.proofs.lemmas.List.Elements.{All-contains}
 use Rattle.vol_spec.proofs.Told.{in_told}
-use Rattle.vol_spec.specs.Grid.{cell_box, cells_in, Inside, IsCell, Meets}
+use Rattle.vol_spec.specs.Grid.{cell_box, cells_in, IsCell, Meets}
 use Rattle.chunk_grid.proofs.Walked.{at_end, here, one_on}
 use Rattle.cutout.specs.Opened.{Opened}
 use Rattle.size_laws.specs.Findings.{common}
 use Rattle.view_judge.specs.Answers.{AreCells, JudgesCell}
-use Rattle.view_judge.specs.Further.{IsBeside, StandsBeside}
+use Rattle.view_judge.specs.Further.{StandsBeside}
 use Rattle.view_judge.specs.Judging.{pair_cost}
 use Rattle.view_judge.proofs.WalkSteps.{IsOne, IsSum, asked_all, asked_more, asked_next, asked_none, both_more, cell_stops, cells_more, moved, moved_told}
 use Rattle.view_judge.proofs.further.FurtherView.judge_cells.Goals as goal

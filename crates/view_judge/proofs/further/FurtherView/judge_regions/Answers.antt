@@ -1,8 +1,8 @@
-use Rattle.std.proofs.Common.{◌≤◌, ◌∙◌, ◌+◌, IfSome, Err, Ok, ap, refl, subst, sym}
+use Rattle.std.proofs.Common.{◌≤◌, ◌∙◌, ◌+◌, IfSome, Err, Ok, refl, subst, sym}
 use Rattle.std.proofs.lemmas.List.Elements.{All-contains, All-nil, All-push}
 use Rattle.vol_base.specs.Outside.{HaveBytes}
 use Rattle.vol_spec.proofs.Told.{in_told}
-use Rattle.vol_spec.specs.Grid.{cell_box, cells_in, Inside, IsCell, Meets}
+use Rattle.vol_spec.specs.Grid.{cell_box, cells_in, IsCell, Meets}
 use Rattle.chunk_grid.proofs.Walked.{at_end, here, one_on}
 use Rattle.cutout.specs.Opened.{Opened}
 use Rattle.size_laws.specs.Findings.{common}
