@@ -1,4 +1,4 @@
--- Which cells are found to be there, and which are copied.
+-- Which cells are found to be there, and which are made.
 use Rattle.std.proofs.Common.{◌≡◌, ◌&&◌, ℕ, List, Bool, true, false, Option, Some, None, IfSome, refl, ap, ◌∙◌, sym, subst}
 use Rattle.std.specs.Prelude.{Err, Ok, Result, filter}
 use Rattle.std.specs.FinMap as fin
@@ -7,7 +7,7 @@ use Rattle.vol_base.specs.Outside.{Objects}
 use Rattle.vol_base.specs.declared.boxes.Box3.{Box3}
 use Rattle.vol_base.specs.declared.faults.Fault.{Fault}
 use Rattle.vol_spec.specs.Chunks.{chunk_in}
-use Rattle.vol_spec.specs.Copies.{AreOfOneVolume, copied_cells, is_copied, is_there}
+use Rattle.vol_spec.specs.Copies.{AreOfOneVolume, is_there}
 use Rattle.vol_spec.specs.Encodings.{cell_limit}
 use Rattle.vol_spec.specs.FoundChunks.{found}
 use Rattle.vol_spec.specs.Grid.{Inside, IsCell, cell_box, cells_on, meets, numbers_on}
@@ -24,6 +24,7 @@ use Rattle.cutout.specs.declared.fault.CutFault.TheVariants.{Damaged}
 use Rattle.cutout.specs.declared.found.Found.{Found}
 use Rattle.cutout.specs.declared.found.Found.TheVariants.{Absent, At}
 use Rattle.copier.specs.Marks.{AddsMarks, AreMarked, marked}
+use Rattle.copier.specs.Placed.{is_placed, placed_cells}
 use Rattle.copier.proofs.MarkSteps.{marked_list, stored_in, unstored_in}
 
 -- whether a search for a chunk finds something
@@ -85,15 +86,12 @@ inside_back from to same b h = record { some = h.some; within = λ p c. subst (�
 pub source_inside : (from to : Scale) (cell : List ℕ) (b : Box3) → AreOfOneVolume from to → IsCell from cell → b ≡ cell_box from cell → Inside to b
 source_inside from to cell b same is e = subst (Inside to) (sym e) (inside_back from to same (cell_box from cell) (cell_box-Inside from cell is))
 
--- the cells that are marked are those that are copied
-listed_are : (m : Objects) (dataset : List ℕ) (from to : Scale) (marks : List Bool) → AreMarked to (is_copied m dataset from to) marks → filter (marked to marks) (numbers_on (cells_on to)) ≡ copied_cells m dataset from to
-unfolding copied_cells
-listed_are m dataset from to marks h = marked_list to (is_copied m dataset from to) marks h
-
-pub found_copied : (o : Option Objects) (dataset : List ℕ) (from to : Scale) (marks : List Bool) (list : List (List ℕ)) → list ≡ filter (marked to marks) (numbers_on (cells_on to))
-    → IfSome o (λ m. AreMarked to (is_copied m dataset from to) marks) → IfSome o (λ m. list ≡ copied_cells m dataset from to)
-found_copied None dataset from to marks list e h = tt
-found_copied (Some m) dataset from to marks list e h = e ∙ listed_are m dataset from to marks h
+-- the cells that are marked are those that are made
+pub found_placed : (place : List ℕ → Box3) (made : Objects → List (List ℕ)) (o : Option Objects) (dataset : List ℕ) (from to : Scale) (marks : List Bool) (list : List (List ℕ))
+    → ((m : Objects) → made m ≡ placed_cells place m dataset from to) → list ≡ filter (marked to marks) (numbers_on (cells_on to))
+    → IfSome o (λ m. AreMarked to (is_placed place m dataset from to) marks) → IfSome o (λ m. list ≡ made m)
+found_placed place made None dataset from to marks list is e h = tt
+found_placed place made (Some m) dataset from to marks list is e h = e ∙ marked_list to (is_placed place m dataset from to) marks h ∙ sym (is m)
 
 -- a cell of the source that it has nothing of marks nothing; another one marks those that a box meets
 pub source_skipped : (o : Option Objects) (dataset : List ℕ) (s to : Scale) (cell : List ℕ) (part : Box3) (marks : List Bool) (stored : Bool) → stored ≡ false

@@ -20,7 +20,7 @@ use Rattle.write_plan.specs.Jobs.{Prepares, cells_in, job_of, jobs_of, window_of
 use Rattle.write_plan.specs.declared.jobs.Job.{Job}
 use Rattle.write_plan.specs.declared.chunks.PrepareFault.{PrepareFault}
 use Rattle.write_plan.specs.declared.chunks.PrepareFault.TheVariants.{StoreFault, Damaged}
-use Rattle.copier.specs.Held.{AreFilled, AreRead, HasFrames, Held, Holds, Readings, ReadsAll, cells_of, first_of, front, holding, ready_of}
+use Rattle.copier.specs.Held.{AreFilled, AreRead, HasFrames, HasFront, Held, Holds, Readings, ReadsAll, cells_of, first_of, front, holding, ready_of}
 use Rattle.copier.specs.HeldLaws.{held_jobs, length-front}
 use Rattle.copier.proofs.MarkSteps.{listed_at, listed_from}
 
@@ -164,12 +164,12 @@ le_from a b e = grind (arith, nat_tests)
 lt_from : (a b : ℕ) → nat_lt a b ≡ true → a < b
 lt_from a b e = grind (arith, nat_tests)
 
-pub ready_facts : (h : Held) (job n : ℕ) → IsSomeAnd (ready_of h job) (λ b. length b ≡ n) → (h.first ≤ job) × (job < h.first + h.count) × (raw_size h.to (cell_of (cells_of h) job) ≡ n)
+ready_facts : (h : Held) (job n : ℕ) → IsSomeAnd (ready_of h job) (λ b. length b ≡ n) → (h.first ≤ job) × (job < h.first + h.count) × (raw_size h.to (cell_of (cells_of h) job) ≡ n)
 ready_facts h job n some =
     let parts = split_some (nat_le h.first job) (nat_lt job (h.first + h.count)) (front (raw_size h.to (cell_of (cells_of h) job)) (slice_index_or h.frames (job - h.first) [])) n some in
     (le_from h.first job parts.0, lt_from job (h.first + h.count) parts.1, sym (length-front (raw_size h.to (cell_of (cells_of h) job)) (slice_index_or h.frames (job - h.first) [])) ∙ parts.2)
 
-pub ready_is : (h : Held) (job n : ℕ) (frame : List ℕ) → IsSomeAnd (ready_of h job) (λ b. length b ≡ n) → slice_index_or h.frames (job - h.first) [] ≡ frame → n ≤ length frame → ready_of h job ≡ Some (take n frame)
+ready_is : (h : Held) (job n : ℕ) (frame : List ℕ) → IsSomeAnd (ready_of h job) (λ b. length b ≡ n) → slice_index_or h.frames (job - h.first) [] ≡ frame → n ≤ length frame → ready_of h job ≡ Some (take n frame)
 ready_is h job n frame some e long =
     let facts = ready_facts h job n some in
     let size = facts.2 in
@@ -179,7 +179,7 @@ ready_is h job n frame some e long =
     ∙ ap (λ xs. Some (front n xs)) e
     ∙ ap Some (take-append-le n frame (replicate n 0) long)
 
-pub frame_long : (h : Held) (job n : ℕ) (frame : List ℕ) → AreFilled h.to h.count h.frames → IsSomeAnd (ready_of h job) (λ b. length b ≡ n) → slice_index_or h.frames (job - h.first) [] ≡ frame → n ≤ length frame
+frame_long : (h : Held) (job n : ℕ) (frame : List ℕ) → AreFilled h.to h.count h.frames → IsSomeAnd (ready_of h job) (λ b. length b ≡ n) → slice_index_or h.frames (job - h.first) [] ≡ frame → n ≤ length frame
 frame_long h job n frame filled some e =
     let facts = ready_facts h job n some in
     let low = facts.0 in
@@ -189,3 +189,17 @@ frame_long h job n frame filled some e =
     let short = cell_box-short h.to (cell_of (cells_of h) job) in
     let same = ap length e in
     omega (arith, long, short, size, same)
+
+-- the frame of a job that is ready has its bytes in front
+pub ready_front : (h : Held) (jobs : List Job) (frames : List (Vec ℕ Global)) (job n : ℕ) → HasFrames h jobs frames → IsSomeAnd (ready_of h job) (λ b. length b ≡ n) → HasFront h.first job n h.frames
+ready_front h jobs frames job n held some =
+    let facts = ready_facts h job n some in
+    let low = facts.0 in
+    let high = facts.1 in
+    let within = held.within in
+    record { low = low; within = omega (arith, low, high, within); long = frame_long h job n (slice_index_or h.frames (job - h.first) []) held.filled some refl }
+
+pub ready_put : (h : Held) (jobs : List Job) (frames : List (Vec ℕ Global)) (job n : ℕ) (raw : List ℕ) → HasFrames h jobs frames → IsSomeAnd (ready_of h job) (λ b. length b ≡ n)
+    → raw ≡ take n (slice_index_or h.frames (job - h.first) []) → ready_of h job ≡ Some raw
+ready_put h jobs frames job n raw held some put =
+    ready_is h job n (slice_index_or h.frames (job - h.first) []) some refl (ready_front h jobs frames job n held some).long ∙ ap Some (sym put)

@@ -3,10 +3,11 @@ use Rattle.std.specs.Prelude.{◌≡◌, ℕ, ◌+◌, ◌-◌, ◌<◌, ◌≤�
 use Rattle.std.specs.Global.{Global}
 use Rattle.std.specs.List.{range_with_len}
 use Rattle.vol_base.specs.Outside.{Objects}
+use Rattle.vol_base.specs.declared.boxes.Box3.{Box3}
 use Rattle.vol_base.specs.declared.faults.Fault.{Fault}
 use Rattle.vol_spec.specs.BoxValues.{first_some}
 use Rattle.vol_spec.specs.Copies.{AreOfOneVolume, copied_raw}
-use Rattle.vol_spec.specs.Cut.{first_fault}
+use Rattle.vol_spec.specs.Cut.{cut, first_fault}
 use Rattle.vol_spec.specs.Encodings.{raw_size}
 use Rattle.vol_spec.specs.Grid.{cell_box, cells_on, numbers_on}
 use Rattle.vol_spec.specs.Limits.{first_bytes}
@@ -89,6 +90,12 @@ ready_of h job =
     then Some (front (raw_size h.to (cell_of (cells_of h) job)) (slice_index_or h.frames (job - h.first) []))
     else None
 
+-- a job's frame, of those for the jobs from a number on, has so many bytes or more
+pub record HasFront (first job n : ℕ) (frames : List Bytes) : Type 0 where
+  pub low : first ≤ job
+  pub within : job - first < length frames
+  pub long : n ≤ length (slice_index_or frames (job - first) [])
+
 -- a frame has room for the values of each cell,
 abbrev pub Holds : Scale → Vec ℕ Global → Type 0
 Holds to frame = first_bytes to.width to.channels to.size to.chunk ≤ vec_capacity frame
@@ -113,6 +120,12 @@ pub record HasFrames (h : Held) (jobs : List Job) (frames : List (Vec ℕ Global
 pub record IsHeld (h : Held) (jobs : List Job) (frames : List (Vec ℕ Global)) : Type 0 where
   pub volume : AreOfOneVolume h.from h.to
   pub held : HasFrames h jobs frames
+
+-- cutting a box out: its values, or its first fault
+abbrev pub CutsBox : Result ⊤ PrepareFault → Objects → Name → Scale → Box3 → Bytes → Type 0
+CutsBox (Ok done) m dataset s b raw = (first_fault m dataset s b ≡ None) × (raw ≡ cut m dataset s b)
+CutsBox (Err (Damaged at fault)) m dataset s b raw = first_fault m dataset s b ≡ Some (at, fault)
+CutsBox (Err StoreFault) m dataset s b raw = Unit {0}
 
 -- what each cell is read as: its first fault, if any, and its raw bytes where it has none
 pub record Readings : Type 0 where

@@ -1,4 +1,6 @@
 pub mod Held
 pub mod HeldLaws
 pub mod Marks
+pub mod Placed
+pub mod PlacedLaws
 pub mod Sources

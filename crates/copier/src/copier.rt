@@ -1,5 +1,5 @@
 //! The copier.
-ghost use Rattle.std.specs.Prelude.{◌≡◌, ◌≢◌, ◌-◌, ◌<◌, ◌≤◌, ◌^◌, ◌+◌, All, AllPairs, List, ℕ, length, IfOk, IfSome, IsOk, IsSome, OnOk};
+ghost use Rattle.std.specs.Prelude.{◌≡◌, ◌≢◌, ◌-◌, ◌<◌, ◌≤◌, ◌^◌, ◌+◌, [], All, AllPairs, List, ℕ, length, map, slice_index_or, take, IfOk, IfSome, IsOk, IsSome, OnOk};
 ghost use Rattle.vol_base.specs.Causes.{HasCauseOf};
 ghost use Rattle.vol_base.specs.Outside.{OnlyReads};
 ghost use Rattle.vol_spec.specs.Copies.{AreOfOneVolume, copied_cells};
@@ -8,10 +8,11 @@ ghost use Rattle.vol_spec.specs.StoredLists.{in_key_order};
 ghost use Rattle.vol_spec.specs.declared.scale.Scale.{Scale};
 ghost use Rattle.write_plan.specs.Jobs.{AreReady, Prepares, jobs_fault, window_of};
 ghost use Rattle.write_plan.specs.Pairs.{cell_count};
-ghost use Rattle.copier.specs.Held.{Holds, cells_of};
+ghost use Rattle.copier.specs.Held.{HasFront, Holds, cells_of};
 ghost use Rattle.copier.specs.Sources.{HasPrepared, window_cost};
 
-use crate::found::find_copied;
+use crate::found::find_placed;
+use crate::placing::Copies;
 use crate::reading::read_jobs;
 use cutout::{KeepingReader, Reader};
 use std::alloc::{AllocError, Global};
@@ -33,6 +34,16 @@ pub fn reserve_frames(alloc: Global, scale: &Scale, count: u64) -> Result<Vec<Ve
         frames.push(frame)?;
     }
     Ok(frames)
+}
+
+/// Puts the front of a job's frame, of frames for the jobs from a number on.
+pub fn put_front(frames: &[Vec<u8>], first: u64, job: u64, raw: &mut [u8])
+    requires { HasFront first job (length raw.old) (map (λ f. f.items) frames.now) }
+    ensures { raw.new ≡ take (length raw.old)
+        (slice_index_or (map (λ f. f.items) frames.now) (job - first) []) }
+{
+    let frame = &frames[(job - first) as usize];
+    raw.copy_from_slice(&frame[..raw.len()]);
 }
 
 /// What makes the chunks of a copy: the source's values in the boxes of the target's cells. It is seen
@@ -91,7 +102,7 @@ impl Copier {
         let Ok(mut reader) = Reader::open(alloc, dataset, from) else {
             return Err(StoreRefusal::OutOfMemory);
         };
-        let cells = match find_copied(alloc, &mut reader, store, from, to) {
+        let cells = match find_placed::<Copies, S>(alloc, &mut reader, store, from, to) {
             Ok(cells) => cells,
             Err(refusal) => return Err(refusal),
         };
@@ -236,7 +247,6 @@ impl Chunks for Copier {
 
     /// Puts the bytes of a job's frame. It takes no memory.
     fn fill(&self, job: u64, raw: &mut [u8]) {
-        let frame = &self.frames[(job - self.first) as usize];
-        raw.copy_from_slice(&frame[..raw.len()]);
+        put_front(&self.frames, self.first, job, raw);
     }
 }

@@ -1,16 +1,18 @@
-//! Which cells are copied.
+//! Which cells of a target are made from a source.
 ghost use Rattle.std.specs.Prelude.{◌≡◌, ◌&&◌, ◌≤◌, ◌^◌, All, false, length, replicate, IfOk, IfSome, OnOk};
 ghost use Rattle.vol_base.specs.Causes.{HasCause, HasCauseOf};
 ghost use Rattle.vol_base.specs.Outside.{OnlyReads};
 ghost use Rattle.vol_spec.specs.Chunks.{chunk_in};
-ghost use Rattle.vol_spec.specs.Copies.{AreOfOneVolume, copied_cells, is_copied, is_there as there};
+ghost use Rattle.vol_spec.specs.Copies.{is_there as there};
 ghost use Rattle.vol_spec.specs.Grid.{Inside, IsCell, meets};
 ghost use Rattle.vol_spec.specs.StoredCells.{AreInOrder};
 ghost use Rattle.write_plan.specs.Pairs.{cell_count};
 ghost use Rattle.copier.specs.Marks.{AddsMarks, AreMarked};
+ghost use Rattle.copier.specs.Placed.{is_placed};
 
 use crate::marks::{list_marked, mark_cells};
-use chunk_grid::{cell_box, cells, count_cells, whole};
+use crate::placing::Placing;
+use chunk_grid::{cells, count_cells, whole};
 use cutout::{CutFault, Found, Reader};
 use std::alloc::{AllocError, Global};
 use vol_base::{Box3, Failed, Source, StoreRefusal};
@@ -35,11 +37,8 @@ fn is_there<S: Source>(reader: &mut Reader, store: &mut S, cell: [u64; 3]) -> Re
     }
 }
 
-/// Marks the cells of the target that meet a box, if the source has a chunk or a fault of a cell.
-///
-/// # Errors
-/// `Failed` only where the store failed.
-pub fn mark_source<S: Source>(
+// Marks the cells of the target that meet a box, if the source has a chunk or a fault of a cell.
+fn mark_source<S: Source>(
     reader: &mut Reader,
     store: &mut S,
     cell: [u64; 3],
@@ -69,8 +68,8 @@ pub fn mark_source<S: Source>(
     }
 }
 
-// Marks the cells that are copied.
-fn mark_copied<S: Source>(
+// Marks the cells of the target that the source's cells are placed over, those of which it has a chunk or a fault.
+fn mark_placed<P: Placing, S: Source>(
     reader: &mut Reader,
     store: &mut S,
     from: &Scale,
@@ -78,19 +77,19 @@ fn mark_copied<S: Source>(
     marks: &mut [bool],
 ) -> Result<(), Failed>
     requires source { reader.old.scale ≡ from.now }
-    requires volume { AreOfOneVolume from.now to.now }
+    requires fits { P.fits from.now to.now }
     requires few { cell_count to.now ≤ 2 ^ 22 }
     requires len { length marks.old ≡ cell_count to.now }
     requires clear { All (λ mark. mark ≡ false) marks.old }
-    ensures marks { OnOk result (IfSome (S.objects store.old) (λ m.
-        AreMarked to.now (is_copied m reader.old.dataset from.now to.now) marks.new)) }
+    ensures marks { OnOk result (IfSome (S.objects store.old) (λ m. AreMarked to.now
+        (is_placed (P.place from.now to.now) m reader.old.dataset from.now to.now) marks.new)) }
     ensures same { reader.new ≡ reader.old }
     ensures kept { OnlyReads (S.objects store.old) (S.objects store.new) (S.draft store.old)
         (S.draft store.new) }
     ensures cause { HasCause (S.faults store.old) (S.faults store.new) result }
 {
     for cell in cells(from, &whole(from)) {
-        match mark_source(reader, store, cell, to, &cell_box(from, cell), marks) {
+        match mark_source(reader, store, cell, to, &P::place(from, to, cell), marks) {
             Ok(()) => {}
             Err(fault) => return Err(fault),
         }
@@ -98,19 +97,19 @@ fn mark_copied<S: Source>(
     Ok(())
 }
 
-/// So many marks, of which none is set.
-pub fn reserve_marks(alloc: Global, count: usize) -> Result<Vec<bool>, AllocError>
+// So many marks, of which none is set.
+fn reserve_marks(alloc: Global, count: usize) -> Result<Vec<bool>, AllocError>
     ensures { IfOk result (λ marks. marks.items ≡ replicate count false) }
 {
     vec![in alloc; false; count]
 }
 
-/// The cells of the target that are copied, in the order of the grid: those that the box of a cell of the
-/// source meets, of which the source has a chunk or a fault. Each cell of the source is located.
+/// The cells of the target that are made from the source, in the order of the grid: those that a cell of the source is
+/// placed over, of which the source has a chunk or a fault. Each cell of the source is located.
 ///
 /// # Errors
 /// `Failed` only where the store failed, and `OutOfMemory`.
-pub(crate) fn find_copied<S: Source>(
+pub fn find_placed<P: Placing, S: Source>(
     alloc: Global,
     reader: &mut Reader,
     store: &mut S,
@@ -118,12 +117,12 @@ pub(crate) fn find_copied<S: Source>(
     to: &Scale,
 ) -> Result<Vec<[u64; 3]>, StoreRefusal>
     requires source { reader.old.scale ≡ from.now }
-    requires volume { AreOfOneVolume from.now to.now }
+    requires fits { P.fits from.now to.now }
     requires few { cell_count to.now ≤ 2 ^ 22 }
     ensures order { IfOk result (λ list. AreInOrder to.now list.items) }
     ensures few { IfOk result (λ list. length list.items ≤ 2 ^ 22) }
-    ensures copied { IfOk result (λ list. IfSome (S.objects store.old) (λ m.
-        list.items ≡ copied_cells m reader.old.dataset from.now to.now)) }
+    ensures made { IfOk result (λ list. IfSome (S.objects store.old) (λ m.
+        list.items ≡ P.made m reader.old.dataset from.now to.now)) }
     ensures same { reader.new ≡ reader.old }
     ensures kept { OnlyReads (S.objects store.old) (S.objects store.new) (S.draft store.old)
         (S.draft store.new) }
@@ -133,7 +132,7 @@ pub(crate) fn find_copied<S: Source>(
     let Ok(mut marks) = reserve_marks(alloc, count) else {
         return Err(StoreRefusal::OutOfMemory);
     };
-    match mark_copied(reader, store, from, to, &mut marks) {
+    match mark_placed::<P, S>(reader, store, from, to, &mut marks) {
         Ok(()) => {}
         Err(_) => return Err(StoreRefusal::Failed),
     }

@@ -4,9 +4,10 @@
 mod copier;
 mod found;
 mod marks;
+mod placing;
 mod reading;
 
-pub use copier::{Copier, reserve_frames};
-pub use found::{mark_source, reserve_marks};
-pub use marks::list_marked;
-pub use reading::{fill_up, values_len};
+pub use copier::{Copier, put_front, reserve_frames};
+pub use found::find_placed;
+pub use placing::{Copies, Placing};
+pub use reading::{cut_box, fill_up, values_len};

@@ -46,7 +46,7 @@ fn push_if(list: &mut Vec<[u64; 3]>, cell: [u64; 3], wanted: bool) -> Result<(),
 }
 
 /// The cells that are marked, in the order of the grid.
-pub fn list_marked(
+pub(crate) fn list_marked(
     alloc: Global,
     scale: &Scale,
     marks: &[bool],

@@ -4,44 +4,44 @@ ghost use Rattle.vol_base.specs.Causes.{HasCauseOf};
 ghost use Rattle.vol_base.specs.Outside.{OnlyReads};
 ghost use Rattle.vol_spec.specs.Copies.{AreOfOneVolume};
 ghost use Rattle.vol_spec.specs.Encodings.{raw_size};
-ghost use Rattle.vol_spec.specs.Grid.{IsCell};
+ghost use Rattle.vol_spec.specs.Grid.{Inside, IsCell, cells_in as meeting};
+ghost use Rattle.vol_spec.specs.Raw.{raw_len};
 ghost use Rattle.write_plan.specs.Jobs.{cells_in};
 ghost use Rattle.cutout.specs.Kept.{KeepsIndex};
 ghost use Rattle.cutout.specs.Runs.{RunsOn};
-ghost use Rattle.copier.specs.Held.{AreFilled, Holds, IsFilled, ReadsJob, ReadsJobs};
+ghost use Rattle.copier.specs.Held.{AreFilled, CutsBox, Holds, IsFilled, ReadsJob, ReadsJobs};
 ghost use Rattle.copier.specs.Sources.{cells_under, sources};
 
 use chunk_grid::{byte_len, cell_box};
 use cutout::{CutFault, KeepingReader};
-use vol_base::Source;
+use vol_base::{Box3, Source};
 use vol_spec::Scale;
 use write_plan::{JobList, PrepareFault};
 
-// Reads the source's values in the box of a cell of the target.
-fn read_job<S: Source>(
+/// Cuts a box out of the source.
+pub fn cut_box<S: Source>(
     reader: &mut KeepingReader,
     store: &mut S,
-    to: &Scale,
-    cell: [u64; 3],
+    part: &Box3,
     out: &mut [u8],
 ) -> Result<(), PrepareFault>
-    requires volume { AreOfOneVolume reader.old.opened.scale to.now }
+    requires inside { Inside reader.old.opened.scale part.now }
+    requires len { length out.old ≡ raw_len part.now reader.old.opened.scale.channels
+        reader.old.opened.scale.width }
+    requires limit { length out.old ≤ 2 ^ 30 }
     requires keeps { KeepsIndex (S.objects store.old) reader.old }
-    requires cell { IsCell to.now cell }
-    requires len { length out.old ≡ raw_size to.now cell }
-    ensures read { IfSome (S.objects store.old) (λ m.
-        ReadsJob result m reader.old.opened.dataset reader.old.opened.scale to.now cell out.new) }
+    ensures cut { IfSome (S.objects store.old) (λ m.
+        CutsBox result m reader.old.opened.dataset reader.old.opened.scale part.now out.new) }
     ensures keeps { KeepsIndex (S.objects store.old) reader.new }
     ensures same { reader.new.opened ≡ reader.old.opened }
     ensures run { IfSome (S.objects store.old) (λ m. RunsOn (is_ok result) m reader.old.opened.dataset
-        reader.old.opened.scale (cells_under reader.old.opened.scale to.now cell)
-        (S.asked store.old) (S.asked store.new) reader.old.shards reader.new.shards) }
+        reader.old.opened.scale (meeting reader.old.opened.scale part.now) (S.asked store.old)
+        (S.asked store.new) reader.old.shards reader.new.shards) }
     ensures kept { OnlyReads (S.objects store.old) (S.objects store.new) (S.draft store.old)
         (S.draft store.new) }
     ensures cause { HasCauseOf PrepareFault.StoreFault (S.faults store.old) (S.faults store.new) result }
 {
-    let part = cell_box(to, cell);
-    match reader.cutout(store, &part, out) {
+    match reader.cutout(store, part, out) {
         Ok(()) => Ok(()),
         Err(CutFault::StoreFault) => Err(PrepareFault::StoreFault),
         Err(CutFault::Damaged { cell, fault }) => Err(PrepareFault::Damaged { cell, fault }),
@@ -84,7 +84,8 @@ fn read_into<S: Source>(
     ensures cause { HasCauseOf PrepareFault.StoreFault (S.faults store.old) (S.faults store.new) result }
 {
     let len = values_len(to, cell);
-    read_job(reader, store, to, cell, &mut frame[..len])
+    let part = cell_box(to, cell);
+    cut_box(reader, store, &part, &mut frame[..len])
 }
 
 /// Fills a frame up with zeros, as far as it isn't yet. So its memory is touched the first time that it is used.

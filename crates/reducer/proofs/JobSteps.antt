@@ -18,10 +18,10 @@ use Rattle.write_plan.specs.Jobs.{cells_in}
 use Rattle.write_plan.specs.declared.jobs.Job.{Job}
 use Rattle.write_plan.specs.declared.chunks.PrepareFault.{PrepareFault}
 use Rattle.write_plan.specs.declared.chunks.PrepareFault.TheVariants.{Damaged, StoreFault}
-use Rattle.copier.specs.Held.{AreRead}
+use Rattle.copier.specs.Held.{AreRead, CutsBox}
 use Rattle.copier.proofs.FrameSteps.{read_more}
 use Rattle.coarse_laws.proofs.CoarseLaw.{read_is_reduced}
-use Rattle.reducer.specs.Reading.{CutsBox, IsReducedOf, ReadsReduced, reductions_of}
+use Rattle.reducer.specs.Reading.{IsReducedOf, ReadsReduced, reductions_of}
 
 -- what is reduced of a cutout is the job's
 pub source_reduced : (o : Option Objects) (method : Method) (dataset : List ℕ) (from to : Scale) (cell raw out : List ℕ) → IsNext from to → IsCell to cell → IfSome o HaveBytes → IsReducedOf method from to cell raw out
@@ -39,16 +39,11 @@ pub source_read : (o : Option Objects) (method : Method) (dataset : List ℕ) (f
 source_read o method dataset from to cell cut raw out next is have same reduced h =
     source_reduced o method dataset from to cell cut out next is have (subst (λ bytes. IsReducedOf method from to cell bytes out) same reduced) h
 
+-- where its source box isn't cut out, a job isn't read
 pub failed_one : (m : Objects) (method : Method) (dataset : List ℕ) (from to : Scale) (cell raw out : List ℕ) (fault : PrepareFault) → CutsBox (Err fault) m dataset from (source_box from to cell) raw
     → ReadsReduced (Err fault) method m dataset from to cell out
 failed_one m method dataset from to cell raw out StoreFault h = h
 failed_one m method dataset from to cell raw out (Damaged at fault) h = h
-
--- where its source box isn't cut out, a job isn't read
-pub source_failed : (o : Option Objects) (method : Method) (dataset : List ℕ) (from to : Scale) (cell raw out : List ℕ) (fault : PrepareFault)
-    → IfSome o (λ m. CutsBox (Err fault) m dataset from (source_box from to cell) raw) → IfSome o (λ m. ReadsReduced (Err fault) method m dataset from to cell out)
-source_failed None method dataset from to cell raw out fault h = tt
-source_failed (Some m) method dataset from to cell raw out fault h = failed_one m method dataset from to cell raw out fault h
 
 -- the cell of a job is one of the grid's
 pub cell_own : (to : Scale) (jobs : List Job) (n : ℕ) (cell : List ℕ) → All (IsCell to) (cells_in jobs) → n < length jobs → cell ≡ cell_of (cells_in jobs) n → IsCell to cell

@@ -1,3 +1,2 @@
-pub mod FoundSteps
 pub mod JobSteps
 pub mod SourceSteps

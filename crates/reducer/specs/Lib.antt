@@ -1,3 +1,4 @@
+pub mod PlacedLaws
 pub mod Reading
 pub mod Works
 pub mod WorkLaws

@@ -1,27 +1,19 @@
 -- What reading and reducing jobs answers (this project's).
-use Rattle.std.specs.Prelude.{◌≡◌, ◌≤◌, ℕ, List, length, Result, Ok, Err, Some, None, Vec, vec_capacity, ⊤}
+use Rattle.std.specs.Prelude.{◌≡◌, ◌≤◌, ℕ, List, length, Result, Vec, vec_capacity, ⊤}
 use Rattle.std.specs.Global.{Global}
 use Rattle.vol_base.specs.Bytes.{AreBytes}
 use Rattle.vol_base.specs.Outside.{Objects}
-use Rattle.vol_base.specs.declared.boxes.Box3.{Box3}
-use Rattle.vol_spec.specs.Cut.{cut, first_fault}
+use Rattle.vol_spec.specs.Cut.{first_fault}
 use Rattle.vol_spec.specs.Encodings.{raw_size}
 use Rattle.vol_spec.specs.Grid.{IsCell, cell_box}
 use Rattle.vol_spec.specs.Raw.{raw_len}
 use Rattle.vol_spec.specs.Types.{Bytes, Cell, Name}
 use Rattle.vol_spec.specs.declared.scale.Scale.{Scale}
 use Rattle.write_plan.specs.declared.chunks.PrepareFault.{PrepareFault}
-use Rattle.write_plan.specs.declared.chunks.PrepareFault.TheVariants.{StoreFault, Damaged}
 use Rattle.copier.specs.Held.{Readings, Reads, ReadsAll}
 use Rattle.reduce_boxes.specs.Volumes.{HasReduced}
 use Rattle.reduce_laws.specs.Reduced.{reduced_raw, source_box}
 use Rattle.reduce_laws.specs.declared.method.Method.{Method}
-
--- cutting a box out: its values, or its first fault
-abbrev pub CutsBox : Result ⊤ PrepareFault → Objects → Name → Scale → Box3 → Bytes → Type 0
-CutsBox (Ok done) m dataset s b raw = (first_fault m dataset s b ≡ None) × (raw ≡ cut m dataset s b)
-CutsBox (Err (Damaged at fault)) m dataset s b raw = first_fault m dataset s b ≡ Some (at, fault)
-CutsBox (Err StoreFault) m dataset s b raw = Unit {0}
 
 -- the values of a cell are those of its source box, reduced
 pub record IsReducedOf (method : Method) (from to : Scale) (cell : Cell) (raw out : Bytes) : Type 0 where

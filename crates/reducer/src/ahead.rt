@@ -7,11 +7,11 @@ ghost use Rattle.vol_spec.specs.Grid.{IsCell};
 ghost use Rattle.vol_spec.specs.Raw.{raw_len};
 ghost use Rattle.write_plan.specs.Jobs.{cells_in};
 ghost use Rattle.cutout.specs.Kept.{KeepsIndex};
-ghost use Rattle.copier.specs.Held.{AreFilled, Holds, IsFilled};
+ghost use Rattle.copier.specs.Held.{AreFilled, CutsBox, Holds, IsFilled};
 ghost use Rattle.reduce_laws.specs.Reduced.{IsNext, source_box as source_of};
-ghost use Rattle.reducer.specs.Reading.{CutsBox, HasRoom, IsReducedOf, ReadsReductions};
+ghost use Rattle.reducer.specs.Reading.{HasRoom, IsReducedOf, ReadsReductions};
 
-use crate::reading::{cut_source, reduce_in_turn, reduce_source};
+use crate::reading::{cut_source, reduce_source};
 use cutout::KeepingReader;
 use reduce_laws::Method;
 use std::mem;
@@ -91,67 +91,60 @@ fn reduce_beside<R: Threads, S: Source>(
     answer
 }
 
-// Reduces so many jobs, at least one, into frames, as `reduce_in_turn` does, each while the next one is read into the
-// other one of two buffers.
-fn reduce_some<R: Threads, S: Source>(
+// Reduces the values of a cell's source box, which a buffer has, into a frame, and reads those of the next cell into the
+// buffer. Where there is another buffer, they are read into that one meanwhile, and the two are swapped.
+fn reduce_and_read<R: Threads, S: Source>(
     rt: &R,
     reader: &mut KeepingReader,
     store: &mut S,
     method: Method,
     from: &Scale,
     to: &Scale,
-    jobs: &JobList,
+    cell: [u64; 3],
     buffer: &mut Vec<u8>,
-    other: &mut Vec<u8>,
-    frames: &mut [Vec<u8>],
-    first: u64,
-    count: usize,
+    ahead: &mut Option<Vec<u8>>,
+    frame: &mut Vec<u8>,
+    next: [u64; 3],
 ) -> Result<(), PrepareFault>
     requires source { reader.old.opened.scale ≡ from.now }
-    requires next { IsNext from.now to.now }
-    requires cells { All (IsCell to.now) (cells_in jobs.now) }
-    requires bytes { IfSome (S.objects store.old) HaveBytes }
+    requires keeps { KeepsIndex (S.objects store.old) reader.old }
+    requires halves { IsNext from.now to.now }
+    requires cell { IsCell to.now cell }
+    requires next { IsCell to.now next }
+    requires raw { length buffer.old.items
+        ≡ raw_len (source_of from.now to.now cell) from.now.channels from.now.width }
+    requires holds { Holds to.now frame.old }
     requires room { HasRoom from.now to.now buffer.old }
-    requires ahead { HasRoom from.now to.now other.old }
-    requires each { All (Holds to.now) frames.old }
-    requires within { first + count ≤ length jobs.now }
-    requires fits { first + count < 2 ^ 64 }
-    requires enough { count ≤ length frames.old }
-    requires some { 0 < count }
-    ensures read { IfSome (S.objects store.old) (λ m.
-        ReadsReductions result method m reader.old.opened.dataset from.now to.now (cells_in jobs.now)
-        first count (map (λ f. f.items) frames.new)) }
-    ensures filled { OnOk result (AreFilled to.now count (map (λ f. f.items) frames.new)) }
-    ensures each { All (Holds to.now) frames.new }
-    ensures frames { length frames.new ≡ length frames.old }
+    requires ahead { IfSome ahead.old (HasRoom from.now to.now) }
+    ensures reduced { IsReducedOf method from.now to.now cell buffer.old.items
+        (take (raw_size to.now cell) frame.new.items) }
+    ensures filled { IsFilled to.now frame.new.items }
+    ensures holds { Holds to.now frame.new }
+    ensures cut { IfSome (S.objects store.old) (λ m. CutsBox result m reader.old.opened.dataset from.now
+        (source_of from.now to.now next) buffer.new.items) }
+    ensures len { length buffer.new.items
+        ≡ raw_len (source_of from.now to.now next) from.now.channels from.now.width }
     ensures room { HasRoom from.now to.now buffer.new }
-    ensures ahead { HasRoom from.now to.now other.new }
+    ensures ahead { IfSome ahead.new (HasRoom from.now to.now) }
+    ensures keeps { KeepsIndex (S.objects store.old) reader.new }
     ensures same { reader.new.opened ≡ reader.old.opened }
     ensures kept { OnlyReads (S.objects store.old) (S.objects store.new) (S.draft store.old)
         (S.draft store.new) }
     ensures cause { HasCauseOf PrepareFault.StoreFault (S.faults store.old) (S.faults store.new) result }
 {
-    reader.forget();
-    let mut cell = jobs.get(first).cell;
-    match cut_source(reader, store, from, to, cell, buffer) {
-        Ok(()) => {}
-        Err(fault) => return Err(fault),
-    }
-    let last = count - 1;
-    for k in 0..last {
-        let next = jobs.get(first + k as u64 + 1).cell;
-        let frame = &mut frames[k];
-        match reduce_beside(
-            rt, reader, store, method, from, to, cell, buffer, frame, next, other,
-        ) {
-            Ok(()) => {}
-            Err(fault) => return Err(fault),
+    match ahead {
+        Some(other) => {
+            let answer = reduce_beside(
+                rt, reader, store, method, from, to, cell, buffer, frame, next, other,
+            );
+            mem::swap(buffer, other);
+            answer
         }
-        mem::swap(buffer, other);
-        cell = next;
+        None => {
+            reduce_source(method, from, to, cell, buffer, frame);
+            cut_source(reader, store, from, to, next, buffer)
+        }
     }
-    reduce_source(method, from, to, cell, buffer, &mut frames[last]);
-    Ok(())
 }
 
 /// Reduces so many jobs, one after the other from a number on, into frames, and fills up those frames that it uses. Their
@@ -195,12 +188,27 @@ pub(crate) fn reduce_jobs<R: Threads, S: Source>(
         (S.draft store.new) }
     ensures cause { HasCauseOf PrepareFault.StoreFault (S.faults store.old) (S.faults store.new) result }
 {
-    match ahead {
-        Some(other) if count > 0 => reduce_some(
-            rt, reader, store, method, from, to, jobs, buffer, other, frames, first, count,
-        ),
-        _ => reduce_in_turn(
-            reader, store, method, from, to, jobs, buffer, frames, first, count,
-        ),
+    reader.forget();
+    if count == 0 {
+        return Ok(());
     }
+    let mut cell = jobs.get(first).cell;
+    match cut_source(reader, store, from, to, cell, buffer) {
+        Ok(()) => {}
+        Err(fault) => return Err(fault),
+    }
+    let last = count - 1;
+    for k in 0..last {
+        let next = jobs.get(first + k as u64 + 1).cell;
+        let frame = &mut frames[k];
+        match reduce_and_read(
+            rt, reader, store, method, from, to, cell, buffer, ahead, frame, next,
+        ) {
+            Ok(()) => {}
+            Err(fault) => return Err(fault),
+        }
+        cell = next;
+    }
+    reduce_source(method, from, to, cell, buffer, &mut frames[last]);
+    Ok(())
 }

@@ -2,7 +2,6 @@
 #![tactic(auto)]
 
 mod ahead;
-mod found;
 mod reading;
 mod reducer;
 mod sources;

@@ -11,10 +11,9 @@ ghost use Rattle.reduce_laws.specs.Reduced.{IsNext, reduced_cells};
 ghost use Rattle.reducer.specs.Reading.{HasRoom};
 
 use crate::ahead::reduce_jobs;
-use crate::found::find_reduced;
-use crate::sources::source_box;
+use crate::sources::{Reductions, source_box};
 use chunk_grid::{byte_len, find_folder};
-use copier::reserve_frames;
+use copier::{find_placed, put_front, reserve_frames};
 use cutout::{KeepingReader, Reader};
 use reduce_laws::Method;
 use std::alloc::{AllocError, Global};
@@ -129,7 +128,7 @@ impl<'a, R: Threads> Reducer<'a, R> {
         let Ok(mut reader) = Reader::open(alloc, dataset, from) else {
             return Err(StoreRefusal::OutOfMemory);
         };
-        let cells = match find_reduced(alloc, &mut reader, store, from, to) {
+        let cells = match find_placed::<Reductions, S>(alloc, &mut reader, store, from, to) {
             Ok(cells) => cells,
             Err(refusal) => return Err(refusal),
         };
@@ -224,7 +223,6 @@ impl<'a, R: Threads> Chunks for Reducer<'a, R> {
 
     /// Puts the bytes of a job's frame. It takes no memory.
     fn fill(&self, job: u64, raw: &mut [u8]) {
-        let frame = &self.frames[(job - self.first) as usize];
-        raw.copy_from_slice(&frame[..raw.len()]);
+        put_front(&self.frames, self.first, job, raw);
     }
 }

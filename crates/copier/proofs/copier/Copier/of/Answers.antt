@@ -12,38 +12,38 @@ use Rattle.copier.specs.Held.{IsHeld, holding}
 use Rattle.copier.proofs.HeldSteps.{held_few, held_new, held_told}
 use Rattle.copier.proofs.copier.Copier.of.Goals as goal
 
-pub find_copied-requires-clause-source : goal.find_copied-requires-clause-source
-find_copied-requires-clause-source g c = c.in-Ok.ensures.scale
+pub find_placed-requires-clause-source : goal.find_placed-requires-clause-source
+find_placed-requires-clause-source g c = c.in-Ok.ensures.scale
 
 pub of-requires-clause-each : goal.of-requires-clause-each
-of-requires-clause-each g c = c.in-Ok-find_copied.ensures.order.each
+of-requires-clause-each g c = c.in-Ok-find_placed.ensures.order.each
 
 pub of-requires-clause-distinct : goal.of-requires-clause-distinct
-of-requires-clause-distinct g c = distinct_cells c.args.to.now c.in-Ok-find_copied.cells.items c.in-Ok-find_copied.ensures.order
+of-requires-clause-distinct g c = distinct_cells c.args.to.now c.in-Ok-find_placed.cells.items c.in-Ok-find_placed.ensures.order
 
 pub invariant_of-result : goal.invariant_of-result
 invariant_of-result g c =
     let frames = c.in-Ok-reserve_frames.frames.items in
-    subst (λ (r : Opened). IsHeld (holding r.dataset r.scale c.duplicate.result c.in-Ok-of.jobs 0 0 frames) c.in-Ok-of.jobs frames) (sym (c.keeping.ensures ∙ c.find_copied.ensures.same))
+    subst (λ (r : Opened). IsHeld (holding r.dataset r.scale c.duplicate.result c.in-Ok-of.jobs 0 0 frames) c.in-Ok-of.jobs frames) (sym (c.keeping.ensures ∙ c.find_placed.ensures.same))
     (subst (λ (s : Scale). IsHeld (holding c.in-Ok.reader.dataset c.in-Ok.reader.scale s c.in-Ok-of.jobs 0 0 frames) c.in-Ok-of.jobs frames) (sym c.duplicate.ensures)
     (record {
       volume = subst (λ s. AreOfOneVolume s c.args.to.now) (sym c.in-Ok.ensures.scale) c.requires.volume;
-      held = held_new c.in-Ok.reader.dataset c.in-Ok.reader.scale c.args.to.now c.in-Ok-find_copied.cells.items c.in-Ok-of.jobs frames
-          c.in-Ok-find_copied.ensures.order.each c.in-Ok-of.ensures.jobs
+      held = held_new c.in-Ok.reader.dataset c.in-Ok.reader.scale c.args.to.now c.in-Ok-find_placed.cells.items c.in-Ok-of.jobs frames
+          c.in-Ok-find_placed.ensures.order.each c.in-Ok-of.ensures.jobs
           (omega (arith, c.in-Ok-reserve_frames.ensures.count, c.min.ensures, c.window.ensures, c.len.ensures)) c.in-Ok-reserve_frames.ensures.each;
     }))
 
 pub returns-clause-few : goal.returns-clause-few
 returns-clause-few g c =
     subst (λ (s : Scale). length (in_key_order s (filter (is_listed (cells_in c.in-Ok-of.jobs)) (numbers_on (cells_on s)))) ≤ 2 ^ 22) (sym c.duplicate.ensures)
-    (held_few c.args.to.now c.in-Ok-find_copied.cells.items c.in-Ok-of.jobs c.in-Ok-find_copied.ensures.order c.in-Ok-of.ensures.jobs c.in-Ok-find_copied.ensures.few)
+    (held_few c.args.to.now c.in-Ok-find_placed.cells.items c.in-Ok-of.jobs c.in-Ok-find_placed.ensures.order c.in-Ok-of.ensures.jobs c.in-Ok-find_placed.ensures.few)
 
 pub returns-clause-jobs : goal.returns-clause-jobs
 returns-clause-jobs g c =
     subst (λ (s : Scale). IfSome (g.S.Source.objects c.args.store.now) (λ m. in_key_order s (filter (is_listed (cells_in c.in-Ok-of.jobs)) (numbers_on (cells_on s))) ≡ in_key_order c.args.to.now (copied_cells m c.args.dataset.now c.args.from.now c.args.to.now)))
     (sym c.duplicate.ensures)
-    (held_told (g.S.Source.objects c.args.store.now) (λ m. copied_cells m c.args.dataset.now c.args.from.now c.args.to.now) c.args.to.now c.in-Ok-find_copied.cells.items c.in-Ok-of.jobs c.in-Ok-find_copied.ensures.order c.in-Ok-of.ensures.jobs
-    (subst (λ name. IfSome (g.S.Source.objects c.args.store.now) (λ m. c.in-Ok-find_copied.cells.items ≡ copied_cells m name c.args.from.now c.args.to.now)) c.in-Ok.ensures.dataset c.in-Ok-find_copied.ensures.copied))
+    (held_told (g.S.Source.objects c.args.store.now) (λ m. copied_cells m c.args.dataset.now c.args.from.now c.args.to.now) c.args.to.now c.in-Ok-find_placed.cells.items c.in-Ok-of.jobs c.in-Ok-find_placed.ensures.order c.in-Ok-of.ensures.jobs
+    (subst (λ name. IfSome (g.S.Source.objects c.args.store.now) (λ m. c.in-Ok-find_placed.cells.items ≡ copied_cells m name c.args.from.now c.args.to.now)) c.in-Ok.ensures.dataset c.in-Ok-find_placed.ensures.made))
 
 pub returns-clause-cause : goal.returns-clause-cause
-returns-clause-cause g c = record { later = c.find_copied.ensures.cause.later; failed = λ told. absurd (cc told); stands = c.in-Ok-find_copied.ensures.cause.stands }
+returns-clause-cause g c = record { later = c.find_placed.ensures.cause.later; failed = λ told. absurd (cc told); stands = c.in-Ok-find_placed.ensures.cause.stands }

@@ -13,25 +13,25 @@ use Rattle.reduce_laws.specs.Reduced.{reduced_cells}
 use Rattle.reducer.specs.Works.{IsReduction}
 use Rattle.reducer.proofs.reducer.Reducer.of.Goals as goal
 
-pub find_reduced-requires-clause-source : goal.find_reduced-requires-clause-source
-find_reduced-requires-clause-source g c = c.in-Ok.ensures.scale
+pub find_placed-requires-clause-source : goal.find_placed-requires-clause-source
+find_placed-requires-clause-source g c = c.in-Ok.ensures.scale
 
 pub of-requires-clause-each : goal.of-requires-clause-each
-of-requires-clause-each g c = c.in-Ok-find_reduced.ensures.order.each
+of-requires-clause-each g c = c.in-Ok-find_placed.ensures.order.each
 
 pub of-requires-clause-distinct : goal.of-requires-clause-distinct
-of-requires-clause-distinct g c = distinct_cells c.args.to.now c.in-Ok-find_reduced.cells.items c.in-Ok-find_reduced.ensures.order
+of-requires-clause-distinct g c = distinct_cells c.args.to.now c.in-Ok-find_placed.cells.items c.in-Ok-find_placed.ensures.order
 
 pub invariant_of-result : goal.invariant_of-result
 invariant_of-result g c = (
-  ap (λ (r : Opened). r.scale) (c.keeping.ensures ∙ c.find_reduced.ensures.same) ∙ c.in-Ok.ensures.scale ∙ sym c.duplicate.ensures,
+  ap (λ (r : Opened). r.scale) (c.keeping.ensures ∙ c.find_placed.ensures.same) ∙ c.in-Ok.ensures.scale ∙ sym c.duplicate.ensures,
   subst (λ (d : List ℕ). IsReduction (holding d c.duplicate.result c.duplicate-2.result c.in-Ok-of.jobs 0 0 c.in-Ok-reserve_frames.frames.items) c.in-Ok-of.jobs c.in-Ok-reserve_frames.frames.items c.in-Ok-reserve_buffer.buffer c.in-Ok-reserve_ahead.ahead)
-      (sym (ap (λ (r : Opened). r.dataset) (c.keeping.ensures ∙ c.find_reduced.ensures.same)))
+      (sym (ap (λ (r : Opened). r.dataset) (c.keeping.ensures ∙ c.find_placed.ensures.same)))
       (subst (λ (s : Scale). IsReduction (holding c.in-Ok.reader.dataset s c.duplicate-2.result c.in-Ok-of.jobs 0 0 c.in-Ok-reserve_frames.frames.items) c.in-Ok-of.jobs c.in-Ok-reserve_frames.frames.items c.in-Ok-reserve_buffer.buffer c.in-Ok-reserve_ahead.ahead) (sym c.duplicate.ensures)
       (subst (λ (s : Scale). IsReduction (holding c.in-Ok.reader.dataset c.args.from.now s c.in-Ok-of.jobs 0 0 c.in-Ok-reserve_frames.frames.items) c.in-Ok-of.jobs c.in-Ok-reserve_frames.frames.items c.in-Ok-reserve_buffer.buffer c.in-Ok-reserve_ahead.ahead) (sym c.duplicate-2.ensures)
       (record {
         next = c.requires.next;
-        held = held_new c.in-Ok.reader.dataset c.args.from.now c.args.to.now c.in-Ok-find_reduced.cells.items c.in-Ok-of.jobs c.in-Ok-reserve_frames.frames.items c.in-Ok-find_reduced.ensures.order.each c.in-Ok-of.ensures.jobs
+        held = held_new c.in-Ok.reader.dataset c.args.from.now c.args.to.now c.in-Ok-find_placed.cells.items c.in-Ok-of.jobs c.in-Ok-reserve_frames.frames.items c.in-Ok-find_placed.ensures.order.each c.in-Ok-of.ensures.jobs
             (omega (arith, c.in-Ok-reserve_frames.ensures.count, c.min.ensures, c.window.ensures, c.len.ensures)) c.in-Ok-reserve_frames.ensures.each;
         room = c.in-Ok-reserve_buffer.ensures.room;
         room_ahead = c.in-Ok-reserve_ahead.ensures.room;
@@ -41,14 +41,14 @@ invariant_of-result g c = (
 pub returns-clause-few : goal.returns-clause-few
 returns-clause-few g c =
     subst (λ (s : Scale). length (in_key_order s (filter (is_listed (cells_in c.in-Ok-of.jobs)) (numbers_on (cells_on s)))) ≤ 2 ^ 22) (sym c.duplicate-2.ensures)
-    (held_few c.args.to.now c.in-Ok-find_reduced.cells.items c.in-Ok-of.jobs c.in-Ok-find_reduced.ensures.order c.in-Ok-of.ensures.jobs c.in-Ok-find_reduced.ensures.few)
+    (held_few c.args.to.now c.in-Ok-find_placed.cells.items c.in-Ok-of.jobs c.in-Ok-find_placed.ensures.order c.in-Ok-of.ensures.jobs c.in-Ok-find_placed.ensures.few)
 
 pub returns-clause-jobs : goal.returns-clause-jobs
 returns-clause-jobs g c =
     subst (λ (s : Scale). IfSome (g.S.Source.objects c.args.store.now) (λ m. in_key_order s (filter (is_listed (cells_in c.in-Ok-of.jobs)) (numbers_on (cells_on s))) ≡ in_key_order c.args.to.now (reduced_cells m c.args.dataset.now c.args.from.now c.args.to.now)))
     (sym c.duplicate-2.ensures)
-    (held_told (g.S.Source.objects c.args.store.now) (λ m. reduced_cells m c.args.dataset.now c.args.from.now c.args.to.now) c.args.to.now c.in-Ok-find_reduced.cells.items c.in-Ok-of.jobs c.in-Ok-find_reduced.ensures.order c.in-Ok-of.ensures.jobs
-    (subst (λ name. IfSome (g.S.Source.objects c.args.store.now) (λ m. c.in-Ok-find_reduced.cells.items ≡ reduced_cells m name c.args.from.now c.args.to.now)) c.in-Ok.ensures.dataset c.in-Ok-find_reduced.ensures.reduced))
+    (held_told (g.S.Source.objects c.args.store.now) (λ m. reduced_cells m c.args.dataset.now c.args.from.now c.args.to.now) c.args.to.now c.in-Ok-find_placed.cells.items c.in-Ok-of.jobs c.in-Ok-find_placed.ensures.order c.in-Ok-of.ensures.jobs
+    (subst (λ name. IfSome (g.S.Source.objects c.args.store.now) (λ m. c.in-Ok-find_placed.cells.items ≡ reduced_cells m name c.args.from.now c.args.to.now)) c.in-Ok.ensures.dataset c.in-Ok-find_placed.ensures.made))
 
 pub returns-clause-cause : goal.returns-clause-cause
-returns-clause-cause g c = record { later = c.find_reduced.ensures.cause.later; failed = λ told. absurd (cc told); stands = c.in-Ok-find_reduced.ensures.cause.stands }
+returns-clause-cause g c = record { later = c.find_placed.ensures.cause.later; failed = λ told. absurd (cc told); stands = c.in-Ok-find_placed.ensures.cause.stands }

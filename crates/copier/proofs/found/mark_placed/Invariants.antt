@@ -4,15 +4,15 @@ use Rattle.std.specs.List.{list_any}
 use Rattle.vol_base.specs.Outside.{Objects, OnlyReads}
 use Rattle.vol_spec.specs.Chunks.{chunk_in}
 use Rattle.vol_spec.specs.Copies.{is_there}
-use Rattle.vol_spec.specs.Grid.{cell_box, cells_in, meets, whole}
+use Rattle.vol_spec.specs.Grid.{cells_in, meets, whole}
 use Rattle.copier.specs.Marks.{AddsMarks}
-use Rattle.copier.proofs.found.mark_copied.Given as goal
+use Rattle.copier.proofs.found.mark_placed.Given as goal
 
 abbrev pub invariant-loop-cell : goal.invariant-loop-cell
 invariant-loop-cell g l = record {
   left : l.yielded ++ l.cell-iterator ≡ cells_in l.from (whole l.from);
   marks : (m : Objects) → g.S.Source.objects l.fn.store ≡ Some m
-      → AddsMarks l.to (λ c. list_any (λ source. meets l.to (cell_box l.from source) c) (filter (λ source. is_there (chunk_in m l.fn.reader.dataset l.from source)) l.yielded)) l.fn.marks l.marks;
+      → AddsMarks l.to (λ c. list_any (λ source. meets l.to (g.P.Placing.place l.from l.to source) c) (filter (λ source. is_there (chunk_in m l.fn.reader.dataset l.from source)) l.yielded)) l.fn.marks l.marks;
   same : l.reader ≡ l.fn.reader;
   kept : OnlyReads (g.S.Source.objects l.fn.store) (g.S.Source.objects l.store) (g.S.Source.draft l.fn.store) (g.S.Source.draft l.store);
   later : g.S.Source.faults l.store ≡ g.S.Source.faults l.fn.store;

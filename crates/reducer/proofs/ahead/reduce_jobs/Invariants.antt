@@ -1,4 +1,4 @@
-use Rattle.std.proofs.Common.{◌≡◌, ◌+◌, length, map, Ok, Some}
+use Rattle.std.proofs.Common.{◌≡◌, ◌+◌, length, map, IfSome, Ok, Some}
 use Rattle.std.specs.Prelude.{All}
 use Rattle.vol_base.specs.Outside.{Objects, OnlyReads}
 use Rattle.vol_spec.specs.Grid.{IsCell}
@@ -6,10 +6,10 @@ use Rattle.vol_spec.specs.Raw.{raw_len}
 use Rattle.vol_spec.specs.StoredCells.{cell_of}
 use Rattle.cutout.specs.Kept.{KeepsIndex}
 use Rattle.write_plan.specs.Jobs.{cells_in}
-use Rattle.copier.specs.Held.{AreFilled, AreRead, Holds}
+use Rattle.copier.specs.Held.{AreFilled, AreRead, CutsBox, Holds}
 use Rattle.reduce_laws.specs.Reduced.{source_box}
-use Rattle.reducer.specs.Reading.{CutsBox, HasRoom, reductions_of}
-use Rattle.reducer.proofs.ahead.reduce_some.Given as goal
+use Rattle.reducer.specs.Reading.{HasRoom, reductions_of}
+use Rattle.reducer.proofs.ahead.reduce_jobs.Given as goal
 
 abbrev pub invariant-loop-k : goal.invariant-loop-k
 invariant-loop-k g l = record {
@@ -24,7 +24,7 @@ invariant-loop-k g l = record {
   same : l.reader.opened ≡ l.fn.reader.opened;
   keeps : KeepsIndex (g.S.Source.objects l.fn.store) l.reader;
   room : HasRoom l.from l.to l.buffer;
-  ahead : HasRoom l.from l.to l.other;
+  ahead : IfSome l.ahead (HasRoom l.from l.to);
   kept : OnlyReads (g.S.Source.objects l.fn.store) (g.S.Source.objects l.store) (g.S.Source.draft l.fn.store) (g.S.Source.draft l.store);
   later : g.S.Source.faults l.store ≡ g.S.Source.faults l.fn.store;
 }

@@ -1,5 +1,4 @@
-use Rattle.std.proofs.Common.{◌≡◌, ◌+◌, ◌-◌, ◌<◌, ◌∙◌, ℕ, [], Err, Ok, Vec, ap, arith, length, length-set, map, refl, subst, sym}
-use Rattle.std.specs.Global.{Global}
+use Rattle.std.proofs.Common.{◌≡◌, ◌+◌, ◌-◌, ◌<◌, ◌∙◌, [], Err, Ok, ap, arith, length, length-set, map, refl, subst, sym}
 use Rattle.std.specs.Prelude.{slice_set}
 use Rattle.vol_base.specs.Causes.{Rose}
 use Rattle.vol_spec.specs.StoredCells.{cell_of}
@@ -7,29 +6,38 @@ use Rattle.vol_spec.proofs.Told.{from_told, in_told}
 use Rattle.cutout.specs.Kept.{KeepsIndex}
 use Rattle.cutout.specs.Opened.{Opened}
 use Rattle.write_plan.specs.Jobs.{cells_in}
-use Rattle.copier.specs.Held.{AreFilled, AreRead}
+use Rattle.copier.specs.Held.{AreFilled, AreRead, CutsBox}
 use Rattle.copier.proofs.FrameSteps.{filled_more, holds_set, read_failed, read_none}
 use Rattle.copier.proofs.JobSteps.{job_cell_at}
 use Rattle.reduce_laws.specs.Reduced.{source_box}
-use Rattle.reducer.specs.Reading.{CutsBox, HasRoom, ReadsReductions, reductions_of}
+use Rattle.reducer.specs.Reading.{ReadsReductions, reductions_of}
 use Rattle.reducer.proofs.JobSteps.{cell_own, failed_one, next_read}
-use Rattle.reducer.proofs.ahead.reduce_some.Goals as goal
+use Rattle.reducer.proofs.ahead.reduce_jobs.Goals as goal
+
+pub returns-then-count-eq0-clause-read : goal.returns-then-count-eq0-clause-read
+returns-then-count-eq0-clause-read g c =
+    in_told _ _ (λ m told.
+    subst (λ n. AreRead (reductions_of c.args.method m c.args.reader.now.opened.dataset c.args.from.now c.args.to.now) c.args.to.now (cells_in c.args.jobs.now) c.args.first n (map (λ f. f.items) c.args.frames.now)) (sym c.if-count-eq0.true)
+    (read_none (reductions_of c.args.method m c.args.reader.now.opened.dataset c.args.from.now c.args.to.now) c.args.to.now (cells_in c.args.jobs.now) c.args.first (map (λ f. f.items) c.args.frames.now)))
+
+pub returns-then-count-eq0-clause-filled : goal.returns-then-count-eq0-clause-filled
+returns-then-count-eq0-clause-filled g c k l = absurd (omega (arith, l, c.if-count-eq0.true))
 
 pub cut_source-requires-clause-cell : goal.cut_source-requires-clause-cell
 cut_source-requires-clause-cell g c =
-    let inside : c.args.first < length c.args.jobs.now = omega (arith, c.requires.within, c.requires.some) in
+    let inside : c.args.first < length c.args.jobs.now = omega (arith, c.requires.within, c.if-count-eq0.false) in
     cell_own c.args.to.now c.args.jobs.now c.args.first c.get.result.cell c.requires.cells inside (ap (λ job. job.cell) c.get.ensures ∙ job_cell_at c.args.jobs.now c.args.first inside)
 
 pub returns-in-Err-clause-read : goal.returns-in-Err-clause-read
 returns-in-Err-clause-read g c =
-    let inside : c.args.first < length c.args.jobs.now = omega (arith, c.requires.within, c.requires.some) in
+    let inside : c.args.first < length c.args.jobs.now = omega (arith, c.requires.within, c.if-count-eq0.false) in
     let zero : c.args.first ≡ c.args.first + 0 = omega arith in
     let here : c.get.result.cell ≡ cell_of (cells_in c.args.jobs.now) (c.args.first + 0) = ap (λ job. job.cell) c.get.ensures ∙ job_cell_at c.args.jobs.now c.args.first inside ∙ ap (cell_of (cells_in c.args.jobs.now)) zero in
     in_told (g.S.Source.objects c.args.store.now)
     (λ m. ReadsReductions (Err c.in-Err.fault) c.args.method m c.args.reader.now.opened.dataset c.args.from.now c.args.to.now (cells_in c.args.jobs.now) c.args.first c.args.count (map (λ f. f.items) c.args.frames.now))
     (λ m told.
     read_failed (reductions_of c.args.method m c.args.reader.now.opened.dataset c.args.from.now c.args.to.now) c.args.to.now (cells_in c.args.jobs.now) c.args.first 0 c.args.count (map (λ f. f.items) c.args.frames.now)
-    (map (λ f. f.items) c.args.frames.now) c.get.result.cell [] c.in-Err.fault here (omega (arith, c.requires.some))
+    (map (λ f. f.items) c.args.frames.now) c.get.result.cell [] c.in-Err.fault here (omega (arith, c.if-count-eq0.false))
     (read_none (reductions_of c.args.method m c.args.reader.now.opened.dataset c.args.from.now c.args.to.now) c.args.to.now (cells_in c.args.jobs.now) c.args.first (map (λ f. f.items) c.args.frames.now))
     (failed_one m c.args.method c.args.reader.now.opened.dataset c.args.from.now c.args.to.now c.get.result.cell c.cut_source.new.buffer.items [] c.in-Err.fault
     (subst (λ (r : Opened). CutsBox (Err c.in-Err.fault) m r.dataset c.args.from.now (source_box c.args.from.now c.args.to.now c.get.result.cell) c.cut_source.new.buffer.items) c.forget.ensures.same
@@ -37,7 +45,7 @@ returns-in-Err-clause-read g c =
 
 pub loop-k-init : goal.loop-k-init
 loop-k-init g c =
-    let inside : c.args.first < length c.args.jobs.now = omega (arith, c.requires.within, c.requires.some) in
+    let inside : c.args.first < length c.args.jobs.now = omega (arith, c.requires.within, c.if-count-eq0.false) in
     let zero : c.args.first ≡ c.args.first + 0 = omega arith in
     let here : c.get.result.cell ≡ cell_of (cells_in c.args.jobs.now) c.args.first = ap (λ job. job.cell) c.get.ensures ∙ job_cell_at c.args.jobs.now c.args.first inside in
     record {
@@ -57,17 +65,17 @@ loop-k-init g c =
       later = omega (arith, c.in-Ok.ensures.cause.stands);
     }
 
-pub reduce_beside-requires-clause-next : goal.reduce_beside-requires-clause-next
-reduce_beside-requires-clause-next g c =
+pub reduce_and_read-requires-clause-next : goal.reduce_and_read-requires-clause-next
+reduce_and_read-requires-clause-next g c =
     let inside : c.args.first + c.loop-k.k + 1 < length c.args.jobs.now = omega (arith, c.requires.within, c.loop-k-test.true) in
     cell_own c.args.to.now c.args.jobs.now (c.args.first + c.loop-k.k + 1) c.get-in-loop-k.result.cell c.requires.cells inside (ap (λ job. job.cell) c.get-in-loop-k.ensures ∙ job_cell_at c.args.jobs.now (c.args.first + c.loop-k.k + 1) inside)
 
-pub reduce_beside-requires-clause-holds : goal.reduce_beside-requires-clause-holds
-reduce_beside-requires-clause-holds g c =
+pub reduce_and_read-requires-clause-holds : goal.reduce_and_read-requires-clause-holds
+reduce_and_read-requires-clause-holds g c =
     c.loop-k.invariant.each c.loop-k.k c.index-frames-k.result (omega (arith, c.loop-k-test.true, c.requires.enough, c.loop-k.auto.frames))
 
-pub returns-in-Err-reduce_beside-clause-read : goal.returns-in-Err-reduce_beside-clause-read
-returns-in-Err-reduce_beside-clause-read g c =
+pub returns-in-Err-reduce_and_read-clause-read : goal.returns-in-Err-reduce_and_read-clause-read
+returns-in-Err-reduce_and_read-clause-read g c =
     let inside : c.loop-k.k < length c.loop-k.frames = omega (arith, c.loop-k-test.true, c.requires.enough, c.loop-k.auto.frames) in
     let number : c.args.first + c.loop-k.k + 1 < length c.args.jobs.now = omega (arith, c.requires.within, c.loop-k-test.true) in
     let one : c.args.first + c.loop-k.k + 1 ≡ c.args.first + (c.loop-k.k + 1) = omega arith in
@@ -75,20 +83,20 @@ returns-in-Err-reduce_beside-clause-read g c =
     ap (λ job. job.cell) c.get-in-loop-k.ensures ∙ job_cell_at c.args.jobs.now (c.args.first + c.loop-k.k + 1) number ∙ ap (cell_of (cells_in c.args.jobs.now)) one in
     in_told _ _ (λ m told.
     read_failed (reductions_of c.args.method m c.args.reader.now.opened.dataset c.args.from.now c.args.to.now) c.args.to.now (cells_in c.args.jobs.now) c.args.first (c.loop-k.k + 1) c.args.count
-    (map (λ f. f.items) (slice_set c.loop-k.frames c.loop-k.k c.reduce_beside.new.frame)) _ c.get-in-loop-k.result.cell [] c.in-Err-reduce_beside.fault here (omega (arith, c.loop-k-test.true))
-    (next_read m c.args.method c.args.reader.now.opened.dataset c.args.from.now c.args.to.now (cells_in c.args.jobs.now) c.args.first c.loop-k.k c.loop-k.frames c.reduce_beside.new.frame c.loop-k.cell c.loop-k.buffer.items c.deref.result.now c.requires.next c.loop-k.invariant.own
-    (from_told _ _ m told c.requires.bytes) c.loop-k.invariant.cell inside c.deref.ensures.value c.reduce_beside.ensures.reduced (c.loop-k.invariant.cut m told) (c.loop-k.invariant.read m told))
-    (failed_one m c.args.method c.args.reader.now.opened.dataset c.args.from.now c.args.to.now c.get-in-loop-k.result.cell c.reduce_beside.new.other.items [] c.in-Err-reduce_beside.fault
-    (subst (λ (r : Opened). CutsBox (Err c.in-Err-reduce_beside.fault) m r.dataset c.args.from.now (source_box c.args.from.now c.args.to.now c.get-in-loop-k.result.cell) c.reduce_beside.new.other.items) c.loop-k.invariant.same
-    (from_told _ _ m (c.loop-k.invariant.kept.same_objects ∙ told) c.in-Err-reduce_beside.ensures.cut))))
+    (map (λ f. f.items) (slice_set c.loop-k.frames c.loop-k.k c.reduce_and_read.new.frame)) _ c.get-in-loop-k.result.cell [] c.in-Err-reduce_and_read.fault here (omega (arith, c.loop-k-test.true))
+    (next_read m c.args.method c.args.reader.now.opened.dataset c.args.from.now c.args.to.now (cells_in c.args.jobs.now) c.args.first c.loop-k.k c.loop-k.frames c.reduce_and_read.new.frame c.loop-k.cell c.loop-k.buffer.items c.loop-k.buffer.items c.requires.next c.loop-k.invariant.own
+    (from_told _ _ m told c.requires.bytes) c.loop-k.invariant.cell inside refl c.reduce_and_read.ensures.reduced (c.loop-k.invariant.cut m told) (c.loop-k.invariant.read m told))
+    (failed_one m c.args.method c.args.reader.now.opened.dataset c.args.from.now c.args.to.now c.get-in-loop-k.result.cell c.reduce_and_read.new.buffer.items [] c.in-Err-reduce_and_read.fault
+    (subst (λ (r : Opened). CutsBox (Err c.in-Err-reduce_and_read.fault) m r.dataset c.args.from.now (source_box c.args.from.now c.args.to.now c.get-in-loop-k.result.cell) c.reduce_and_read.new.buffer.items) c.loop-k.invariant.same
+    (from_told _ _ m (c.loop-k.invariant.kept.same_objects ∙ told) c.in-Err-reduce_and_read.ensures.cut))))
 
-pub returns-in-Err-reduce_beside-clause-each : goal.returns-in-Err-reduce_beside-clause-each
-returns-in-Err-reduce_beside-clause-each g c = holds_set c.args.to.now c.loop-k.frames c.loop-k.k _ c.loop-k.invariant.each c.reduce_beside.ensures.holds
+pub returns-in-Err-reduce_and_read-clause-each : goal.returns-in-Err-reduce_and_read-clause-each
+returns-in-Err-reduce_and_read-clause-each g c = holds_set c.args.to.now c.loop-k.frames c.loop-k.k _ c.loop-k.invariant.each c.reduce_and_read.ensures.holds
 
-pub returns-in-Err-reduce_beside-clause-cause : goal.returns-in-Err-reduce_beside-clause-cause
-returns-in-Err-reduce_beside-clause-cause g c = record {
-  later = omega (arith, c.reduce_beside.ensures.cause.later, c.loop-k.invariant.later);
-  failed = λ told. subst (λ n. Rose n (g.S.Source.faults c.reduce_beside.new.store)) c.loop-k.invariant.later (c.in-Err-reduce_beside.ensures.cause.failed told);
+pub returns-in-Err-reduce_and_read-clause-cause : goal.returns-in-Err-reduce_and_read-clause-cause
+returns-in-Err-reduce_and_read-clause-cause g c = record {
+  later = omega (arith, c.reduce_and_read.ensures.cause.later, c.loop-k.invariant.later);
+  failed = λ told. subst (λ n. Rose n (g.S.Source.faults c.reduce_and_read.new.store)) c.loop-k.invariant.later (c.in-Err-reduce_and_read.ensures.cause.failed told);
   stands = tt;
 }
 
@@ -101,48 +109,47 @@ loop-k-preserved g c =
     record {
       own = cell_own c.args.to.now c.args.jobs.now (c.args.first + c.loop-k.k + 1) c.get-in-loop-k.result.cell c.requires.cells number here;
       cell = here ∙ ap (cell_of (cells_in c.args.jobs.now)) one;
-      filled = filled_more c.args.to.now c.loop-k.frames c.loop-k.k _ inside c.loop-k.invariant.filled c.reduce_beside.ensures.filled;
-      each = holds_set c.args.to.now c.loop-k.frames c.loop-k.k _ c.loop-k.invariant.each c.reduce_beside.ensures.holds;
+      filled = filled_more c.args.to.now c.loop-k.frames c.loop-k.k _ inside c.loop-k.invariant.filled c.reduce_and_read.ensures.filled;
+      each = holds_set c.args.to.now c.loop-k.frames c.loop-k.k _ c.loop-k.invariant.each c.reduce_and_read.ensures.holds;
       frames = length-set c.loop-k.frames c.loop-k.k _ ∙ c.loop-k.invariant.frames;
       read = λ m told.
-          next_read m c.args.method c.args.reader.now.opened.dataset c.args.from.now c.args.to.now (cells_in c.args.jobs.now) c.args.first c.loop-k.k c.loop-k.frames c.reduce_beside.new.frame c.loop-k.cell c.loop-k.buffer.items c.deref.result.now c.requires.next c.loop-k.invariant.own
-          (from_told _ _ m told c.requires.bytes) c.loop-k.invariant.cell inside c.deref.ensures.value c.reduce_beside.ensures.reduced (c.loop-k.invariant.cut m told) (c.loop-k.invariant.read m told);
+          next_read m c.args.method c.args.reader.now.opened.dataset c.args.from.now c.args.to.now (cells_in c.args.jobs.now) c.args.first c.loop-k.k c.loop-k.frames c.reduce_and_read.new.frame c.loop-k.cell c.loop-k.buffer.items c.loop-k.buffer.items c.requires.next c.loop-k.invariant.own
+          (from_told _ _ m told c.requires.bytes) c.loop-k.invariant.cell inside refl c.reduce_and_read.ensures.reduced (c.loop-k.invariant.cut m told) (c.loop-k.invariant.read m told);
       cut = λ m told.
-          subst (λ (v : Vec ℕ Global). CutsBox (Ok tt) m c.args.reader.now.opened.dataset c.args.from.now (source_box c.args.from.now c.args.to.now c.get-in-loop-k.result.cell) v.items) (sym c.swap.ensures.x_after)
-          (subst (λ (r : Opened). CutsBox (Ok tt) m r.dataset c.args.from.now (source_box c.args.from.now c.args.to.now c.get-in-loop-k.result.cell) c.reduce_beside.new.other.items) c.loop-k.invariant.same
-          (from_told _ _ m (c.loop-k.invariant.kept.same_objects ∙ told) c.in-Ok-reduce_beside.ensures.cut));
-      len = ap (λ (v : Vec ℕ Global). length v.items) c.swap.ensures.x_after ∙ c.reduce_beside.ensures.len;
-      same = c.reduce_beside.ensures.same ∙ c.loop-k.invariant.same;
-      keeps = subst (λ o. KeepsIndex o c.reduce_beside.new.reader) c.loop-k.invariant.kept.same_objects c.reduce_beside.ensures.keeps;
-      room = subst (HasRoom c.args.from.now c.args.to.now) (sym c.swap.ensures.x_after) c.reduce_beside.ensures.room;
-      ahead = subst (HasRoom c.args.from.now c.args.to.now) (sym c.swap.ensures.y_after) c.loop-k.invariant.room;
+          subst (λ (r : Opened). CutsBox (Ok tt) m r.dataset c.args.from.now (source_box c.args.from.now c.args.to.now c.get-in-loop-k.result.cell) c.reduce_and_read.new.buffer.items) c.loop-k.invariant.same
+          (from_told _ _ m (c.loop-k.invariant.kept.same_objects ∙ told) c.in-Ok-reduce_and_read.ensures.cut);
+      len = c.reduce_and_read.ensures.len;
+      same = c.reduce_and_read.ensures.same ∙ c.loop-k.invariant.same;
+      keeps = subst (λ o. KeepsIndex o c.reduce_and_read.new.reader) c.loop-k.invariant.kept.same_objects c.reduce_and_read.ensures.keeps;
+      room = c.reduce_and_read.ensures.room;
+      ahead = c.reduce_and_read.ensures.ahead;
       kept = record {
-        same_objects = c.reduce_beside.ensures.kept.same_objects ∙ c.loop-k.invariant.kept.same_objects;
-        same_draft = c.reduce_beside.ensures.kept.same_draft ∙ c.loop-k.invariant.kept.same_draft;
+        same_objects = c.reduce_and_read.ensures.kept.same_objects ∙ c.loop-k.invariant.kept.same_objects;
+        same_draft = c.reduce_and_read.ensures.kept.same_draft ∙ c.loop-k.invariant.kept.same_draft;
       };
-      later = omega (arith, c.in-Ok-reduce_beside.ensures.cause.stands, c.loop-k.invariant.later);
+      later = omega (arith, c.in-Ok-reduce_and_read.ensures.cause.stands, c.loop-k.invariant.later);
     }
 
 pub reduce_source-requires-clause-holds : goal.reduce_source-requires-clause-holds
 reduce_source-requires-clause-holds g c =
-    c.loop-k.invariant.each (c.args.count - 1) c.index-frames-last.result (omega (arith, c.requires.some, c.requires.enough, c.loop-k.auto.frames))
+    c.loop-k.invariant.each (c.args.count - 1) c.index-frames-last.result (omega (arith, c.if-count-eq0.false, c.requires.enough, c.loop-k.auto.frames))
 
 pub returns-clause-read : goal.returns-clause-read
 returns-clause-read g c =
     let done : c.loop-k.k ≡ c.args.count - 1 = omega (arith, c.loop-k-test.false, c.loop-k.auto.k-end) in
-    let all : c.args.count - 1 + 1 ≡ c.args.count = omega (arith, c.requires.some) in
-    let inside : c.args.count - 1 < length c.loop-k.frames = omega (arith, c.requires.some, c.requires.enough, c.loop-k.auto.frames) in
+    let all : c.args.count - 1 + 1 ≡ c.args.count = omega (arith, c.if-count-eq0.false) in
+    let inside : c.args.count - 1 < length c.loop-k.frames = omega (arith, c.if-count-eq0.false, c.requires.enough, c.loop-k.auto.frames) in
     in_told _ _ (λ m told.
     subst (λ n. AreRead (reductions_of c.args.method m c.args.reader.now.opened.dataset c.args.from.now c.args.to.now) c.args.to.now (cells_in c.args.jobs.now) c.args.first n (map (λ f. f.items) (slice_set c.loop-k.frames (c.args.count - 1) c.reduce_source.new.frame))) all
-    (next_read m c.args.method c.args.reader.now.opened.dataset c.args.from.now c.args.to.now (cells_in c.args.jobs.now) c.args.first (c.args.count - 1) c.loop-k.frames c.reduce_source.new.frame c.loop-k.cell c.loop-k.buffer.items c.deref-2.result.now c.requires.next c.loop-k.invariant.own
-    (from_told _ _ m told c.requires.bytes) (c.loop-k.invariant.cell ∙ ap (λ k. cell_of (cells_in c.args.jobs.now) (c.args.first + k)) done) inside c.deref-2.ensures.value c.reduce_source.ensures.reduced (c.loop-k.invariant.cut m told)
+    (next_read m c.args.method c.args.reader.now.opened.dataset c.args.from.now c.args.to.now (cells_in c.args.jobs.now) c.args.first (c.args.count - 1) c.loop-k.frames c.reduce_source.new.frame c.loop-k.cell c.loop-k.buffer.items c.deref.result.now c.requires.next c.loop-k.invariant.own
+    (from_told _ _ m told c.requires.bytes) (c.loop-k.invariant.cell ∙ ap (λ k. cell_of (cells_in c.args.jobs.now) (c.args.first + k)) done) inside c.deref.ensures.value c.reduce_source.ensures.reduced (c.loop-k.invariant.cut m told)
     (subst (λ n. AreRead (reductions_of c.args.method m c.args.reader.now.opened.dataset c.args.from.now c.args.to.now) c.args.to.now (cells_in c.args.jobs.now) c.args.first n (map (λ f. f.items) c.loop-k.frames)) done (c.loop-k.invariant.read m told))))
 
 pub returns-clause-filled : goal.returns-clause-filled
 returns-clause-filled g c =
     let done : c.loop-k.k ≡ c.args.count - 1 = omega (arith, c.loop-k-test.false, c.loop-k.auto.k-end) in
-    let all : c.args.count - 1 + 1 ≡ c.args.count = omega (arith, c.requires.some) in
-    let inside : c.args.count - 1 < length c.loop-k.frames = omega (arith, c.requires.some, c.requires.enough, c.loop-k.auto.frames) in
+    let all : c.args.count - 1 + 1 ≡ c.args.count = omega (arith, c.if-count-eq0.false) in
+    let inside : c.args.count - 1 < length c.loop-k.frames = omega (arith, c.if-count-eq0.false, c.requires.enough, c.loop-k.auto.frames) in
     subst (λ n. AreFilled c.args.to.now n (map (λ f. f.items) (slice_set c.loop-k.frames (c.args.count - 1) c.reduce_source.new.frame))) all
     (filled_more c.args.to.now c.loop-k.frames (c.args.count - 1) c.reduce_source.new.frame inside (subst (λ n. AreFilled c.args.to.now n (map (λ f. f.items) c.loop-k.frames)) done c.loop-k.invariant.filled) c.reduce_source.ensures.filled)
 

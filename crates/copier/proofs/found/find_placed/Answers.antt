@@ -6,11 +6,11 @@ use Rattle.vol_spec.specs.Grid.{Inside, cells_in}
 use Rattle.vol_spec.specs.StoredCells.{AreInOrder}
 use Rattle.write_plan.specs.Pairs.{cell_count}
 use Rattle.copier.specs.Marks.{AreMarked, marked}
-use Rattle.reduce_laws.specs.Reduced.{is_reduced}
-use Rattle.reducer.proofs.FoundSteps.{found_reduced}
+use Rattle.copier.specs.Placed.{is_placed}
+use Rattle.copier.proofs.FoundSteps.{found_placed}
 use Rattle.copier.proofs.HeldSteps.{same_items}
 use Rattle.copier.proofs.MarkSteps.{count_whole, few_pass, inside_whole, pass_in_order}
-use Rattle.reducer.proofs.found.find_reduced.Goals as goal
+use Rattle.copier.proofs.found.find_placed.Goals as goal
 
 pub count_cells-count-requires : goal.count_cells-count-requires
 count_cells-count-requires g c = subst (Inside c.args.to.now) (sym c.whole.ensures) (inside_whole c.args.to.now)
@@ -20,20 +20,20 @@ overflow_cast-count g c =
     let count : c.count_cells-count.result ≡ cell_count c.args.to.now = c.count_cells-count.ensures ∙ ap (λ b. length (cells_in c.args.to.now b)) c.whole.ensures ∙ count_whole c.args.to.now in
     omega (arith, count, c.requires.few)
 
-pub mark_reduced-requires-clause-len : goal.mark_reduced-requires-clause-len
-mark_reduced-requires-clause-len g c =
+pub mark_placed-requires-clause-len : goal.mark_placed-requires-clause-len
+mark_placed-requires-clause-len g c =
     ap length (c.deref_mut.ensures.value ∙ c.in-Ok.ensures) ∙ length-replicate c.count_cells-count.result false
     ∙ c.count_cells-count.ensures ∙ ap (λ b. length (cells_in c.args.to.now b)) c.whole.ensures ∙ count_whole c.args.to.now
 
-pub mark_reduced-requires-clause-clear : goal.mark_reduced-requires-clause-clear
-mark_reduced-requires-clause-clear g c =
+pub mark_placed-requires-clause-clear : goal.mark_placed-requires-clause-clear
+mark_placed-requires-clause-clear g c =
     subst (All (λ mark. mark ≡ false)) (sym (c.deref_mut.ensures.value ∙ c.in-Ok.ensures)) (All-replicate (λ mark. mark ≡ false) c.count_cells-count.result false refl)
 
 pub list_marked-requires-clause-len : goal.list_marked-requires-clause-len
 list_marked-requires-clause-len g c =
     let all = c.deref_mut.ensures.value ∙ c.in-Ok.ensures in
-    let kept : length c.mark_reduced.new.marks ≡ length c.in-Ok.marks.items = c.mark_reduced.auto.marks ∙ ap length c.deref_mut.ensures.value in
-    ap length (c.deref.ensures.value ∙ same_items c.in-Ok.marks c.mark_reduced.new.marks kept) ∙ c.mark_reduced.auto.marks ∙ ap length all ∙ length-replicate c.count_cells-count.result false
+    let kept : length c.mark_placed.new.marks ≡ length c.in-Ok.marks.items = c.mark_placed.auto.marks ∙ ap length c.deref_mut.ensures.value in
+    ap length (c.deref.ensures.value ∙ same_items c.in-Ok.marks c.mark_placed.new.marks kept) ∙ c.mark_placed.auto.marks ∙ ap length all ∙ length-replicate c.count_cells-count.result false
     ∙ c.count_cells-count.ensures ∙ ap (λ b. length (cells_in c.args.to.now b)) c.whole.ensures ∙ count_whole c.args.to.now
 
 pub returns-in-Ok-list_marked-clause-order : goal.returns-in-Ok-list_marked-clause-order
@@ -42,9 +42,10 @@ returns-in-Ok-list_marked-clause-order g c = subst (AreInOrder c.args.to.now) (s
 pub returns-in-Ok-list_marked-clause-few : goal.returns-in-Ok-list_marked-clause-few
 returns-in-Ok-list_marked-clause-few g c = subst (λ cells. length cells ≤ 2 ^ 22) (sym c.in-Ok-list_marked.ensures) (few_pass c.args.to.now (marked c.args.to.now c.deref.result.now) c.requires.few)
 
-pub returns-in-Ok-list_marked-clause-reduced : goal.returns-in-Ok-list_marked-clause-reduced
-returns-in-Ok-list_marked-clause-reduced g c =
-    let kept : length c.mark_reduced.new.marks ≡ length c.in-Ok.marks.items = c.mark_reduced.auto.marks ∙ ap length c.deref_mut.ensures.value in
-    found_reduced (g.S.Source.objects c.args.store.now) c.args.reader.now.dataset c.args.from.now c.args.to.now c.deref.result.now c.in-Ok-list_marked.list.items c.in-Ok-list_marked.ensures
-    (subst (λ marks. IfSome (g.S.Source.objects c.args.store.now) (λ m. AreMarked c.args.to.now (is_reduced m c.args.reader.now.dataset c.args.from.now c.args.to.now) marks))
-    (sym (c.deref.ensures.value ∙ same_items c.in-Ok.marks c.mark_reduced.new.marks kept)) c.in-Ok-mark_reduced.ensures.marks)
+pub returns-in-Ok-list_marked-clause-made : goal.returns-in-Ok-list_marked-clause-made
+returns-in-Ok-list_marked-clause-made g c =
+    let kept : length c.mark_placed.new.marks ≡ length c.in-Ok.marks.items = c.mark_placed.auto.marks ∙ ap length c.deref_mut.ensures.value in
+    found_placed (g.P.Placing.place c.args.from.now c.args.to.now) (λ m. g.P.Placing.made m c.args.reader.now.dataset c.args.from.now c.args.to.now) (g.S.Source.objects c.args.store.now) c.args.reader.now.dataset c.args.from.now c.args.to.now c.deref.result.now c.in-Ok-list_marked.list.items
+    (λ m. g.met.P.Placing.placed m c.args.reader.now.dataset c.args.from.now c.args.to.now) c.in-Ok-list_marked.ensures
+    (subst (λ marks. IfSome (g.S.Source.objects c.args.store.now) (λ m. AreMarked c.args.to.now (is_placed (g.P.Placing.place c.args.from.now c.args.to.now) m c.args.reader.now.dataset c.args.from.now c.args.to.now) marks))
+    (sym (c.deref.ensures.value ∙ same_items c.in-Ok.marks c.mark_placed.new.marks kept)) c.in-Ok-mark_placed.ensures.marks)

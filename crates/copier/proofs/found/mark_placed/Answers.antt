@@ -3,15 +3,16 @@ use Rattle.std.specs.Prelude.{filter}
 use Rattle.std.specs.List.{list_any}
 use Rattle.std.proofs.lemmas.List.Elements.{All-contains}
 use Rattle.vol_spec.specs.Chunks.{chunk_in}
-use Rattle.vol_spec.specs.Copies.{is_copied, is_there}
-use Rattle.vol_spec.specs.Grid.{Inside, IsCell, cell_box, cells_in, meets, whole}
+use Rattle.vol_spec.specs.Copies.{is_there}
+use Rattle.vol_spec.specs.Grid.{Inside, IsCell, cells_in, meets, whole}
 use Rattle.vol_spec.proofs.Told.{from_told, in_told}
 use Rattle.chunk_grid.proofs.ListingSteps.{cells_in-IsCell}
 use Rattle.chunk_grid.proofs.Walked.{at_end, here, one_on}
 use Rattle.copier.specs.Marks.{AddsMarks}
-use Rattle.copier.proofs.FoundSteps.{source_added, source_inside}
+use Rattle.copier.specs.Placed.{is_placed}
+use Rattle.copier.proofs.FoundSteps.{source_added}
 use Rattle.copier.proofs.MarkSteps.{cells_whole, from_clear, inside_whole, no_source, source_more}
-use Rattle.copier.proofs.found.mark_copied.Goals as goal
+use Rattle.copier.proofs.found.mark_placed.Goals as goal
 
 pub cells-cell-items-requires : goal.cells-cell-items-requires
 cells-cell-items-requires g c = subst (Inside c.args.from.now) (sym c.whole.ensures) (inside_whole c.args.from.now)
@@ -19,7 +20,7 @@ cells-cell-items-requires g c = subst (Inside c.args.from.now) (sym c.whole.ensu
 pub loop-cell-init : goal.loop-cell-init
 loop-cell-init g c = record {
   left = c.into_iter-cell-iterator.ensures.into_iter_gives ∙ c.cells-cell-items.ensures ∙ ap (cells_in c.args.from.now) c.whole.ensures;
-  marks = λ m told. no_source c.args.to.now (cell_box c.args.from.now) (λ source. is_there (chunk_in m c.args.reader.now.dataset c.args.from.now source)) c.args.marks.now;
+  marks = λ m told. no_source c.args.to.now (g.P.Placing.place c.args.from.now c.args.to.now) (λ source. is_there (chunk_in m c.args.reader.now.dataset c.args.from.now source)) c.args.marks.now;
   same = refl;
   kept = record { same_objects = refl; same_draft = refl };
   later = omega arith;
@@ -31,26 +32,19 @@ mark_source-requires-clause-cell g c =
     (All-contains (IsCell c.args.from.now) (cells_in c.args.from.now (whole c.args.from.now)) c.in-Some.cell (cells_in-IsCell c.args.from.now (whole c.args.from.now))
     (here c.loop-cell.yielded c.loop-cell.cell-iterator c.next.new.self (cells_in c.args.from.now (whole c.args.from.now)) c.in-Some.cell c.in-Some.ensures.steps c.loop-cell.invariant.left))
 
-pub cell_box-requires : goal.cell_box-requires
-cell_box-requires g c =
+pub place-requires-clause-source : goal.place-requires-clause-source
+place-requires-clause-source g c =
     All-contains (IsCell c.args.from.now) (cells_in c.args.from.now (whole c.args.from.now)) c.in-Some.cell (cells_in-IsCell c.args.from.now (whole c.args.from.now))
     (here c.loop-cell.yielded c.loop-cell.cell-iterator c.next.new.self (cells_in c.args.from.now (whole c.args.from.now)) c.in-Some.cell c.in-Some.ensures.steps c.loop-cell.invariant.left)
-
-pub mark_source-requires-clause-inside : goal.mark_source-requires-clause-inside
-mark_source-requires-clause-inside g c =
-    source_inside c.args.from.now c.args.to.now c.in-Some.cell c.cell_box.result c.requires.volume
-    (All-contains (IsCell c.args.from.now) (cells_in c.args.from.now (whole c.args.from.now)) c.in-Some.cell (cells_in-IsCell c.args.from.now (whole c.args.from.now))
-    (here c.loop-cell.yielded c.loop-cell.cell-iterator c.next.new.self (cells_in c.args.from.now (whole c.args.from.now)) c.in-Some.cell c.in-Some.ensures.steps c.loop-cell.invariant.left))
-    c.cell_box.ensures.positions
 
 pub loop-cell-preserved : goal.loop-cell-preserved
 loop-cell-preserved g c = record {
   left = one_on c.loop-cell.yielded c.loop-cell.cell-iterator c.next.new.self (cells_in c.args.from.now (whole c.args.from.now)) c.in-Some.cell c.in-Some.ensures.steps c.loop-cell.invariant.left;
   marks = λ m told.
-      source_more c.args.to.now (cell_box c.args.from.now) (λ source. is_there (chunk_in m c.args.reader.now.dataset c.args.from.now source)) c.loop-cell.yielded c.in-Some.cell c.args.marks.now c.loop-cell.marks
+      source_more c.args.to.now (g.P.Placing.place c.args.from.now c.args.to.now) (λ source. is_there (chunk_in m c.args.reader.now.dataset c.args.from.now source)) c.loop-cell.yielded c.in-Some.cell c.args.marks.now c.loop-cell.marks
       c.mark_source.new.marks (c.loop-cell.invariant.marks m told)
-      (source_added m c.args.reader.now.dataset c.loop-cell.reader.dataset c.loop-cell.reader.scale c.args.from.now c.args.to.now c.in-Some.cell c.cell_box.result (cell_box c.args.from.now c.in-Some.cell) c.loop-cell.marks
-      c.mark_source.new.marks (ap (λ r. r.dataset) c.loop-cell.invariant.same) (ap (λ r. r.scale) c.loop-cell.invariant.same ∙ c.requires.source) c.cell_box.ensures.positions (from_told _ _ m (c.loop-cell.invariant.kept.same_objects ∙ told) c.in-Ok.ensures.marks));
+      (source_added m c.args.reader.now.dataset c.loop-cell.reader.dataset c.loop-cell.reader.scale c.args.from.now c.args.to.now c.in-Some.cell c.place.result (g.P.Placing.place c.args.from.now c.args.to.now c.in-Some.cell) c.loop-cell.marks
+      c.mark_source.new.marks (ap (λ r. r.dataset) c.loop-cell.invariant.same) (ap (λ r. r.scale) c.loop-cell.invariant.same ∙ c.requires.source) c.place.ensures.positions (from_told _ _ m (c.loop-cell.invariant.kept.same_objects ∙ told) c.in-Ok.ensures.marks));
   same = c.mark_source.ensures.same ∙ c.loop-cell.invariant.same;
   kept = record {
     same_objects = c.mark_source.ensures.kept.same_objects ∙ c.loop-cell.invariant.kept.same_objects;
@@ -62,7 +56,7 @@ loop-cell-preserved g c = record {
 pub returns-clause-marks : goal.returns-clause-marks
 returns-clause-marks g c =
     in_told _ _ (λ m told.
-    from_clear c.args.to.now (is_copied m c.args.reader.now.dataset c.args.from.now c.args.to.now) c.args.marks.now c.loop-cell.marks c.requires.len c.requires.clear
-    (subst (λ cells. AddsMarks c.args.to.now (λ cell. list_any (λ source. meets c.args.to.now (cell_box c.args.from.now source) cell) (filter (λ source. is_there (chunk_in m c.args.reader.now.dataset c.args.from.now source)) cells)) c.args.marks.now c.loop-cell.marks)
+    from_clear c.args.to.now (is_placed (g.P.Placing.place c.args.from.now c.args.to.now) m c.args.reader.now.dataset c.args.from.now c.args.to.now) c.args.marks.now c.loop-cell.marks c.requires.len c.requires.clear
+    (subst (λ cells. AddsMarks c.args.to.now (λ cell. list_any (λ source. meets c.args.to.now (g.P.Placing.place c.args.from.now c.args.to.now source) cell) (filter (λ source. is_there (chunk_in m c.args.reader.now.dataset c.args.from.now source)) cells)) c.args.marks.now c.loop-cell.marks)
     (at_end c.loop-cell.yielded c.loop-cell.cell-iterator (cells_in c.args.from.now (whole c.args.from.now)) c.in-None.ensures.steps.0 c.loop-cell.invariant.left ∙ cells_whole c.args.from.now)
     (c.loop-cell.invariant.marks m told)))
