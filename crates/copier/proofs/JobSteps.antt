@@ -4,9 +4,7 @@ use Rattle.std.specs.Prelude.{Err, Ok, Result, ⊤}
 use Rattle.std.proofs.lemmas.List.{get_or-map}
 use Rattle.vol_base.specs.Outside.{Objects}
 use Rattle.vol_base.specs.declared.boxes.Box3.{Box3}
-use Rattle.vol_base.specs.declared.faults.Fault.{Fault}
 use Rattle.vol_spec.specs.Copies.{AreOfOneVolume}
-use Rattle.vol_spec.specs.Cut.{cut, first_fault}
 use Rattle.vol_spec.specs.Encodings.{raw_size}
 use Rattle.vol_spec.specs.Grid.{IsCell, cell_box}
 use Rattle.vol_spec.specs.Raw.{raw_len}

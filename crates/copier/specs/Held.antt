@@ -90,15 +90,15 @@ ready_of h job =
     then Some (front (raw_size h.to (cell_of (cells_of h) job)) (slice_index_or h.frames (job - h.first) []))
     else None
 
--- a frame has room for the values of each cell,
-abbrev pub Holds : Scale → Vec ℕ Global → Type 0
-Holds to frame = first_bytes to.width to.channels to.size to.chunk ≤ vec_capacity frame
-
--- a job's frame, of those for the jobs from a number on, has so many bytes or more,
+-- a job's frame, of those for the jobs from a number on, has so many bytes or more
 pub record HasFront (first job n : ℕ) (frames : List Bytes) : Type 0 where
   pub low : first ≤ job
   pub within : job - first < length frames
   pub long : n ≤ length (slice_index_or frames (job - first) [])
+
+-- a frame has room for the values of each cell,
+abbrev pub Holds : Scale → Vec ℕ Global → Type 0
+Holds to frame = first_bytes to.width to.channels to.size to.chunk ≤ vec_capacity frame
 
 -- when it is filled it has as many bytes,
 abbrev pub IsFilled : Scale → Bytes → Type 0

@@ -1,15 +1,14 @@
 //! Reducing jobs.
-ghost use Rattle.std.specs.Prelude.{◌≡◌, ◌+◌, ◌<◌, ◌≤◌, ◌^◌, Err, length, map, take, vec_capacity, All, IfSome, OnOk};
+ghost use Rattle.std.specs.Prelude.{◌≡◌, ◌≤◌, length, take, vec_capacity, IfSome};
 ghost use Rattle.vol_base.specs.Causes.{HasCauseOf};
-ghost use Rattle.vol_base.specs.Outside.{HaveBytes, OnlyReads};
+ghost use Rattle.vol_base.specs.Outside.{OnlyReads};
 ghost use Rattle.vol_spec.specs.Encodings.{raw_size};
 ghost use Rattle.vol_spec.specs.Grid.{IsCell};
 ghost use Rattle.vol_spec.specs.Raw.{raw_len};
-ghost use Rattle.write_plan.specs.Jobs.{cells_in};
 ghost use Rattle.cutout.specs.Kept.{KeepsIndex};
-ghost use Rattle.copier.specs.Held.{AreFilled, CutsBox, Holds, IsFilled};
+ghost use Rattle.copier.specs.Held.{CutsBox, Holds, IsFilled};
 ghost use Rattle.reduce_laws.specs.Reduced.{IsNext, source_box as source_of};
-ghost use Rattle.reducer.specs.Reading.{HasRoom, IsReducedOf, ReadsReduced, ReadsReductions};
+ghost use Rattle.reducer.specs.Reading.{HasRoom, IsReducedOf};
 
 use crate::sources::source_box;
 use chunk_grid::{byte_len, cell_box};
@@ -19,7 +18,7 @@ use reduce_boxes::reduce_box;
 use reduce_laws::Method;
 use vol_base::Source;
 use vol_spec::Scale;
-use write_plan::{JobList, PrepareFault};
+use write_plan::PrepareFault;
 
 // Makes a buffer that has the room so many bytes long.
 fn fit_buffer(buffer: &mut Vec<u8>, len: usize)

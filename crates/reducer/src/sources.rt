@@ -16,6 +16,7 @@ fn find_own(scale: &Scale, cell: [u64; 3], axis: usize) -> (u64, u64)
     requires axis { axis < 3 }
     ensures begin { result.0 ≡ cell_begin scale.now cell axis }
     ensures size { result.1 ≡ cell_size scale.now cell axis }
+    ensures before { result.0 < slice_index scale.now.size axis }
     ensures within { result.0 + result.1 ≤ slice_index scale.now.size axis }
     ensures small { slice_index scale.now.size axis ≤ 2 ^ 40 }
 {

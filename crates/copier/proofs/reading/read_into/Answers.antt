@@ -1,6 +1,5 @@
-use Rattle.std.proofs.Common.{◌≡◌, arith, length, length-take}
+use Rattle.std.proofs.Common.{arith, length-take}
 use Rattle.std.proofs.lemmas.List.{take_at}
-use Rattle.vol_spec.specs.Encodings.{raw_size}
 use Rattle.copy_laws.proofs.CopyValues.{job_inside}
 use Rattle.copier.proofs.AskedSteps.{run_under}
 use Rattle.copier.proofs.JobSteps.{job_cut, job_front, job_len, job_short}

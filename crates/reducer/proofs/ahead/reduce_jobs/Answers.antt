@@ -1,5 +1,4 @@
-use Rattle.std.proofs.Common.{◌≡◌, ◌+◌, ◌-◌, ◌<◌, ◌∙◌, ℕ, [], Err, Ok, Vec, ap, arith, length, length-set, map, refl, subst, sym}
-use Rattle.std.specs.Global.{Global}
+use Rattle.std.proofs.Common.{◌≡◌, ◌+◌, ◌-◌, ◌<◌, ◌∙◌, [], Err, Ok, ap, arith, length, length-set, map, refl, subst, sym}
 use Rattle.std.specs.Prelude.{slice_set}
 use Rattle.vol_base.specs.Causes.{Rose}
 use Rattle.vol_spec.specs.StoredCells.{cell_of}
@@ -11,9 +10,18 @@ use Rattle.copier.specs.Held.{AreFilled, AreRead, CutsBox}
 use Rattle.copier.proofs.FrameSteps.{filled_more, holds_set, read_failed, read_none}
 use Rattle.copier.proofs.JobSteps.{job_cell_at}
 use Rattle.reduce_laws.specs.Reduced.{source_box}
-use Rattle.reducer.specs.Reading.{HasRoom, ReadsReductions, reductions_of}
+use Rattle.reducer.specs.Reading.{ReadsReductions, reductions_of}
 use Rattle.reducer.proofs.JobSteps.{cell_own, failed_one, next_read}
 use Rattle.reducer.proofs.ahead.reduce_jobs.Goals as goal
+
+pub returns-then-count-eq0-clause-read : goal.returns-then-count-eq0-clause-read
+returns-then-count-eq0-clause-read g c =
+    in_told _ _ (λ m told.
+    subst (λ n. AreRead (reductions_of c.args.method m c.args.reader.now.opened.dataset c.args.from.now c.args.to.now) c.args.to.now (cells_in c.args.jobs.now) c.args.first n (map (λ f. f.items) c.args.frames.now)) (sym c.if-count-eq0.true)
+    (read_none (reductions_of c.args.method m c.args.reader.now.opened.dataset c.args.from.now c.args.to.now) c.args.to.now (cells_in c.args.jobs.now) c.args.first (map (λ f. f.items) c.args.frames.now)))
+
+pub returns-then-count-eq0-clause-filled : goal.returns-then-count-eq0-clause-filled
+returns-then-count-eq0-clause-filled g c k l = absurd (omega (arith, l, c.if-count-eq0.true))
 
 pub cut_source-requires-clause-cell : goal.cut_source-requires-clause-cell
 cut_source-requires-clause-cell g c =

@@ -1,4 +1,4 @@
-use Rattle.std.proofs.Common.{◌≡◌, ◌+◌, length, map, Ok, Some}
+use Rattle.std.proofs.Common.{◌≡◌, ◌+◌, length, map, IfSome, Ok, Some}
 use Rattle.std.specs.Prelude.{All}
 use Rattle.vol_base.specs.Outside.{Objects, OnlyReads}
 use Rattle.vol_spec.specs.Grid.{IsCell}

@@ -8,10 +8,13 @@ overflow_mul-before c =
     let size = c.args.scale.now.size_ok c.args.axis c.requires.axis in
     omega (arith, begins, size.1)
 
-pub overflow_sub-result : goal.overflow_sub-result
-overflow_sub-result c =
+pub overflow_sub-scale : goal.overflow_sub-scale
+overflow_sub-scale c =
     let begins = cell_begins c.args.scale.now c.args.cell c.requires.cell c.args.axis c.requires.axis in
     omega (arith, begins)
+
+pub returns-clause-before : goal.returns-clause-before
+returns-clause-before c = cell_begins c.args.scale.now c.args.cell c.requires.cell c.args.axis c.requires.axis
 
 pub returns-clause-within : goal.returns-clause-within
 returns-clause-within c =
