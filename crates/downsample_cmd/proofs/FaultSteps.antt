@@ -1,34 +1,22 @@
 -- Where the first fault of a reduction is.
 use Rattle.std.proofs.Common.{◌≡◌, ℕ, List, Some, None}
-use Rattle.std.specs.Prelude.{All, Contains}
-use Rattle.std.proofs.lemmas.List.Elements.{All-contains, All-contains_itself, All-weaker}
 use Rattle.vol_base.specs.Outside.{Objects}
 use Rattle.vol_base.specs.declared.faults.Fault.{Fault}
-use Rattle.vol_spec.specs.Cut.{first_fault}
 use Rattle.vol_spec.specs.StoredLists.{in_key_order}
 use Rattle.vol_spec.specs.declared.scale.Scale.{Scale}
 use Rattle.chunk_laws.specs.Told.{HasNoFault}
 use Rattle.coarse_laws.proofs.CoarseLaw.{AreInOrder-reduced_cells, fault_found}
 use Rattle.reduce_laws.specs.Reduced.{IsNext, reduced_cells, source_box}
 use Rattle.reduce_laws.specs.declared.method.Method.TheVariants.{Mean}
-use Rattle.write_plan.proofs.KeySteps.{to_key_order}
-use Rattle.reshard_cmd.proofs.FaultSteps.{box_fault, first_of, none_each}
+use Rattle.reshard_cmd.proofs.FaultSteps.{first_in, none_in_each}
 use Rattle.downsample_cmd.specs.Downsampling.{IsFirstFault, source_fault}
 
 pub first_is : (m : Objects) (dataset : List ℕ) (from to : Scale) (cell : List ℕ) (fault : Fault) → source_fault m dataset from to ≡ Some (cell, fault) → IsFirstFault m dataset from to cell fault
 first_is m dataset from to cell fault e =
-    let (job, listed, is) = first_of (λ job. first_fault m dataset from (source_box from to job)) (in_key_order to (reduced_cells m dataset from to)) (cell, fault) e in
-    let told = box_fault m dataset from (source_box from to job) cell fault is in
+    let told = first_in m dataset from (source_box from to) (in_key_order to (reduced_cells m dataset from to)) cell fault e in
     record { first = e; of_source = told.0; its_own = told.1 }
 
 -- where there is none, the source has none
 pub none_is : (m : Objects) (dataset : List ℕ) (from to : Scale) → IsNext from to → source_fault m dataset from to ≡ None → HasNoFault m dataset from
 none_is m dataset from to same e cell is =
-    let keyed : All (λ job. first_fault m dataset from (source_box from to job) ≡ None) (in_key_order to (reduced_cells m dataset from to)) =
-    none_each (λ job. first_fault m dataset from (source_box from to job)) (in_key_order to (reduced_cells m dataset from to)) e in
-    fault_found Mean m dataset from to same
-    (All-weaker (Contains (reduced_cells m dataset from to)) (λ job. first_fault m dataset from (source_box from to job) ≡ None)
-    (λ job c. All-contains (λ job. first_fault m dataset from (source_box from to job) ≡ None) (in_key_order to (reduced_cells m dataset from to)) job keyed
-    (to_key_order to (reduced_cells m dataset from to) job (AreInOrder-reduced_cells Mean m dataset from to same).each c))
-    (reduced_cells m dataset from to) (All-contains_itself (reduced_cells m dataset from to)))
-    cell is
+    fault_found Mean m dataset from to same (none_in_each m dataset from (source_box from to) to (reduced_cells m dataset from to) (AreInOrder-reduced_cells Mean m dataset from to same).each e) cell is

@@ -1,15 +1,12 @@
 -- What a reducer's jobs are stored as, and what storing them answers.
-use Rattle.std.proofs.Common.{◌≡◌, ◌∙◌, ℕ, ◌+◌, ◌<◌, ◌≤◌, ◌^◌, List, [], length, map, get_or, Option, Some, None, IfSome, false, refl, ap, sym, subst, arith}
-use Rattle.std.specs.Prelude.{Contains, Result, Ok, Err}
-use Rattle.std.specs.FinMap as fin
-use Rattle.std.proofs.lemmas.List.{get_or_default}
+use Rattle.std.proofs.Common.{◌≡◌, ◌∙◌, ℕ, ◌≤◌, ◌^◌, List, length, map, Option, Some, None, IfSome, false, refl, ap, sym, subst, arith}
+use Rattle.std.specs.Prelude.{Result, Ok, Err}
 use Rattle.vol_base.specs.Outside.{HaveBytes, Objects, any_under}
 use Rattle.vol_base.specs.declared.faults.Fault.{Fault}
 use Rattle.vol_spec.specs.BoxValues.{first_some}
 use Rattle.vol_spec.specs.CellNames.{folder_of}
 use Rattle.vol_spec.specs.Cut.{first_fault}
-use Rattle.vol_spec.specs.StoredBytes.{object_of}
-use Rattle.vol_spec.specs.StoredCells.{cell_of, put_in}
+use Rattle.vol_spec.specs.StoredCells.{AreInOrder, put_in}
 use Rattle.vol_spec.specs.StoredLists.{in_key_order, stored_list}
 use Rattle.vol_spec.specs.Writable.{IsWritable}
 use Rattle.vol_spec.specs.declared.scale.Scale.{Scale}
@@ -21,14 +18,14 @@ use Rattle.copier.specs.Held.{Held, cells_of}
 use Rattle.reduce_laws.specs.Reduced.{IsNext, is_reduced, reduced_cells, reduced_chunks, reduced_raw, source_box}
 use Rattle.reduce_laws.specs.declared.method.Method.{Method}
 use Rattle.reducer.specs.Works.{IsApart, Reduction, work_of}
-use Rattle.shard_writer.proofs.PlannedSteps.{by_place, chunk_by, stored_by_key}
+use Rattle.shard_writer.proofs.PlannedSteps.{chunk_by}
 use Rattle.shard_writer.specs.Writing as spared
 use Rattle.shard_writer.specs.Writing.{KnowsLens, PutsFront, PutsJobs, PutsSome, WritesAll, first_of_jobs, job_objects, joint_len, told_objects}
 use Rattle.shard_writer.specs.declared.written.Written.{Written}
 use Rattle.shard_writer.specs.declared.written.WriteFault.{WriteFault}
 use Rattle.shard_writer.specs.declared.written.WriteFault.TheVariants as writes
-use Rattle.write_plan.proofs.KeySteps.{distinct_cells, length-in_key_order, to_key_order}
 use Rattle.write_plan.specs.Pairs.{cell_count}
+use Rattle.reshard_cmd.proofs.JobSteps.{as_many_jobs, job_by_job, objects_by_job, spared_by_job}
 use Rattle.reshard_cmd.specs.declared.fault.ReshardFault.{ReshardFault}
 use Rattle.reshard_cmd.specs.declared.fault.ReshardFault.TheVariants.{Damaged}
 use Rattle.downsample_cmd.specs.Downsampling.{HasReducedJobs, IsReduced, PutsReducedFront, Reduces, SparesFaulty, reduced_list, source_fault}
@@ -50,16 +47,13 @@ module _ (m : Objects) (r : Reduction) (to : Scale) (scale : r.held.to ≡ to) (
   abbrev made : List (List ℕ)
   made = reduced_cells m h.dataset h.from to
 
-  same : (i : ℕ) → i < length (cells_of h) → get_or (cells_of h) (0 + i) [] ≡ get_or (cells_of h) i []
-  same i l = let z : 0 + i ≡ i = omega arith in ap (λ k. get_or (cells_of h) k []) z
+  order : AreInOrder to made
+  order = AreInOrder-reduced_cells r.method m h.dataset h.from to next
 
   -- its objects are those of the reducer's jobs,
   pub reducer_objects : job_objects h.dataset (work_of r) m ≡ reduced_list r.method m h.dataset h.from to
   reducer_objects =
-      ap (stored_list h.dataset h.to) (by_place (chunk_by (reduced_raw r.method m h.dataset h.from h.to)) (cells_of h) (cells_of h) [] 0 same)
-      ∙ ap (λ s. stored_list h.dataset s (map (chunk_by (reduced_raw r.method m h.dataset h.from s)) (cells_of h))) scale
-      ∙ ap (λ cells. stored_list h.dataset to (map (chunk_by (reduced_raw r.method m h.dataset h.from to)) cells)) jobs
-      ∙ stored_by_key h.dataset to (reduced_raw r.method m h.dataset h.from to) made (AreInOrder-reduced_cells r.method m h.dataset h.from to next)
+      objects_by_job h.dataset h.to to (cells_of h) made scale jobs order (reduced_raw r.method m h.dataset h.from)
       ∙ ap (stored_list h.dataset to) (sym (chunks_made r.method m h.dataset h.from to))
 
   pub told_reduced : told_objects h.dataset (work_of r) (Some m) ≡ reduced_list r.method m h.dataset h.from to
@@ -67,15 +61,10 @@ module _ (m : Objects) (r : Reduction) (to : Scale) (scale : r.held.to ≡ to) (
 
   -- and its first fault is theirs
   pub reducer_fault : first_of_jobs (work_of r) m ≡ source_fault m h.dataset h.from to
-  reducer_fault =
-      ap first_some (by_place (λ cell. first_fault m h.dataset h.from (source_box h.from h.to cell)) (cells_of h) (cells_of h) [] 0 same)
-      ∙ ap (λ s. first_some (map (λ cell. first_fault m h.dataset h.from (source_box h.from s cell)) (cells_of h))) scale
-      ∙ ap (λ cells. first_some (map (λ cell. first_fault m h.dataset h.from (source_box h.from to cell)) cells)) jobs
+  reducer_fault = job_by_job h.dataset h.to to (cells_of h) made scale jobs order (λ s. first_some) (λ s cell. first_fault m h.dataset h.from (source_box h.from s cell))
 
   pub reducer_count : length (cells_of h) ≡ length made
-  reducer_count =
-      let order = AreInOrder-reduced_cells r.method m h.dataset h.from to next in
-      ap length jobs ∙ length-in_key_order to made order.each (distinct_cells to made order)
+  reducer_count = as_many_jobs h.dataset h.to to (cells_of h) made scale jobs order
 
   -- where there is a job, the target's folder isn't the source's
   pub reducer_apart : any_under m (folder_of h.dataset to) ≡ false → IsApart r h.dataset to
@@ -86,12 +75,7 @@ module _ (m : Objects) (r : Reduction) (to : Scale) (scale : r.held.to ≡ to) (
   -- the objects of jobs with a fault are those of the cells
   spares_of : (now : Option Objects) → spared.SparesFaulty h.dataset (work_of r) (Some m) now → SparesFaulty m now h.dataset h.from to
   spares_of None spares = tt
-  spares_of (Some n) spares = λ cell listed faulty.
-      let (k, low, at) = subst (λ cells. Contains cells cell) (sym jobs) (to_key_order to made cell (AreInOrder-reduced_cells r.method m h.dataset h.from to next).each listed) in
-      let is : cell_of (cells_of h) k ≡ cell = get_or_default (cells_of h) k [] cell low ∙ at in
-      let kept = spares k low (λ none. faulty (ap (λ s. first_fault m h.dataset h.from (source_box h.from s cell)) (sym scale) ∙ ap (λ c. first_fault m h.dataset h.from (source_box h.from h.to c)) (sym is) ∙ none)) in
-      subst (λ s. fin.get n (object_of h.dataset s cell) ≡ fin.get m (object_of h.dataset s cell)) scale
-      (subst (λ c. fin.get n (object_of h.dataset h.to c) ≡ fin.get m (object_of h.dataset h.to c)) is kept)
+  spares_of (Some n) spares = spared_by_job h.dataset h.to to (cells_of h) made scale jobs order m n (λ s cell. first_fault m h.dataset h.from (source_box h.from s cell)) spares
 
   front_of : (now : Option Objects) → PutsSome h.dataset (work_of r) (Some m) now → spared.SparesFaulty h.dataset (work_of r) (Some m) now → PutsReducedFront r.method m now h.dataset h.from to
   front_of now front spares = (subst (λ list. PutsFront list m now) reducer_objects front, spares_of now spares)

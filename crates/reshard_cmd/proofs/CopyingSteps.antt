@@ -1,8 +1,6 @@
 -- What a copier's jobs are stored as, and what storing them answers.
-use Rattle.std.proofs.Common.{◌≡◌, ◌∙◌, ℕ, ◌+◌, ◌<◌, ◌≤◌, ◌^◌, List, [], length, map, get_or, Option, Some, None, IfSome, false, refl, ap, sym, subst, arith}
-use Rattle.std.specs.Prelude.{Contains, Result, Ok, Err}
-use Rattle.std.specs.FinMap as fin
-use Rattle.std.proofs.lemmas.List.{get_or_default}
+use Rattle.std.proofs.Common.{◌≡◌, ◌∙◌, ℕ, ◌≤◌, ◌^◌, List, length, map, Option, Some, None, IfSome, false, refl, ap, sym, subst, arith}
+use Rattle.std.specs.Prelude.{Result, Ok, Err}
 use Rattle.vol_base.specs.Outside.{HaveBytes, Objects, any_under}
 use Rattle.vol_base.specs.declared.faults.Fault.{Fault}
 use Rattle.vol_spec.specs.BoxValues.{first_some}
@@ -10,8 +8,7 @@ use Rattle.vol_spec.specs.CellNames.{folder_of}
 use Rattle.vol_spec.specs.Copies.{AreOfOneVolume, copied_cells, copied_raw, copy, is_copied}
 use Rattle.vol_spec.specs.Cut.{first_fault}
 use Rattle.vol_spec.specs.Grid.{cell_box}
-use Rattle.vol_spec.specs.StoredBytes.{object_of}
-use Rattle.vol_spec.specs.StoredCells.{cell_of, put_in}
+use Rattle.vol_spec.specs.StoredCells.{AreInOrder, put_in}
 use Rattle.vol_spec.specs.StoredLists.{in_key_order, stored_list}
 use Rattle.vol_spec.specs.Writable.{IsWritable}
 use Rattle.vol_spec.specs.declared.scale.Scale.{Scale}
@@ -21,18 +18,18 @@ use Rattle.chunk_laws.specs.Told.{HasNoFault}
 use Rattle.copy_laws.proofs.CopyValues.{AreInOrder-copied_cells, none_anywhere}
 use Rattle.copier.proofs.MarkSteps.{few_pass}
 use Rattle.copier.specs.Held.{Held, IsApart, cells_of, work_of}
-use Rattle.shard_writer.proofs.PlannedSteps.{by_place, chunk_by, stored_by_key}
+use Rattle.shard_writer.proofs.PlannedSteps.{chunk_by}
 use Rattle.shard_writer.specs.Writing as spared
 use Rattle.shard_writer.specs.Writing.{KnowsLens, PutsFront, PutsJobs, PutsSome, WritesAll, first_of_jobs, job_objects, joint_len, told_objects}
 use Rattle.shard_writer.specs.declared.written.Written.{Written}
 use Rattle.shard_writer.specs.declared.written.WriteFault.{WriteFault}
 use Rattle.shard_writer.specs.declared.written.WriteFault.TheVariants as writes
-use Rattle.write_plan.proofs.KeySteps.{distinct_cells, length-in_key_order, to_key_order}
 use Rattle.write_plan.specs.Pairs.{cell_count}
 use Rattle.reshard_cmd.specs.Resharding.{Copies, HasCopyJobs, IsCopied, PutsCopyFront, SparesFaulty, copy_fault, copy_list}
 use Rattle.reshard_cmd.specs.declared.fault.ReshardFault.{ReshardFault}
 use Rattle.reshard_cmd.specs.declared.fault.ReshardFault.TheVariants.{Damaged}
 use Rattle.reshard_cmd.proofs.FaultSteps.{first_is, none_is}
+use Rattle.reshard_cmd.proofs.JobSteps.{as_many_jobs, job_by_job, objects_by_job, spared_by_job}
 
 -- the copy is few cells,
 pub few_copied : (m : Objects) (dataset : List ℕ) (from to : Scale) → cell_count to ≤ 2 ^ 22 → length (copied_cells m dataset from to) ≤ 2 ^ 22
@@ -47,16 +44,13 @@ module _ (m : Objects) (h : Held) (to_dataset : List ℕ) (to : Scale) (scale : 
   abbrev copied : List (List ℕ)
   copied = copied_cells m h.dataset h.from to
 
-  same : (i : ℕ) → i < length (cells_of h) → get_or (cells_of h) (0 + i) [] ≡ get_or (cells_of h) i []
-  same i l = let z : 0 + i ≡ i = omega arith in ap (λ k. get_or (cells_of h) k []) z
+  order : AreInOrder to copied
+  order = AreInOrder-copied_cells m h.dataset h.from to
 
   -- its objects are those of the copier's jobs,
   pub copier_objects : job_objects to_dataset (work_of h) m ≡ copy_list m h.dataset h.from to_dataset to
   copier_objects =
-      ap (stored_list to_dataset h.to) (by_place (chunk_by (copied_raw m h.dataset h.from h.to)) (cells_of h) (cells_of h) [] 0 same)
-      ∙ ap (λ s. stored_list to_dataset s (map (chunk_by (copied_raw m h.dataset h.from s)) (cells_of h))) scale
-      ∙ ap (λ cells. stored_list to_dataset to (map (chunk_by (copied_raw m h.dataset h.from to)) cells)) jobs
-      ∙ stored_by_key to_dataset to (copied_raw m h.dataset h.from to) copied (AreInOrder-copied_cells m h.dataset h.from to)
+      objects_by_job to_dataset h.to to (cells_of h) copied scale jobs order (copied_raw m h.dataset h.from)
       ∙ ap (stored_list to_dataset to) (sym (copy_chunks m h.dataset h.from to))
 
   pub told_copy : told_objects to_dataset (work_of h) (Some m) ≡ copy_list m h.dataset h.from to_dataset to
@@ -64,15 +58,10 @@ module _ (m : Objects) (h : Held) (to_dataset : List ℕ) (to : Scale) (scale : 
 
   -- and its first fault is theirs
   pub copier_fault : first_of_jobs (work_of h) m ≡ copy_fault m h.dataset h.from to
-  copier_fault =
-      ap first_some (by_place (λ cell. first_fault m h.dataset h.from (cell_box h.to cell)) (cells_of h) (cells_of h) [] 0 same)
-      ∙ ap (λ s. first_some (map (λ cell. first_fault m h.dataset h.from (cell_box s cell)) (cells_of h))) scale
-      ∙ ap (λ cells. first_some (map (λ cell. first_fault m h.dataset h.from (cell_box to cell)) cells)) jobs
+  copier_fault = job_by_job to_dataset h.to to (cells_of h) copied scale jobs order (λ s. first_some) (λ s cell. first_fault m h.dataset h.from (cell_box s cell))
 
   pub copier_count : length (cells_of h) ≡ length copied
-  copier_count =
-      let order = AreInOrder-copied_cells m h.dataset h.from to in
-      ap length jobs ∙ length-in_key_order to copied order.each (distinct_cells to copied order)
+  copier_count = as_many_jobs to_dataset h.to to (cells_of h) copied scale jobs order
 
   -- where there is a job, the target's folder isn't the source's
   pub copier_apart : any_under m (folder_of to_dataset to) ≡ false → IsApart h to_dataset to
@@ -83,12 +72,7 @@ module _ (m : Objects) (h : Held) (to_dataset : List ℕ) (to : Scale) (scale : 
   -- the objects of jobs with a fault are those of the cells
   spares_of : (now : Option Objects) → spared.SparesFaulty to_dataset (work_of h) (Some m) now → SparesFaulty m now h.dataset h.from to_dataset to
   spares_of None spares = tt
-  spares_of (Some n) spares = λ cell listed faulty.
-      let (k, low, at) = subst (λ cells. Contains cells cell) (sym jobs) (to_key_order to copied cell (AreInOrder-copied_cells m h.dataset h.from to).each listed) in
-      let is : cell_of (cells_of h) k ≡ cell = get_or_default (cells_of h) k [] cell low ∙ at in
-      let kept = spares k low (λ none. faulty (ap (λ s. first_fault m h.dataset h.from (cell_box s cell)) (sym scale) ∙ ap (λ c. first_fault m h.dataset h.from (cell_box h.to c)) (sym is) ∙ none)) in
-      subst (λ s. fin.get n (object_of to_dataset s cell) ≡ fin.get m (object_of to_dataset s cell)) scale
-      (subst (λ c. fin.get n (object_of to_dataset h.to c) ≡ fin.get m (object_of to_dataset h.to c)) is kept)
+  spares_of (Some n) spares = spared_by_job to_dataset h.to to (cells_of h) copied scale jobs order m n (λ s cell. first_fault m h.dataset h.from (cell_box s cell)) spares
 
   front_of : (now : Option Objects) → PutsSome to_dataset (work_of h) (Some m) now → spared.SparesFaulty to_dataset (work_of h) (Some m) now → PutsCopyFront m now h.dataset h.from to_dataset to
   front_of now front spares = (subst (λ list. PutsFront list m now) copier_objects front, spares_of now spares)

@@ -53,20 +53,25 @@ box_fault m dataset s b cell fault e =
       ap (fault_in m dataset s) (sym told.0) ∙ told.1,
     )
 
+-- the first fault of boxes that are read one after the other is one of a cell,
+pub first_in : (m : Objects) (dataset : List ℕ) (s : Scale) (box : List ℕ → Box3) (jobs : List (List ℕ)) (cell : List ℕ) (fault : Fault) → first_some (map (λ job. first_fault m dataset s (box job)) jobs) ≡ Some (cell, fault)
+    → IsCell s cell × (fault_in m dataset s cell ≡ Some fault)
+first_in m dataset s box jobs cell fault e = let (job, listed, is) = first_of (λ job. first_fault m dataset s (box job)) jobs (cell, fault) e in box_fault m dataset s (box job) cell fault is
+
+-- and where there is none, none of the boxes has a fault
+pub none_in_each : (m : Objects) (dataset : List ℕ) (s : Scale) (box : List ℕ → Box3) (to : Scale) (cells : List (List ℕ)) → All (IsCell to) cells → first_some (map (λ job. first_fault m dataset s (box job)) (in_key_order to cells)) ≡ None
+    → All (λ job. first_fault m dataset s (box job) ≡ None) cells
+none_in_each m dataset s box to cells are e =
+    let keyed = none_each (λ job. first_fault m dataset s (box job)) (in_key_order to cells) e in
+    All-weaker (Contains cells) (λ job. first_fault m dataset s (box job) ≡ None)
+    (λ job c. All-contains (λ job. first_fault m dataset s (box job) ≡ None) (in_key_order to cells) job keyed (to_key_order to cells job are c)) cells (All-contains_itself cells)
+
 pub first_is : (m : Objects) (dataset : List ℕ) (from to : Scale) (cell : List ℕ) (fault : Fault) → copy_fault m dataset from to ≡ Some (cell, fault) → IsFirstFault m dataset from to cell fault
 first_is m dataset from to cell fault e =
-    let (job, listed, is) = first_of (λ job. first_fault m dataset from (cell_box to job)) (in_key_order to (copied_cells m dataset from to)) (cell, fault) e in
-    let told = box_fault m dataset from (cell_box to job) cell fault is in
+    let told = first_in m dataset from (cell_box to) (in_key_order to (copied_cells m dataset from to)) cell fault e in
     record { first = e; of_source = told.0; its_own = told.1 }
 
 -- where there is none, the source has none
 pub none_is : (m : Objects) (dataset : List ℕ) (from to : Scale) → AreOfOneVolume from to → copy_fault m dataset from to ≡ None → HasNoFault m dataset from
 none_is m dataset from to same e cell is =
-    let keyed : All (λ job. first_fault m dataset from (cell_box to job) ≡ None) (in_key_order to (copied_cells m dataset from to)) =
-    none_each (λ job. first_fault m dataset from (cell_box to job)) (in_key_order to (copied_cells m dataset from to)) e in
-    fault_found from to same m dataset
-    (All-weaker (Contains (copied_cells m dataset from to)) (λ job. first_fault m dataset from (cell_box to job) ≡ None)
-    (λ job c. All-contains (λ job. first_fault m dataset from (cell_box to job) ≡ None) (in_key_order to (copied_cells m dataset from to)) job keyed
-    (to_key_order to (copied_cells m dataset from to) job (AreInOrder-copied_cells m dataset from to).each c))
-    (copied_cells m dataset from to) (All-contains_itself (copied_cells m dataset from to)))
-    cell is
+    fault_found from to same m dataset (none_in_each m dataset from (cell_box to) to (copied_cells m dataset from to) (AreInOrder-copied_cells m dataset from to).each e) cell is

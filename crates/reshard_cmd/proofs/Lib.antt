@@ -3,5 +3,6 @@ pub mod BegunSteps
 pub mod CopySteps
 pub mod CopyingSteps
 pub mod FaultSteps
+pub mod JobSteps
 pub mod MakingSteps
 pub mod ReshardSteps

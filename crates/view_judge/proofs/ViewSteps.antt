@@ -24,7 +24,7 @@ use Rattle.cutout.specs.Opened.{Opened}
 use Rattle.size_laws.specs.Findings.{Finding, first_finding, view_finding}
 use Rattle.size_laws.specs.Further.{further}
 use Rattle.view_judge.specs.Answers.{AreCells, JudgesView}
-use Rattle.view_judge.specs.Further.{HasRoom, IsBeside, all_opened, opened}
+use Rattle.view_judge.specs.Further.{HasRoom, IsBeside, StandsBeside, all_opened, opened}
 use Rattle.view_judge.specs.Judging.{FindsViews, absent_in, absent_of, cells_of, stored_in, stored_of}
 use Rattle.view_judge.specs.Regions.{own_regions}
 use Rattle.view_judge.specs.declared.fault.ViewFault.{ViewFault}
@@ -240,11 +240,14 @@ module _ (was first : Opened) (list : List Opened) (k : ℕ) (e : Opened) (part 
   pub next_beside : IsBeside first.scale next.scale
   next_beside = subst (λ (r : Opened). IsBeside r.scale next.scale) (sym same) (subst (λ (r : Opened). IsBeside was.scale r.scale) (sym next_is) (beside_at was.scale k next_below))
 
-  pub next_dataset : next.dataset ≡ first.dataset
+  next_dataset : next.dataset ≡ first.dataset
   next_dataset = ap (λ (r : Opened). r.dataset) next_is ∙ ap (λ (r : Opened). r.dataset) (sym same)
 
   pub next_inside : Inside was.scale part → Inside next.scale part
   next_inside h = subst (λ (r : Opened). Inside r.scale part) (sym next_is) (inside_at was.scale k part next_below h)
+
+  pub next_stands : Inside was.scale part → StandsBeside first next part
+  next_stands h = record { beside = next_beside; same_dataset = next_dataset; inside = next_inside h }
 
   pub next_few : cells_of (further was.scale) part ≤ 2 ^ 22 → length (cells_in next.scale part) ≤ 2 ^ 22
   next_few h = subst (λ (r : Opened). length (cells_in r.scale part) ≤ 2 ^ 22) (sym next_is) (few_at was.scale part k next_below h)

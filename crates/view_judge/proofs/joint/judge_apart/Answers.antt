@@ -8,16 +8,12 @@ use Rattle.view_judge.specs.Answers.{AgreesSo, ComparesAll, IsWrong, JudgesOwn}
 use Rattle.view_judge.specs.Judging.{own_cost}
 use Rattle.view_judge.specs.Regions.{own_regions}
 use Rattle.view_judge.proofs.RegionSteps.{own_beside}
-use Rattle.view_judge.proofs.ViewSteps.{asked_all, asked_more, asked_next, further_length, next_below, next_beside, next_dataset, next_inside, next_is, next_own, opened_length}
+use Rattle.view_judge.proofs.ViewSteps.{asked_all, asked_more, asked_next, further_length, next_below, next_is, next_own, next_stands, opened_length}
 use Rattle.view_judge.proofs.WalkSteps.{moved, moved_told}
 use Rattle.view_judge.proofs.joint.judge_apart.Goals as goal
 
 pub judge_own-requires-clause-beside : goal.judge_own-requires-clause-beside
-judge_own-requires-clause-beside g c = record {
-  beside = next_beside c.args.first.now c.loop-number.first c.loop-number.further c.loop-number.number c.index-further-number.result c.args.part.now c.loop-number.invariant.first (c.loop-number.invariant.views ∙ c.requires.views) c.loop-number-test.true;
-  same_dataset = next_dataset c.args.first.now c.loop-number.first c.loop-number.further c.loop-number.number c.index-further-number.result c.args.part.now c.loop-number.invariant.first (c.loop-number.invariant.views ∙ c.requires.views) c.loop-number-test.true;
-  inside = next_inside c.args.first.now c.loop-number.first c.loop-number.further c.loop-number.number c.index-further-number.result c.args.part.now c.loop-number.invariant.first (c.loop-number.invariant.views ∙ c.requires.views) c.loop-number-test.true c.requires.inside;
-}
+judge_own-requires-clause-beside g c = next_stands c.args.first.now c.loop-number.first c.loop-number.further c.loop-number.number c.index-further-number.result c.args.part.now c.loop-number.invariant.first (c.loop-number.invariant.views ∙ c.requires.views) c.loop-number-test.true c.requires.inside
 
 pub judge_own-requires-clause-scale : goal.judge_own-requires-clause-scale
 judge_own-requires-clause-scale g c = c.requires.scale ∙ ap (λ (r : Opened). r.scale) (sym c.loop-number.invariant.first)

@@ -5,7 +5,7 @@ use Rattle.vol_spec.specs.Grid.{cells_in}
 use Rattle.vol_spec.specs.Verdicts.{Sound}
 use Rattle.view_judge.specs.Answers.{JudgesView}
 use Rattle.view_judge.specs.Judging.{FindsViews, cells_cost}
-use Rattle.view_judge.proofs.ViewSteps.{asked_all, asked_more, asked_next, cells_all, cells_more, cells_within, next_below, next_beside, next_cells, next_dataset, next_few, next_inside, next_is, next_room, opened_length, view_stops, views_all, views_few, views_more}
+use Rattle.view_judge.proofs.ViewSteps.{asked_all, asked_more, asked_next, cells_all, cells_more, cells_within, next_below, next_cells, next_few, next_is, next_room, next_stands, opened_length, view_stops, views_all, views_few, views_more}
 use Rattle.view_judge.proofs.WalkSteps.{IsSum, both_add, moved, moved_told}
 use Rattle.view_judge.proofs.judge.judge_views.Goals as goal
 
@@ -22,11 +22,7 @@ overflow_add-k g c =
     omega (arith, below, few)
 
 pub judge_cells-requires-clause-beside : goal.judge_cells-requires-clause-beside
-judge_cells-requires-clause-beside g c = record {
-  beside = next_beside c.args.first.now c.loop-k.first c.loop-k.further c.loop-k.k c.index-further-k.result c.args.part.now c.loop-k.invariant.first (c.loop-k.invariant.views ∙ c.requires.views) c.loop-k-test.true;
-  same_dataset = next_dataset c.args.first.now c.loop-k.first c.loop-k.further c.loop-k.k c.index-further-k.result c.args.part.now c.loop-k.invariant.first (c.loop-k.invariant.views ∙ c.requires.views) c.loop-k-test.true;
-  inside = next_inside c.args.first.now c.loop-k.first c.loop-k.further c.loop-k.k c.index-further-k.result c.args.part.now c.loop-k.invariant.first (c.loop-k.invariant.views ∙ c.requires.views) c.loop-k-test.true c.requires.inside;
-}
+judge_cells-requires-clause-beside g c = next_stands c.args.first.now c.loop-k.first c.loop-k.further c.loop-k.k c.index-further-k.result c.args.part.now c.loop-k.invariant.first (c.loop-k.invariant.views ∙ c.requires.views) c.loop-k-test.true c.requires.inside
 
 pub judge_cells-requires-clause-few : goal.judge_cells-requires-clause-few
 judge_cells-requires-clause-few g c = next_few c.args.first.now c.loop-k.first c.loop-k.further c.loop-k.k c.index-further-k.result c.args.part.now c.loop-k.invariant.first (c.loop-k.invariant.views ∙ c.requires.views) c.loop-k-test.true c.requires.few
