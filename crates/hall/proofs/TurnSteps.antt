@@ -1,5 +1,5 @@
 -- What serving one end leaves, by how it was served.
-use Rattle.std.proofs.Common.{◌≡◌, ◌<◌, ℕ, Bool, true, false, List, [], ◌∷◌, ◌++◌, inl, inr, refl, sym, ap, ◌∙◌, subst, arith}
+use Rattle.std.proofs.Common.{◌≡◌, ℕ, Bool, true, false, List, [], ◌∷◌, ◌++◌, inl, inr, refl, sym, ap, ◌∙◌, subst, arith}
 use Rattle.std.specs.Prelude.{Option, Some, None, IfErr, IfOk, Result, Ok, Err, option_map}
 use Rattle.std.proofs.lemmas.Option.{same_Some}
 use Rattle.vol_base.specs.Causes.{Rose}

@@ -1,6 +1,7 @@
 //! A hall from its first accept to its last close.
 ghost use Rattle.std.specs.Prelude.{◌≡◌, ◌<◌, ◌≤◌, ◌+◌, ◌-◌, [], ℕ, List, All, IfOk, IfSome, IsSome, Some, None, false, true, length, map, sum, vec_capacity};
 ghost use Rattle.vol_base.specs.Causes.{Rose};
+ghost use Rattle.hall.specs.Finishing.{Finishes, told_as};
 ghost use Rattle.hall.specs.Halls.{Accepts, EachServed, HasExactly, NoneFell, PaidBy, end_by, is_short, numbers_of};
 
 use crate::middle::Middle;
@@ -154,18 +155,9 @@ fn close_hall<N: Hall, D: Entrance + Drop, X: Exit<D::End> + Drop, S: Source + D
     requires paid { PaidBy N.counts (map S.faults stores.items) all.old.amount }
     requires later { NoneFell N.counts (map S.faults stores.items) }
     requires over { porch.failed ≡ false → porch.given ≡ N.jobs }
-    ensures bound { D.bound result.entrance ≡ N.bound }
-    ensures exact { IfSome (X.served result.exit) (λ list.
-        HasExactly (D.accepted result.entrance - N.accepted) (numbers_of list)) }
-    ensures given { Accepts result.end N.jobs (D.accepted result.entrance - N.accepted) }
-    ensures more { N.accepted ≤ D.accepted result.entrance }
-    ensures each { EachServed N.told N.dataset (is_short result.end) (X.served result.exit) N.counts
-        (map S.faults result.stores.items) }
-    ensures stores_later { NoneFell N.counts (map S.faults result.stores.items) }
-    ensures told { map S.objects result.stores.items ≡ N.told }
-    ensures later { N.count ≤ D.faults result.entrance }
-    ensures rose { result.end ≡ HallEnd.DoorFault → Rose N.count (D.faults result.entrance) }
-    ensures stands { result.end ≡ HallEnd.All → D.faults result.entrance ≡ N.count }
+    ensures { Finishes N.jobs N.dataset N.told N.counts (told_as N.bound N.accepted N.count) result.end
+        (told_as (D.bound result.entrance) (D.accepted result.entrance) (D.faults result.entrance))
+        (X.served result.exit) (map S.objects result.stores.items) (map S.faults result.stores.items) }
 {
     let (entrance, mut given, failed) = porch.close();
     let (exit, ran_out) = middle.close(host, all, &mut given);
@@ -212,18 +204,9 @@ where
     requires counts { N.counts ≡ map S.faults stores.items }
     requires some { 0 < workers }
     requires few { workers ≤ 16 }
-    ensures bound { D.bound result.entrance ≡ N.bound }
-    ensures exact { IfSome (X.served result.exit) (λ list.
-        HasExactly (D.accepted result.entrance - N.accepted) (numbers_of list)) }
-    ensures given { Accepts result.end N.jobs (D.accepted result.entrance - N.accepted) }
-    ensures more { N.accepted ≤ D.accepted result.entrance }
-    ensures each { EachServed N.told N.dataset (is_short result.end) (X.served result.exit) N.counts
-        (map S.faults result.stores.items) }
-    ensures stores_later { NoneFell N.counts (map S.faults result.stores.items) }
-    ensures told { map S.objects result.stores.items ≡ N.told }
-    ensures later { N.count ≤ D.faults result.entrance }
-    ensures rose { result.end ≡ HallEnd.DoorFault → Rose N.count (D.faults result.entrance) }
-    ensures stands { result.end ≡ HallEnd.All → D.faults result.entrance ≡ N.count }
+    ensures { Finishes N.jobs N.dataset N.told N.counts (told_as N.bound N.accepted N.count) result.end
+        (told_as (D.bound result.entrance) (D.accepted result.entrance) (D.faults result.entrance))
+        (X.served result.exit) (map S.objects result.stores.items) (map S.faults result.stores.items) }
 {
     let mut stores = stores;
     let mut left = left;
@@ -302,18 +285,9 @@ where
     requires dataset { dataset.now ≡ N.dataset }
     requires some { 0 < workers }
     requires few { workers ≤ 16 }
-    ensures bound { D.bound result.entrance ≡ N.bound }
-    ensures exact { IfSome (X.served result.exit) (λ list.
-        HasExactly (D.accepted result.entrance - N.accepted) (numbers_of list)) }
-    ensures given { Accepts result.end N.jobs (D.accepted result.entrance - N.accepted) }
-    ensures more { N.accepted ≤ D.accepted result.entrance }
-    ensures each { EachServed N.told N.dataset (is_short result.end) (X.served result.exit) N.counts
-        (map S.faults result.stores.items) }
-    ensures stores_later { NoneFell N.counts (map S.faults result.stores.items) }
-    ensures told { map S.objects result.stores.items ≡ N.told }
-    ensures later { N.count ≤ D.faults result.entrance }
-    ensures rose { result.end ≡ HallEnd.DoorFault → Rose N.count (D.faults result.entrance) }
-    ensures stands { result.end ≡ HallEnd.All → D.faults result.entrance ≡ N.count }
+    ensures { Finishes N.jobs N.dataset N.told N.counts (told_as N.bound N.accepted N.count) result.end
+        (told_as (D.bound result.entrance) (D.accepted result.entrance) (D.faults result.entrance))
+        (X.served result.exit) (map S.objects result.stores.items) (map S.faults result.stores.items) }
 {
     let Ok(lists) = reserve_lists(alloc, total) else {
         return Finish {
