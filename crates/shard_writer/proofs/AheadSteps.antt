@@ -1,5 +1,5 @@
 -- Jobs that are prepared and encoded ahead of the one that is stored next.
-use Rattle.std.proofs.Common.{◌≡◌, ℕ, ◌-◌, ◌^◌, ◌≤◌, ◌<◌, length, None, Option, Some, IfSome, IsSome, Ok, Err, ap, arith, subst, sym, ◌∙◌}
+use Rattle.std.proofs.Common.{◌≡◌, ℕ, ◌+◌, ◌-◌, ◌^◌, ◌≤◌, ◌<◌, length, None, Option, Some, IfSome, IsSome, Ok, Err, ap, arith, subst, sym, ◌∙◌}
 use Rattle.vol_base.specs.Outside.{Objects}
 use Rattle.vol_spec.specs.Types.{Bytes}
 use Rattle.vol_spec.specs.Writable.{IsWritable}
@@ -10,7 +10,7 @@ use Rattle.shard_writer.specs.Serving.{IsAhead, PreparesOn, ServesRounds}
 use Rattle.shard_writer.specs.declared.rounds.Rounds.{Rounds}
 use Rattle.shard_writer.specs.declared.steps.Ahead.{Ahead}
 use Rattle.shard_writer.proofs.CountSteps.{faulty_on, sound_on}
-use Rattle.shard_writer.proofs.RoundSteps.{prepared_part}
+use Rattle.shard_writer.proofs.RoundSteps.{held_kept, held_on}
 
 -- nothing more was prepared
 pub prepares_none : (o : Option Objects) (work : Work) (ready : ℕ → Option Bytes) (k : ℕ) (ahead : Ahead) → IfSome o (λ now. PreparesOn work now ready ready k ahead.prepared (Ok ahead))
@@ -75,34 +75,22 @@ ahead_more s work seen ready after k ahead next rounds same none kept more withi
       held = record { first = is.held.first; each = λ job l u. absurd (omega arith) };
     }
 
--- behind jobs whose chunks were stored
-pub ahead_on : (s : Scale) (work : Work) (ready : ℕ → Option Bytes) (k next : ℕ) (ahead : Ahead) (rounds : Rounds) → k ≤ next → next ≤ ahead.encoded
-    → IsAhead s work ready k ahead rounds → IsAhead s work ready next ahead rounds
-ahead_on s work ready k next ahead rounds low high is =
+-- behind a job, whose chunk was stored, where what is prepared stays
+pub ahead_on : (s : Scale) (work seen : Work) (ready after : ℕ → Option Bytes) (k : ℕ) (ahead : Ahead) (rounds : Rounds) → seen ≡ work → after ≡ ready → k < ahead.encoded
+    → IsAhead s work ready k ahead rounds → IsAhead s seen after (k + 1) ahead rounds
+ahead_on s work seen ready after k ahead rounds same kept more is =
     let order = is.order in
     record {
-      jobs = prepared_part s work ready k ahead.prepared next ahead.prepared low (omega arith) (omega arith) is.jobs;
-      low = high;
-      order = is.order;
-      serves = is.serves;
-      held = record { first = omega (arith, is.held.first); each = λ job l u. is.held.each job (omega arith) u };
-    }
-
--- and where none is encoded behind them, on another bench
-pub ahead_beside : (s : Scale) (work : Work) (ready : ℕ → Option Bytes) (k : ℕ) (ahead : Ahead) (rounds other : Rounds) → ServesRounds s other → other.first ≤ k
-    → IsAhead s work ready k ahead rounds → IsAhead s work ready ahead.encoded ahead other
-ahead_beside s work ready k ahead rounds other serves first is =
-    let low = is.low in
-    record {
-      jobs = prepared_part s work ready k ahead.prepared ahead.encoded ahead.prepared is.low is.order (omega arith) is.jobs;
+      jobs = record {
+        writable = is.jobs.writable;
+        scale = ap (λ (x : Work). x.scale) same ∙ is.jobs.scale;
+        order = omega arith;
+        within = omega (arith, is.jobs.within, ap (λ (x : Work). length x.cells) same);
+        few = is.jobs.few;
+        some = λ job l u. subst (λ (r : ℕ → Option Bytes). IsSome (r job)) (sym kept) (is.jobs.some job (omega arith) u);
+      };
       low = omega arith;
       order = is.order;
-      serves = serves;
-      held = record { first = omega arith; each = λ job l u. absurd (omega arith) };
+      serves = is.serves;
+      held = held_kept work seen ready after (k + 1) ahead.encoded ahead.encoded rounds same (omega arith) (λ job l u. ap (λ (r : ℕ → Option Bytes). r job) kept) (held_on work ready k ahead.encoded rounds is.held);
     }
-
--- where the jobs stay, and what is prepared of them
-pub ahead_same : (s : Scale) (work seen : Work) (ready after : ℕ → Option Bytes) (k : ℕ) (ahead : Ahead) (rounds : Rounds) → seen ≡ work → after ≡ ready
-    → IsAhead s work ready k ahead rounds → IsAhead s seen after k ahead rounds
-ahead_same s work seen ready after k ahead rounds same kept is =
-    subst (λ (x : Work). IsAhead s x after k ahead rounds) (sym same) (subst (λ (r : ℕ → Option Bytes). IsAhead s work r k ahead rounds) (sym kept) is)

@@ -3,7 +3,7 @@ use Rattle.std.proofs.Common.{◌≡◌, ◌∙◌, ℕ, ◌+◌, ◌^◌, ◌<�
 use Rattle.std.specs.Prelude.{◌==◌, IsErrAnd}
 use Rattle.std.specs.Bool.{OnFalse}
 use Rattle.std.specs.Option.{option_map}
-use Rattle.vol_base.specs.Outside.{Draft, Objects, appended, finished}
+use Rattle.vol_base.specs.Outside.{Draft, Objects, appended}
 use Rattle.vol_base.specs.declared.outside.StoreRefusal.{StoreRefusal}
 use Rattle.vol_spec.specs.ShardNames.{shard_name}
 use Rattle.vol_spec.specs.Shards.{shard_bytes}
@@ -18,6 +18,7 @@ use Rattle.shard_parts.specs.Parts.{draft_of}
 use Rattle.write_plan.specs.Jobs.{AreReady, Prepares, Work}
 use Rattle.write_plan.specs.declared.chunks.PrepareFault.{PrepareFault}
 use Rattle.write_plan.specs.declared.jobs.Job.{Job}
+use Rattle.encode_round.specs.Ready.{chunk_ready}
 use Rattle.shard_writer.specs.Faults.{of_jobs, of_store}
 use Rattle.shard_writer.specs.Serving.{PreparesOn, first_fault}
 use Rattle.shard_writer.specs.ShardRuns.{chunk_of, jobs_in, shards_between}
@@ -79,59 +80,56 @@ pub ended_some : (ends : Bool) (f : Draft → Draft) (before after : Option Draf
 ended_some false f before after some is = subst (λ o. IsSome o) (sym is) some
 ended_some true f before after some is = mapped_some f before after some is
 
--- where no more objects are put the objects are as before
-pub none_put : (last : Bool) (draft : Option Draft) (was now : Option Objects) (objects more : ℕ) → IsSome draft → IfSome draft (λ d. now ≡ (if last then option_map (finished d.told) was else was))
-    → more ≡ (if last then objects + 1 else objects) → more ≡ objects → now ≡ was
-none_put true draft was now objects more some is grown same = absurd (omega arith)
-none_put false None was now objects more some is grown same = absurd (cc some)
-none_put false (Some d) was now objects more some is grown same = is
-
 -- what preparing more jobs answers, over the objects as the writer began
 prepares_at : {dataset : Name} {s : Scale} {sharding : Sharding} {work : Work} {o now : Option Objects} {lens : ℕ → ℕ} {begun k at objects bytes : ℕ} {rows : List Row} {draft : Option Draft}
     → AreStored dataset s sharding work o now lens begun k at objects bytes rows draft
-    → (seen : Work) (before after : ℕ → Option Bytes) (from done : ℕ) (r : Result Ahead PrepareFault) → seen ≡ work → IfSome now (λ n. PreparesOn seen n before after from done r)
-    → (m : Objects) → o ≡ Some m → PreparesOn work (put_in m (front_of dataset s sharding work o lens begun)) before after from done r
-prepares_at {dataset = dataset} {s = s} {sharding = sharding} {work = work} {o = o} {now = now} {lens = lens} {begun = begun} {k = k} stored seen before after from done r same law m told =
+    → (seen : Work) (before after : ℕ → Option Bytes) (done : ℕ) (r : Result Ahead PrepareFault) → seen ≡ work → IfSome now (λ n. PreparesOn seen n before after k done r)
+    → (m : Objects) → o ≡ Some m → PreparesOn work (put_in m (front_of dataset s sharding work o lens begun)) before after k done r
+prepares_at {dataset = dataset} {s = s} {sharding = sharding} {work = work} {o = o} {now = now} {lens = lens} {begun = begun} {k = k} stored seen before after done r same law m told =
     let here : Objects = put_in m (front_of dataset s sharding work o lens begun) in
     let is : now ≡ Some here = stored.put ∙ ap (option_map (λ n. put_in n (front_of dataset s sharding work o lens begun))) told in
-    subst (λ (x : Work). PreparesOn x here before after from done r) same (from_told now (λ n. PreparesOn seen n before after from done r) here is law)
+    subst (λ (x : Work). PreparesOn x here before after k done r) same (from_told now (λ n. PreparesOn seen n before after k done r) here is law)
 
 pub ready_now : {dataset : Name} {s : Scale} {sharding : Sharding} {work : Work} {o now : Option Objects} {lens : ℕ → ℕ} {begun k at objects bytes : ℕ} {rows : List Row} {draft : Option Draft}
     → AreStored dataset s sharding work o now lens begun k at objects bytes rows draft
-    → (seen : Work) (before after : ℕ → Option Bytes) (from done : ℕ) (next : Ahead) → seen ≡ work → k ≤ from → ((m : Objects) → o ≡ Some m → AreReady before (work.raw m) from done)
-    → IfSome now (λ n. PreparesOn seen n before after from done (Ok next)) → (m : Objects) → o ≡ Some m → AreReady after (work.raw m) from next.prepared
-ready_now {work = work} stored seen before after from done next same behind had law m told =
+    → (seen : Work) (before after : ℕ → Option Bytes) (done : ℕ) (next : Ahead) → seen ≡ work → ((m : Objects) → o ≡ Some m → AreReady before (work.raw m) k done)
+    → IfSome now (λ n. PreparesOn seen n before after k done (Ok next)) → (m : Objects) → o ≡ Some m → AreReady after (work.raw m) k next.prepared
+ready_now {work = work} stored seen before after done next same had law m told =
     let le = begun_le stored in
-    (prepares_at stored seen before after from done (Ok next) same law m told).bytes (work.raw m) (λ job l u. stored.raws m told job (omega arith) u) (had m told)
+    (prepares_at stored seen before after done (Ok next) same law m told).bytes (work.raw m) (λ job l u. stored.raws m told job (omega arith) u) (had m told)
 
 pub sound_now : {dataset : Name} {s : Scale} {sharding : Sharding} {work : Work} {o now : Option Objects} {lens : ℕ → ℕ} {begun k at objects bytes : ℕ} {rows : List Row} {draft : Option Draft}
     → AreStored dataset s sharding work o now lens begun k at objects bytes rows draft
-    → (seen : Work) (before after : ℕ → Option Bytes) (from done : ℕ) (next : Ahead) → seen ≡ work → k ≤ from → ((m : Objects) → o ≡ Some m → first_fault (work.fault m) done ≡ None)
-    → IfSome now (λ n. PreparesOn seen n before after from done (Ok next)) → (m : Objects) → o ≡ Some m → first_fault (work.fault m) next.prepared ≡ None
-sound_now {work = work} stored seen before after from done next same behind sound law m told =
+    → (seen : Work) (before after : ℕ → Option Bytes) (done : ℕ) (next : Ahead) → seen ≡ work → ((m : Objects) → o ≡ Some m → first_fault (work.fault m) done ≡ None)
+    → IfSome now (λ n. PreparesOn seen n before after k done (Ok next)) → (m : Objects) → o ≡ Some m → first_fault (work.fault m) next.prepared ≡ None
+sound_now {work = work} stored seen before after done next same sound law m told =
     let le = begun_le stored in
-    (prepares_at stored seen before after from done (Ok next) same law m told).answer (work.fault m) (λ job l u. stored.faults m told job (omega arith) u) (sound m told)
+    (prepares_at stored seen before after done (Ok next) same law m told).answer (work.fault m) (λ job l u. stored.faults m told job (omega arith) u) (sound m told)
 
--- and where that fails
-pub faulty_now : {dataset : Name} {s : Scale} {sharding : Sharding} {work : Work} {o now : Option Objects} {lens : ℕ → ℕ} {begun k at objects bytes : ℕ} {rows : List Row} {draft : Option Draft}
+faulty_now : {dataset : Name} {s : Scale} {sharding : Sharding} {work : Work} {o now : Option Objects} {lens : ℕ → ℕ} {begun k at objects bytes : ℕ} {rows : List Row} {draft : Option Draft}
     → AreStored dataset s sharding work o now lens begun k at objects bytes rows draft
-    → (seen : Work) (before after : ℕ → Option Bytes) (from done : ℕ) (e : PrepareFault) → seen ≡ work → k ≤ from → ((m : Objects) → o ≡ Some m → first_fault (work.fault m) done ≡ None)
-    → IfSome now (λ n. PreparesOn seen n before after from done (Err e)) → (m : Objects) → o ≡ Some m → Prepares (Err e) (first_of_jobs work m)
-faulty_now {work = work} stored seen before after from done e same behind sound law m told =
+    → (seen : Work) (before after : ℕ → Option Bytes) (done : ℕ) (e : PrepareFault) → seen ≡ work → ((m : Objects) → o ≡ Some m → first_fault (work.fault m) done ≡ None)
+    → IfSome now (λ n. PreparesOn seen n before after k done (Err e)) → (m : Objects) → o ≡ Some m → Prepares (Err e) (first_of_jobs work m)
+faulty_now {work = work} stored seen before after done e same sound law m told =
     let le = begun_le stored in
-    (prepares_at stored seen before after from done (Err e) same law m told).answer (work.fault m) (λ job l u. stored.faults m told job (omega arith) u) (sound m told)
+    (prepares_at stored seen before after done (Err e) same law m told).answer (work.fault m) (λ job l u. stored.faults m told job (omega arith) u) (sound m told)
 
 -- a shard is open behind the chunk of this job
 pub open_now : {E : Type 0} {dataset : Name} {s : Scale} {sharding : Sharding} {work : Work} {o now : Option Objects} {lens : ℕ → ℕ} {begun k at objects bytes : ℕ} {rows : List Row} {draft : Option Draft}
     → (stored : AreStored dataset s sharding work o now lens begun k at objects bytes rows draft)
-    → (chunk : Bytes) (own : Job) (fresh : Bool) (len : ℕ) (more : List Row) (new : Option Draft)
-    → own ≡ jobs_in work k → fresh ≡ (begun == k) → ((m : Objects) → o ≡ Some m → chunk ≡ stored_by work m k)
-    → Appends {E = E} chunk (begun_if fresh now (shard_name dataset s own.place.shard) sharding.minishard_bits draft) new (Ok len)
+    → (seen : Work) (ready : ℕ → Option Bytes) (own : Job) (fresh : Bool) (len : ℕ) (more : List Row) (here : Option Objects) (was new : Option Draft)
+    → seen ≡ work → here ≡ now → was ≡ draft → own ≡ jobs_in seen k → fresh ≡ (begun == k) → ((m : Objects) → o ≡ Some m → ready k ≡ Some (work.raw m k))
+    → Appends {E = E} (chunk_ready seen ready k) (begun_if fresh here (shard_name dataset s own.place.shard) sharding.minishard_bits was) new (Ok len)
     → more ≡ rows ++ record { id = own.id; start = at; size = len } ∷ []
     → IsOpen o (shard_name dataset s (jobs_in work k).place.shard) sharding.minishard_bits (chunk_of (jobs_in work) (raw_in o (stored_by work) (with_len lens k len))) begun stored.between.b (k + 1) (at + len) more new
-open_now {dataset = dataset} {s = s} {sharding = sharding} {work = work} {o = o} {now = now} {lens = lens} {begun = begun} {k = k} {at = at} {rows = rows} {draft = draft} stored chunk own fresh len more new own_is fresh_is told appends more_is =
-    let started : Option Draft = begun_if fresh now (shard_name dataset s own.place.shard) sharding.minishard_bits draft in
-    append_at o now dataset s sharding work lens begun k at len rows more draft started new chunk own fresh stored.put stored.between own_is fresh_is refl told appends.len appends.more more_is
+open_now {dataset = dataset} {s = s} {sharding = sharding} {work = work} {o = o} {now = now} {lens = lens} {begun = begun} {k = k} {at = at} {rows = rows} {draft = draft} stored seen ready own fresh len more here was new same here_is was_is own_is fresh_is told appends more_is =
+    let name : Name = shard_name dataset s own.place.shard in
+    let started : Option Draft = begun_if fresh here name sharding.minishard_bits was in
+    append_at o now dataset s sharding work lens begun k at len rows more draft started new ready own fresh stored.put stored.between
+    (own_is ∙ ap (λ (x : Work). jobs_in x k) same) fresh_is
+    (ap (λ x. begun_if fresh x name sharding.minishard_bits was) here_is ∙ ap (λ d. begun_if fresh now name sharding.minishard_bits d) was_is)
+    told (appends.len ∙ ap (λ (x : Work). length (chunk_ready x ready k)) same)
+    (appends.more ∙ ap (λ (x : Work). option_map (λ d. appended d (chunk_ready x ready k)) started) same) more_is
 
 -- a writer gives up
 stops : {dataset : Name} {s : Scale} {sharding : Sharding} {work : Work} {o now : Option Objects} {lens : ℕ → ℕ} {begun k at objects bytes : ℕ} {rows : List Row} {draft : Option Draft}
@@ -164,15 +162,15 @@ refused_here {dataset = dataset} {work = work} {o = o} stored sure new first las
 -- where jobs can't be prepared
 pub unprepared_here : {dataset : Name} {s : Scale} {sharding : Sharding} {work : Work} {o now : Option Objects} {lens : ℕ → ℕ} {begun k at objects bytes : ℕ} {rows : List Row} {draft : Option Draft}
     → AreStored dataset s sharding work o now lens begun k at objects bytes rows draft
-    → (sure : Type 0) (new : Option Objects) (first last : Option Draft) (done : ℕ) (e : PrepareFault) (r : Result Written WriteFault) → IsErrAnd r (λ fault. fault ≡ of_jobs e)
+    → (sure : Type 0) (new : Option Objects) (first last : Option Draft) (seen : Work) (before after : ℕ → Option Bytes) (done : ℕ) (e : PrepareFault) (r : Result Written WriteFault) → IsErrAnd r (λ fault. fault ≡ of_jobs e)
     → work.scale ≡ s → s.sharding ≡ Some sharding → AreJobs work.scale work.cells → k ≤ done → k < length work.cells → ((m : Objects) → o ≡ Some m → first_fault (work.fault m) done ≡ None) → new ≡ now
-    → ((m : Objects) → o ≡ Some m → Prepares (Err e) (first_of_jobs work m)) → (sure → ⊥) → last ≡ draft → (begun ≡ k → Drops first draft)
+    → seen ≡ work → IfSome now (λ n. PreparesOn seen n before after k done (Err e)) → (sure → ⊥) → last ≡ draft → (begun ≡ k → Drops first draft)
     → WritesJobs dataset work sure o new first last r
-unprepared_here {dataset = dataset} {s = s} {sharding = sharding} {work = work} {o = o} {now = now} {lens = lens} {begun = begun} {k = k} {at = at} {rows = rows} {draft = draft} stored sure new first last done e r refused same sharded jobs ahead within sound is faulty never kept drops =
+unprepared_here {dataset = dataset} {s = s} {sharding = sharding} {work = work} {o = o} {now = now} {lens = lens} {begun = begun} {k = k} {at = at} {rows = rows} {draft = draft} stored sure new first last seen before after done e r refused same sharded jobs ahead within sound is works law never kept drops =
     as_error (λ x. WritesJobs dataset work sure o new first last x) r refused
     (λ fault q.
     stops stored sure new first last done fault same sharded jobs ahead sound is
-    (in_told o (λ m. WritesAll {A = Written} (Err fault) (first_of_jobs work m)) (λ m told. writes_none Written e fault (first_of_jobs work m) q (faulty m told)))
+    (in_told o (λ m. WritesAll {A = Written} (Err fault) (first_of_jobs work m)) (λ m told. writes_none Written e fault (first_of_jobs work m) q (faulty_now stored seen before after done e works sound law m told)))
     (λ z. absurd (never z)) (λ z. absurd (never z))
     (begun_between o now new dataset s sharding (jobs_in work) (stored_by work) lens (length work.cells) begun k at rows first draft last (ordered_of work s sharding same sharded jobs) within stored.between stored.put is kept drops))
 

@@ -1,5 +1,5 @@
 //! Rounds of a scale's jobs: their chunks are encoded by workers, and stored afterwards in the jobs' order.
-ghost use Rattle.std.specs.Prelude.{◌≡◌, ◌≢◌, ◌+◌, ◌-◌, ◌/◌, ◌≤◌, ◌<◌, ◌^◌, ℕ, None, IfOk, IfSome, length, min};
+ghost use Rattle.std.specs.Prelude.{◌≡◌, ◌≢◌, ◌-◌, ◌/◌, ◌≤◌, ◌<◌, ◌^◌, ℕ, IfOk, length, min};
 ghost use Rattle.encode_round.specs.Serving.{ArePrepared, ServesBench, done_in};
 ghost use Rattle.shard_writer.specs.Serving.{HoldsJobs, ServesRounds, chunk_at, next_size, prepared_bytes, prepared_size, round_size};
 ghost use Rattle.vol_spec.specs.Limits.{first_bytes};
@@ -23,14 +23,12 @@ pub(crate) struct Crew<'a, R, G> {
     pub gate: &'a G,
 }
 
-/// A bench, the first job of the last round, the bytes of the values and the chunks of a round, how many jobs a round has at
-/// least where there are as many, and how many bytes the longest chunk of the last round has: before the first round as
-/// many as a chunk may have.
+/// A bench, the first job of the last round, how many jobs a round has at least where there are as many, and how many
+/// bytes the longest chunk of the last round has: before the first round as many as a chunk may have.
 #[derive(Drop)]
 pub(crate) struct Rounds {
     pub bench: Bench,
     pub first: u64,
-    pub room: u64,
     pub least: u64,
     pub longest: u32,
 }
@@ -59,8 +57,7 @@ pub(crate) fn count_workers(scale: &Scale, workers: u32) -> u32
     }
 }
 
-// The bytes of the values and the chunks of the jobs that are encoded and not stored, where two jobs for each worker do not
-// have more.
+// The bytes of the values and the chunks of a round, where two jobs for each worker do not have more.
 const ROOM: u64 = 1 << 27;
 
 // The bytes of the frames of jobs that are prepared at once, of raw chunks and of others, where a round does not have more.
@@ -87,50 +84,6 @@ fn count_frames(scale: &Scale, workers: u32) -> u64
     if workers > 1 { window(scale) } else { 1 }
 }
 
-// Memory for rounds of so many jobs, which so many workers encode, with so much room.
-fn reserve_bench<R, G>(
-    crew: &Crew<R, G>,
-    scale: &Scale,
-    seats: u64,
-    size: u64,
-    room: u64,
-    least: u64,
-) -> Result<Rounds, OutOfMemory>
-    requires seats { 0 < seats }
-    requires few { seats ≤ 16 }
-    requires some { 0 < size }
-    requires window { size ≤ window_of scale.now }
-    ensures serves { IfOk result (ServesRounds scale.now) }
-    ensures first { IfOk result (λ rounds. rounds.first ≡ 0) }
-    ensures size { IfOk result (λ rounds. round_size rounds ≡ size) }
-    ensures room { IfOk result (λ rounds. rounds.room ≡ room) }
-{
-    let bench = Bench::reserve(crew.alloc, scale, seats as u32, size)?;
-    Ok(Rounds {
-        bench,
-        first: 0,
-        room,
-        least,
-        longest: scale.chunk_limit() as u32,
-    })
-}
-
-// For how many of so many jobs there are frames.
-fn count_held<R, G>(crew: &Crew<R, G>, scale: &Scale, count: u64) -> u64
-    ensures some { 0 < result }
-    ensures most { result ≤ window_of scale.now }
-{
-    count_frames(scale, crew.workers).min(count.max(1))
-}
-
-// How many workers there are, no more than so many jobs, and no more than 16.
-fn count_seats<R, G>(crew: &Crew<R, G>, size: u64) -> u64
-    ensures some { 0 < result }
-    ensures most { result ≤ 16 }
-{
-    (crew.workers.min(16) as u64).min(size).max(1)
-}
-
 /// Takes all memory that the rounds of so many jobs take: for as many as a round has, and for a worker each,
 /// but no more than a round has jobs, and no more than 16.
 pub(crate) fn reserve_rounds<R, G>(
@@ -141,43 +94,20 @@ pub(crate) fn reserve_rounds<R, G>(
     ensures serves { IfOk result (ServesRounds scale.now) }
     ensures first { IfOk result (λ rounds. rounds.first ≡ 0) }
 {
-    let size = count_held(crew, scale, count);
-    let seats = count_seats(crew, size);
-    reserve_bench(crew, scale, seats, size, ROOM, 2 * seats)
+    let workers = crew.workers.min(16);
+    let size = count_frames(scale, workers).min(count.max(1));
+    let seats = (workers as u64).min(size).max(1);
+    let bench = Bench::reserve(crew.alloc, scale, seats as u32, size)?;
+    Ok(Rounds {
+        bench,
+        first: 0,
+        least: 2 * seats,
+        longest: scale.chunk_limit() as u32,
+    })
 }
 
-/// The same for rounds that are stored while the next one is encoded, where chunks are encoded and there are eight jobs for
-/// each worker: then two benches share the frames and the room, but for three frames a worker, in whose place the workers
-/// of the other one have what encoding takes. Filling raw chunks takes too little time for that.
-pub(crate) fn reserve_pair<R, G>(
-    crew: &Crew<R, G>,
-    scale: &Scale,
-    count: u64,
-) -> Result<(Rounds, Option<Rounds>), OutOfMemory>
-    ensures serves { IfOk result (λ pair. ServesRounds scale.now pair.0) }
-    ensures first { IfOk result (λ pair. pair.0.first ≡ 0) }
-    ensures spare { IfOk result (λ pair. IfSome pair.1 (ServesRounds scale.now)) }
-    ensures none { IfOk result (λ pair. IfSome pair.1 (λ spare. spare.first ≡ 0)) }
-    ensures frames { IfOk result (λ pair. IfSome pair.1 (λ spare.
-        round_size pair.0 + round_size spare ≤ window_of scale.now)) }
-    ensures room { IfOk result (λ pair. IfSome pair.1 (λ spare. pair.0.room + spare.room ≡ 2 ^ 27)) }
-    ensures raw { scale.now.encoding ≡ Encoding.Raw → IfOk result (λ pair. pair.1 ≡ None) }
-{
-    let size = count_held(crew, scale, count);
-    let seats = count_seats(crew, size);
-    match scale.encoding {
-        Encoding::Seg { .. } if size >= 8 * seats => {
-            let half = (size - 3 * seats) / 2;
-            let rounds = reserve_bench(crew, scale, seats, half, ROOM / 2, seats)?;
-            let spare = reserve_bench(crew, scale, seats, half, ROOM / 2, seats)?;
-            Ok((rounds, Some(spare)))
-        }
-        _ => Ok((reserve_rounds(crew, scale, count)?, None)),
-    }
-}
-
-/// How many jobs the next round has at most: as many as there is room for, if their chunks are as long as the longest of
-/// the last round, or as many as a round has at least if that is more, but no more than there are frames.
+/// How many jobs the next round has at most: as many as have 128 MiB of values and chunks, if their chunks are as long as
+/// the longest of the last round, or two for each worker if that is more, but no more than there are frames.
 pub(crate) fn count_next(scale: &Scale, rounds: &Rounds) -> u64
     requires { ServesRounds scale.now rounds.now }
     ensures value { result ≡ next_size scale.now rounds.now }
@@ -185,24 +115,8 @@ pub(crate) fn count_next(scale: &Scale, rounds: &Rounds) -> u64
     ensures most { result ≤ round_size rounds.now }
 {
     let each = scale.raw_limit() + u64::from(rounds.longest);
-    let many = (rounds.room / each).max(rounds.least).max(1);
+    let many = (ROOM / each).max(rounds.least).max(1);
     rounds.bench.size().min(many)
-}
-
-/// How many of so many jobs the next round has: all of them, or as many as it has at most, or half of them if that is less,
-/// so that the last two rounds of them are alike.
-pub(crate) fn count_round(scale: &Scale, rounds: &Rounds, left: u64) -> u64
-    requires { ServesRounds scale.now rounds.now }
-    ensures some { 0 < left → 0 < result }
-    ensures within { result ≤ left }
-    ensures most { result ≤ round_size rounds.now }
-{
-    let most = count_next(scale, rounds);
-    if left <= most {
-        left
-    } else {
-        most.min(left - left / 2)
-    }
 }
 
 // The bytes of the frames of jobs that are prepared at once: of raw chunks as few as lie close to the processor until they

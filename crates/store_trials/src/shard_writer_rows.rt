@@ -616,12 +616,7 @@ fn print_labelled_shard(alloc: Global) -> Result<Vec<u8>, AllocError> {
 
 const OWN_LABELS: &[Failing] = &[(900, Ok([300, 300, 4_800]), 3)];
 
-const SHARD_OF_LABELS: &[Failing] = &[
-    (307, Ok([1, 300, 12_016]), 1),
-    (306, FAULT, 0),
-    (200, FAULT, 0),
-    (20, FAULT, 0),
-];
+const SHARD_OF_LABELS: &[Failing] = &[(900, Ok([1, 300, 12_016]), 1)];
 
 // Writes the labels into a scale of more cells than are prepared at once, and into one shard.
 fn check_labels<R: Threads + Wait + Abort + Sync>(
