@@ -6,7 +6,7 @@ ghost use Rattle.vol_spec.specs.SegSizes.{encoded_limit, padded_in};
 ghost use Rattle.segment_blocks.specs.Reserved.{sizes_for};
 
 use byteorder::{ByteOrder, LittleEndian};
-use segment_blocks::{Scratch, SegShape, decode, encode};
+use segment_blocks::{Scratch, SegShape, decode, encode, is_own_spelling};
 use std::alloc::{AllocError, Global};
 use vol_base::OutOfMemory;
 
@@ -205,6 +205,32 @@ fn sum_decoded(alloc: Global, values: Values, count: u64) -> Result<u64, OutOfMe
     Ok(sum_bytes(&read).wrapping_add(sound))
 }
 
+// Looks so often whether a chunk is spelled as this writer spells it; how often it is.
+fn look_often(shape: &SegShape, bytes: &[u8], scratch: &mut Scratch, count: u64) -> u64
+    requires limit { padded_in (sizes_of shape.now) ≤ 2 ^ 22 }
+    requires scratch { sizes_for scratch.old ≡ sizes_of shape.now }
+{
+    let mut own = 0u64;
+    for _ in 0..count {
+        if is_own_spelling(bytes, shape, scratch) {
+            own = own.wrapping_add(1);
+        }
+    }
+    own
+}
+
+// How often a chunk that was written is found to be this writer's.
+fn count_own(alloc: Global, values: Values, count: u64) -> Result<u64, OutOfMemory> {
+    let shape = cube();
+    let mut raw = zeros(alloc, 2097152)?;
+    let mut out = zeros(alloc, 4194308)?;
+    fill(&mut raw, values);
+    let mut scratch = Scratch::reserve(alloc, &shape)?;
+    let len = encode_often(&shape, &raw, &mut scratch, &mut out, 1);
+    let mut again = Scratch::reserve(alloc, &shape)?;
+    Ok(look_often(&shape, &out[..len], &mut again, count))
+}
+
 // The sum of the bytes of a chunk of so many blocks of one voxel.
 fn sum_line(alloc: Global, len: u64, values: Values, count: u64) -> Result<u64, OutOfMemory>
     requires some { 0 < len }
@@ -226,6 +252,10 @@ pub(crate) fn sum_chunks(alloc: Global, kind: &str, count: u64) -> Result<u64, O
         "encode-cells" => sum_encoded(alloc, &cube(), 2097152, 4194308, Values::Cells, count),
         "encode-labels" => sum_encoded(alloc, &cube(), 2097152, 4194308, Values::Labels, count),
         "encode-noise" => sum_encoded(alloc, &cube(), 2097152, 4194308, Values::Noise, count),
+        "own-boxes" => count_own(alloc, Values::Boxes, count),
+        "own-cells" => count_own(alloc, Values::Cells, count),
+        "own-labels" => count_own(alloc, Values::Labels, count),
+        "own-noise" => count_own(alloc, Values::Noise, count),
         "short-labels" => sum_line(alloc, 1 << 16, Values::Labels, count),
         "short-again" => sum_line(alloc, 1 << 16, Values::Below(1 << 16), count),
         "short" => sum_line(alloc, 1 << 16, Values::Below(1 << 24), count),

@@ -5,7 +5,7 @@ ghost use Rattle.vol_spec.specs.SegShapes.{sizes_of};
 ghost use Rattle.vol_spec.specs.SegSizes.{padded_in};
 
 use byteorder::{ByteOrder, LittleEndian};
-use segment_blocks::{Scratch, SegShape, decode, encode};
+use segment_blocks::{Scratch, SegShape, decode, encode, is_own_spelling};
 use std::alloc::{AllocError, Global};
 use std::process::Abort;
 use std::test::Fail;
@@ -371,6 +371,49 @@ fn test_all_spelled(rt: &impl Abort, alloc: Global, out: &mut [u8]) -> Result<()
 fn encodes_known_words(rt: HostRuntime) -> Result<(), Fail> {
     let mut out = most_zeros(rt.alloc()).ok().ok_or("memory")?;
     test_all_spelled(&rt, rt.alloc(), &mut out)
+}
+
+// Whether a chunk is found to be spelled as this writer spells it.
+fn told_own(alloc: Global, shape: &SegShape, bytes: &[u8]) -> Result<bool, OutOfMemory>
+    requires { padded_in (sizes_of shape.now) ≤ 2 ^ 20 }
+{
+    let mut scratch = Scratch::reserve(alloc, shape)?;
+    Ok(is_own_spelling(bytes, shape, &mut scratch))
+}
+
+fn check_told(
+    rt: &impl Abort,
+    alloc: Global,
+    known: &Known,
+    words: &[u32],
+    wanted: bool,
+) -> Result<(), Fail> {
+    let shape = shape(known.size, known.block, known.channels, known.wide).ok_or("shape")?;
+    let bytes = words_to_bytes(alloc, words)?;
+    let told = told_own(alloc, &shape, &bytes).ok().ok_or("memory")?;
+    assert_eq!(rt; told, wanted);
+    Ok(())
+}
+
+// A chunk of this writer is told, unless its blocks have one voxel; with a word behind it, it isn't.
+fn check_own(rt: &impl Abort, alloc: Global, known: &Known) -> Result<(), Fail> {
+    let single = known.block == [1, 1, 1];
+    check_told(rt, alloc, known, known.words, !single)?;
+    let mut words = Vec::new(alloc);
+    words.extend_from_slice(known.words)?;
+    words.push(0)?;
+    check_told(rt, alloc, known, &words, false)
+}
+
+#[test]
+fn tells_own_spelling(rt: HostRuntime) -> Result<(), Fail> {
+    for known in &SPELLED {
+        check_own(&rt, rt.alloc(), known)?;
+    }
+    for known in &OTHERS {
+        check_told(&rt, rt.alloc(), known, known.words, false)?;
+    }
+    Ok(())
 }
 
 // The values from 0 to 287.

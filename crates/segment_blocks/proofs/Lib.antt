@@ -19,6 +19,10 @@ pub mod Members
 pub mod Numbered
 pub mod Offsets
 pub mod Ones
+pub mod OwnBlocks
+pub mod OwnMarks
+pub mod OwnPacks
+pub mod OwnWalks
 pub mod Packing
 pub mod Packs
 pub mod Places
@@ -26,6 +30,7 @@ pub mod Planes
 pub mod Reserves
 pub mod Rooms
 pub mod Rowwise
+pub mod SaidSteps
 pub mod Settling
 pub mod Shapes
 pub mod Singles

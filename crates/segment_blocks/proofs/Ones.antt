@@ -81,7 +81,7 @@ block_several s raw c k value from b h lk is ef ev never = ⊎_elim
     (cases_lt 1 (length (table s raw c k)))
 
 -- each voxel of a block without padding is in the chunk
-full_inside : (s : SegSizes) (c k n : ℕ) (b : Block) → IsShape s → IsBlock s c k b → block s 0 ≤ b.count_x → block s 1 ≤ b.count_y → block s 2 ≤ b.count_z
+pub full_inside : (s : SegSizes) (c k n : ℕ) (b : Block) → IsShape s → IsBlock s c k b → block s 0 ≤ b.count_x → block s 1 ≤ b.count_y → block s 2 ≤ b.count_z
     → n < block_voxels s → IsTrue (in_chunk s k n)
 unfolding in_chunk
 full_inside s c k n b h is fx fy fz ln =

@@ -191,13 +191,13 @@ set_here xs k x h = get_or-set_same xs k x 0 h
 pub set_below : (xs : List ℕ) (k x i : ℕ) → i < k → slice_index (set xs k x) i ≡ slice_index xs i
 set_below xs k x i h = get_or-set_other xs k i x 0 (λ e. omega arith)
 
-extends_set : (at lens : List ℕ) (k x n : ℕ) → Extends at (set at k x) lens (set lens k n) k
+pub extends_set : (at lens : List ℕ) (k x n : ℕ) → Extends at (set at k x) lens (set lens k n) k
 extends_set at lens k x n = record { at_kept = λ i l. set_below at k x i l; lens_kept = λ i l. set_below lens k n i l }
 
 pub extends_twice : (at lens : List ℕ) (k x y n : ℕ) → Extends at (set (set at k x) k y) lens (set lens k n) k
 extends_twice at lens k x y n = record { at_kept = λ i l. set_below (set at k x) k y i l ∙ set_below at k x i l; lens_kept = λ i l. set_below lens k n i l }
 
-candidate_at : (s : SegSizes) (raw : List ℕ) (c : ℕ) (out : List ℕ) (k a b n m : ℕ) → a ≡ b → n ≡ m → Candidate s raw c out k b m → Candidate s raw c out k a n
+pub candidate_at : (s : SegSizes) (raw : List ℕ) (c : ℕ) (out : List ℕ) (k a b n m : ℕ) → a ≡ b → n ≡ m → Candidate s raw c out k b m → Candidate s raw c out k a n
 candidate_at s raw c out k a b n m ea en h = subst (λ q. Candidate s raw c out k q n) (sym ea) (subst (Candidate s raw c out k b) (sym en) h)
 
 -- the table of an earlier block

@@ -41,11 +41,11 @@ unfolding table
 table_rises s raw c k = rising (table s raw c k) (distinct_rises (map (raw_value s raw c k) (voxels_in s k)))
 
 -- values of a function over a list
-in_map : (f : ℕ → ℕ) (v : ℕ) (xs : List ℕ) → IsIn v (map f xs) → (x : ℕ) × IsIn x xs × (v ≡ f x)
+pub in_map : (f : ℕ → ℕ) (v : ℕ) (xs : List ℕ) → IsIn v (map f xs) → (x : ℕ) × IsIn x xs × (v ≡ f x)
 in_map f v [] h = absurd h
 in_map f v (x ∷ xs) h = ⊎_elim (λ (e : v ≡ f x). (x, inl refl, e)) (λ (j : IsIn v (map f xs)). let t = in_map f v xs j in (t.0, inr t.1, t.2)) h
 
-map_in : (f : ℕ → ℕ) (x : ℕ) (xs : List ℕ) → IsIn x xs → IsIn (f x) (map f xs)
+pub map_in : (f : ℕ → ℕ) (x : ℕ) (xs : List ℕ) → IsIn x xs → IsIn (f x) (map f xs)
 map_in f x [] h = absurd h
 map_in f x (y ∷ ys) h = ⊎_elim (λ (e : x ≡ y). inl (ap f e)) (λ (j : IsIn x ys). inr (map_in f x ys j)) h
 
@@ -53,7 +53,7 @@ in_cond : (p : ℕ → Bool) (x y : ℕ) (b : Bool) (rest : List ℕ) → p y �
 in_cond p x y true rest e h = ⊎_elim (λ (s : x ≡ y). inl (s, e)) (λ (j : IsIn x rest). inr j) h
 in_cond p x y false rest e h = inr h
 
-in_filter : (p : ℕ → Bool) (x : ℕ) (xs : List ℕ) → IsIn x (filter p xs) → IsIn x xs × IsTrue (p x)
+pub in_filter : (p : ℕ → Bool) (x : ℕ) (xs : List ℕ) → IsIn x (filter p xs) → IsIn x xs × IsTrue (p x)
 in_filter p x [] h = absurd h
 in_filter p x (y ∷ ys) h = ⊎_elim
     (λ (t : (x ≡ y) × IsTrue (p y)). (inl t.0, subst (λ q. IsTrue (p q)) (sym t.0) t.1))
@@ -64,11 +64,11 @@ cond_in : (x y : ℕ) (b : Bool) (rest : List ℕ) → ((x ≡ y) × IsTrue b) �
 cond_in x y true rest h = ⊎_elim (λ (t : (x ≡ y) × IsTrue true). inl t.0) (λ (j : IsIn x rest). inr j) h
 cond_in x y false rest h = ⊎_elim (λ (t : (x ≡ y) × IsTrue false). absurd (cc)) (λ (j : IsIn x rest). j) h
 
-filter_in : (p : ℕ → Bool) (x : ℕ) (xs : List ℕ) → IsIn x xs → IsTrue (p x) → IsIn x (filter p xs)
+pub filter_in : (p : ℕ → Bool) (x : ℕ) (xs : List ℕ) → IsIn x xs → IsTrue (p x) → IsIn x (filter p xs)
 filter_in p x [] h t = absurd h
 filter_in p x (y ∷ ys) h t = cond_in x y (p y) (filter p ys) (⊎_elim (λ (e : x ≡ y). inl (e, subst (λ q. IsTrue (p q)) e t)) (λ (j : IsIn x ys). inr (filter_in p x ys j t)) h)
 
-in_range : (a n x : ℕ) → IsIn x (range_with_len a n) → (a ≤ x) × (x < a + n)
+pub in_range : (a n x : ℕ) → IsIn x (range_with_len a n) → (a ≤ x) × (x < a + n)
 in_range a zero x h = absurd h
 in_range a (suc n) x h = ⊎_elim (λ (e : x ≡ a). (omega arith, omega arith)) (λ (j : IsIn x (range_with_len (a + 1) n)). let t = in_range (a + 1) n x j in (omega (arith, t.0), omega (arith, t.1))) h
 
@@ -77,7 +77,7 @@ range_in a zero i h = absurd (omega arith)
 range_in a (suc n) zero h = inl (omega arith)
 range_in a (suc n) (suc i) h = let e : a + 1 + i ≡ a + suc i = omega arith in inr (subst (λ q. IsIn q (range_with_len (a + 1) n)) e (range_in (a + 1) n i (omega arith)))
 
-below_in : (n i : ℕ) → i < n → IsIn i (range_with_len 0 n)
+pub below_in : (n i : ℕ) → i < n → IsIn i (range_with_len 0 n)
 below_in n i h = let e : 0 + i ≡ i = omega arith in subst (λ q. IsIn q (range_with_len 0 n)) e (range_in 0 n i h)
 
 pub voxel_in : (s : SegSizes) (raw : List ℕ) (c k p n : ℕ) → in_chunk s k n ≡ true → voxel_of s raw c k p n ≡ raw_value s raw c k n

@@ -25,14 +25,14 @@ pub record Same (a b : Where) : Type 0 where
   pub c : a.c ≡ b.c
   pub k : a.k ≡ b.k
 
-inside : (s : SegSizes) (k n : ℕ) → InBlock s k n → (x_of s k n < size s 0) × (y_of s k n < size s 1) × (z_of s k n < size s 2)
+pub inside : (s : SegSizes) (k n : ℕ) → InBlock s k n → (x_of s k n < size s 0) × (y_of s k n < size s 1) × (z_of s k n < size s 2)
 unfolding in_chunk
 inside s k n i = tests (x_of s k n) (size s 0) (y_of s k n) (size s 1) (z_of s k n) (size s 2) i.inside
 
-block_again : (s : SegSizes) (k : ℕ) → k % blocks_on s 0 + blocks_on s 0 * (k / blocks_on s 0 % blocks_on s 1 + blocks_on s 1 * (k / blocks_on s 0 / blocks_on s 1)) ≡ k
+pub block_again : (s : SegSizes) (k : ℕ) → k % blocks_on s 0 + blocks_on s 0 * (k / blocks_on s 0 % blocks_on s 1 + blocks_on s 1 * (k / blocks_on s 0 / blocks_on s 1)) ≡ k
 block_again s k = ap (λ q. k % blocks_on s 0 + blocks_on s 0 * q) (mod-add-div (k / blocks_on s 0) (blocks_on s 1)) ∙ mod-add-div k (blocks_on s 0)
 
-deep : (s : SegSizes) (n : ℕ) → IsShape s → n < block_voxels s → n / block s 0 / block s 1 < block s 2
+pub deep : (s : SegSizes) (n : ℕ) → IsShape s → n < block_voxels s → n / block s 0 / block s 1 < block s 2
 deep s n h ln =
     let a : n / block s 0 < block s 2 * block s 1 = div_below n (block s 0) (block s 2 * block s 1) h.block_0.0 (omega arith) in
     div_below (n / block s 0) (block s 1) (block s 2) h.block_1.0 a

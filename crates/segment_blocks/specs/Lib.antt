@@ -1,11 +1,14 @@
 pub mod Filled
 pub mod Hashes
 pub mod Located
+pub mod Own
 pub mod Row
 pub mod Reserved
 pub mod Rooms
+pub mod Said
 pub mod Shape
 pub mod Singles
 pub mod Stored
 pub mod Voxels
+pub mod Walked
 pub mod Whole

@@ -9,6 +9,7 @@ mod header;
 mod known;
 mod locate;
 mod one;
+mod own;
 mod pack;
 mod reading;
 mod room;
@@ -20,6 +21,7 @@ mod voxels;
 mod word;
 mod writing;
 
+pub use own::{is_own_spelling, own_again};
 pub use reading::decode;
 pub use scratch::Scratch;
 pub use vol_spec::SegShape;

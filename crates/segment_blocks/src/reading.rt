@@ -76,8 +76,8 @@ fn decode_channel(bytes: &[u8], shape: &SegShape, c: u32, raw: &mut [u8]) -> Res
     Ok(())
 }
 
-// Whether the words aren't whole, or the channels have no place.
-fn test_length(len: usize, channels: u32) -> bool
+/// Whether the words aren't whole, or the channels have no place.
+pub(crate) fn test_length(len: usize, channels: u32) -> bool
     ensures { result ≡ (not (len % 4 == 0) || nat_lt len (4 * channels)) }
 {
     len % 4 != 0 || len < 4 * channels as usize

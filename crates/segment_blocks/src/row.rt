@@ -9,8 +9,8 @@ ghost use Rattle.segment_blocks.specs.Row.{index_in, Has, Unpacked, IsFirstOut};
 
 use crate::word::{copy_value, read_word};
 
-// The index of so many bits that begins at a bit.
-fn read_index(values: &[u8], bits: u32, n: usize) -> u32
+/// The index of so many bits that begins at a bit.
+pub(crate) fn read_index(values: &[u8], bits: u32, n: usize) -> u32
     requires bits { IsTrue (is_allowed bits) }
     requires some { 0 < bits }
     requires place { n < 2 ^ 32 }

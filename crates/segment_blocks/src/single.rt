@@ -68,8 +68,8 @@ pub(crate) fn reserve_singles(alloc: Global, shape: &SegShape) -> Result<Singles
     })
 }
 
-// The values from a place on.
-fn fill_values(raw: &[u8], from: usize, wide: bool, values: &mut [u64])
+/// The values from a place on.
+pub(crate) fn fill_values(raw: &[u8], from: usize, wide: bool, values: &mut [u64])
     requires { width_of wide * (from + length values.old) ≤ length raw.now }
     ensures { (k : ℕ) → k < length values.new → slice_index values.new k
         ≡ digit raw.now (width_of wide) (from + k) }

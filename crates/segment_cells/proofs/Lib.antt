@@ -1,3 +1,4 @@
 pub mod CellSteps
+pub mod OwnCells
 pub mod SegSteps
 pub mod ShapeSteps

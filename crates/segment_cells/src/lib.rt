@@ -5,5 +5,5 @@
 mod chunks;
 mod shapes;
 
-pub use chunks::{decode_cell, encode_cell, reserve_scratch};
+pub use chunks::{decode_cell, encode_cell, reserve_scratch, test_own};
 pub use shapes::{chunk_limit, shape_of, values_len};

@@ -1,7 +1,10 @@
 //! Where a writer gets the bytes of its chunks.
-ghost use Rattle.std.specs.Prelude.{◌≡◌, ◌-◌, ◌<◌, ◌≤◌, List, ℕ, Option, length, IfSome, IsOk, IsSome, IsSomeAnd, OnOk, Some};
+ghost use Rattle.std.specs.Prelude.{[], take, unwrap_or, ◌≡◌, ◌-◌, ◌<◌, ◌≤◌, List, ℕ, Option, length, IfSome, IsOk, IsSome, IsSomeAnd, OnOk, Some};
 ghost use Rattle.vol_base.specs.Causes.{HasCauseOf};
 ghost use Rattle.vol_base.specs.Outside.{Objects};
+ghost use Rattle.vol_spec.specs.Encodings.{encoded};
+ghost use Rattle.vol_spec.specs.Limits.{limit_of};
+ghost use Rattle.vol_spec.specs.StoredCells.{cell_of};
 ghost use Rattle.vol_spec.specs.StoredLists.{AreJobs};
 ghost use Rattle.vol_spec.specs.declared.scale.Scale.{Scale};
 ghost use Rattle.write_plan.specs.Jobs.{AreReady, FitsJob, KeepsOthers, Prepares, Work, jobs_fault, jobs_of, window_of};
@@ -75,6 +78,21 @@ pub trait Chunks {
     fn fill(&self, job: u64, raw: &mut [u8])
         requires { IsSomeAnd (ready self.now job) (λ bytes. length bytes ≡ length raw.old) }
         ensures { ready self.now job ≡ Some raw.new };
+
+    /// Puts the chunk of a job that is prepared in front of `out`, where it is at hand as it is stored, and tells its
+    /// length; `None` where its raw bytes are still to be encoded.
+    fn chunk(&self, _job: u64, _out: &mut [u8]) -> Option<usize>
+        requires job { _job < length (work self.now).cells }
+        requires ready { IsSome (ready self.now _job) }
+        requires room { limit_of (work self.now).scale.encoding (work self.now).scale.width
+            (work self.now).scale.channels (work self.now).scale.size (work self.now).scale.chunk
+            ≤ length _out.old }
+        ensures within { IfSome result (λ n. n ≤ length _out.new) }
+        ensures chunk { IfSome result (λ n. take n _out.new ≡ encoded (work self.now).scale
+            (cell_of (work self.now).cells _job) (unwrap_or (ready self.now _job) [])) }
+    {
+        None
+    }
 
     /// The jobs are distinct cells of the grid, in the order of their keys.
     ghost ordered: { (c : Self) → AreJobs (work c).scale (work c).cells };
