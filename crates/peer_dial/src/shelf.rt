@@ -62,6 +62,8 @@ impl<'a> Source for Shelf<'a> {
 
     ghost draft = { λ s. None };
 
+    ghost history = { λ s. [] };
+
     ghost asked = { λ s. counted s.asked };
 
     ghost faults = { λ s. 0 };

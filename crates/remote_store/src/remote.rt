@@ -253,6 +253,8 @@ impl<D: Dial> Source for Remote<D> {
 
     ghost draft = { λ r. None };
 
+    ghost history = { λ r. [] };
+
     ghost asked = { λ r. counted r.asked };
 
     ghost faults = { λ r. count_at (shown r.dataset (D.peer r.dial)) (D.faults r.dial) r.faults };

@@ -1,7 +1,7 @@
 -- What a source and a store mean, and a feed (this project's).
 use Rattle.std.specs.Prelude.{◌≡◌, ◌<◌, ◌≤◌, IsSome, IfSome, ℕ, ◌+◌, ◌-◌, ◌^◌, min, Bool, List, [], ◌∷◌, ◌++◌, length, take, drop, Option, Some, None, nat_eq, ◌&&◌, ◌==◌, slice_index}
 use Rattle.std.specs.Option.{is_some, option_map}
-use Rattle.std.specs.List.{list_any, starts_with}
+use Rattle.std.specs.List.{list_any, starts_with, AllByRecursion}
 use Rattle.std.specs.FinMap as map
 use Rattle.std.specs.Ordering.{nat_cmp}
 use Rattle.std.specs.Cmp.Lexicographic.{slice_cmp}
@@ -114,3 +114,15 @@ patched draft at piece = record draft { told = option_map (λ d. (d.0, overwritt
 abbrev pub finished : Option (List ℕ × List ℕ) → Objects → Objects
 finished None objects = objects
 finished (Some d) objects = map.insert objects d.0 d.1
+
+-- what a record of moments gained, in order: each passes this
+pub record Passes {X : Type 0} (P : X → Type 0) (old new : List X) : Type 0 where
+  pub gained : List X
+  pub is : new ≡ old ++ gained
+  pub each : AllByRecursion P gained
+
+-- At each moment the objects were those from before the call, and from some moment on those after it
+pub record Turns (before after : Option Objects) (old new : List Objects) : Type 0 where
+  pub turn : List Objects
+  pub steady : Passes (λ m. before ≡ Some m) old turn
+  pub turned : Passes (λ m. after ≡ Some m) turn new

@@ -169,6 +169,8 @@ impl Source for MemoryStore {
 
     ghost draft = { draft_of };
 
+    ghost history = { λ _. [] };
+
     ghost asked = { λ m. counted m.asked };
 
     ghost faults = { λ m. counted m.faults };

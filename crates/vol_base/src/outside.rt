@@ -7,7 +7,7 @@ ghost use Rattle.std.specs.Prelude.{◌≡◌, ◌≢◌, ◌+◌, ◌<◌, ◌�
 ghost use Rattle.std.specs.Option.{option_map};
 ghost use Rattle.std.specs.FinMap as map;
 ghost use Rattle.vol_base.specs.Causes.{HasCause, HasCauseOf, IsCount};
-ghost use Rattle.vol_base.specs.Outside.{Objects, Draft, Ended, Notes, HaveBytes, IsCourse, IsTold, Gives, KeepsRest, OnlyReads, Reads, asked_after, any_under, begun, appended, patched, finished};
+ghost use Rattle.vol_base.specs.Outside.{Objects, Draft, Ended, Notes, HaveBytes, IsCourse, IsTold, Gives, KeepsRest, OnlyReads, Reads, Turns, asked_after, any_under, begun, appended, patched, finished};
 
 use crate::Name;
 
@@ -41,6 +41,9 @@ pub trait Source {
     /// The object being written. None for a source that is no store.
     ghost draft: { Self → Option Draft };
 
+    /// The objects that stood so far at each moment that is told, in order. Empty for a source that is no store.
+    ghost history: { Self → List Objects };
+
     /// How many bytes were asked for by reads. It stands still at 2^64 - 1.
     ghost asked: { Self → ℕ };
 
@@ -53,6 +56,7 @@ pub trait Source {
             size ≡ option_map length (map.get m name.now))) }
         ensures bytes { IfSome (objects self.old) HaveBytes }
         ensures kept { OnlyReads (objects self.old) (objects self.new) (draft self.old) (draft self.new) }
+        ensures history { history self.new ≡ history self.old }
         ensures asked { asked self.new ≡ asked self.old }
         ensures cause { HasCause (faults self.old) (faults self.new) result };
 
@@ -65,6 +69,7 @@ pub trait Source {
         ensures rest { IfOk result (KeepsRest out.old out.new) }
         ensures bytes { IfSome (objects self.old) HaveBytes }
         ensures kept { OnlyReads (objects self.old) (objects self.new) (draft self.old) (draft self.new) }
+        ensures history { history self.new ≡ history self.old }
         ensures asked { OnOk result (asked self.new ≡ asked_after (asked self.old) (length out.old)) }
         ensures asked_err { OnErr result ((asked self.old ≤ asked self.new) ×
             (asked self.new ≤ asked self.old + length out.old)) }
@@ -83,6 +88,7 @@ pub trait Store: Source {
         ensures bytes { IfSome (Self.objects self.old) HaveBytes }
         ensures kept { OnlyReads (Self.objects self.old) (Self.objects self.new) (Self.draft self.old)
             (Self.draft self.new) }
+        ensures history { Self.history self.new ≡ Self.history self.old }
         ensures asked { Self.asked self.new ≡ Self.asked self.old }
         ensures cause { HasCause (Self.faults self.old) (Self.faults self.new) result };
 
@@ -91,6 +97,8 @@ pub trait Store: Source {
         ensures begun { OnOk result (Self.draft self.new ≡ Some (begun (Self.objects self.old) name.now)) }
         ensures refused { OnErr result (Self.draft self.new ≡ None) }
         ensures objects { Self.objects self.new ≡ Self.objects self.old }
+        ensures history { Turns (Self.objects self.old) (Self.objects self.new) (Self.history self.old)
+            (Self.history self.new) }
         ensures asked { Self.asked self.new ≡ Self.asked self.old }
         ensures cause { HasCauseOf StoreRefusal.Failed (Self.faults self.old) (Self.faults self.new) result };
 
@@ -101,6 +109,8 @@ pub trait Store: Source {
             ≡ option_map (λ d. appended d piece.now) (Self.draft self.old)) }
         ensures refused { OnErr result (Self.draft self.new ≡ None) }
         ensures objects { Self.objects self.new ≡ Self.objects self.old }
+        ensures history { Turns (Self.objects self.old) (Self.objects self.new) (Self.history self.old)
+            (Self.history self.new) }
         ensures asked { Self.asked self.new ≡ Self.asked self.old }
         ensures cause { HasCauseOf StoreRefusal.Failed (Self.faults self.old) (Self.faults self.new) result };
 
@@ -113,6 +123,8 @@ pub trait Store: Source {
             ≡ option_map (λ d. patched d at piece.now) (Self.draft self.old)) }
         ensures refused { OnErr result (Self.draft self.new ≡ None) }
         ensures objects { Self.objects self.new ≡ Self.objects self.old }
+        ensures history { Turns (Self.objects self.old) (Self.objects self.new) (Self.history self.old)
+            (Self.history self.new) }
         ensures asked { Self.asked self.new ≡ Self.asked self.old }
         ensures cause { HasCauseOf StoreRefusal.Failed (Self.faults self.old) (Self.faults self.new) result };
 
@@ -124,6 +136,8 @@ pub trait Store: Source {
             Self.objects self.new ≡ option_map (finished d.told) (Self.objects self.old))) }
         ensures draft { Self.draft self.new ≡ None }
         ensures refused { OnErr result (Self.objects self.new ≡ Self.objects self.old) }
+        ensures history { Turns (Self.objects self.old) (Self.objects self.new) (Self.history self.old)
+            (Self.history self.new) }
         ensures asked { Self.asked self.new ≡ Self.asked self.old }
         ensures cause { HasCauseOf StoreRefusal.Failed (Self.faults self.old) (Self.faults self.new) result };
 

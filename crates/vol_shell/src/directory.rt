@@ -454,6 +454,8 @@ impl<R: Files<File = File>> Source for DirStore<R> {
 
     ghost draft = { λ s. draft_of s.writing };
 
+    ghost history = { λ s. [] };
+
     ghost asked = { λ s. counted s.asked };
 
     ghost faults = { λ s. counted s.faults };
