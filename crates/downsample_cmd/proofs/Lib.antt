@@ -1,4 +1,3 @@
-mod BegunSteps
 pub mod DownsampleSteps
 pub mod FaultSteps
 pub mod JudgeSteps

@@ -17,8 +17,8 @@ use Rattle.info_doc.specs.declared.fault.InfoFault.TheVariants.{TooLong}
 use Rattle.command_base.specs.Scales.{HasOneSize, IsReady, info_name, judged_info, scale_from, stored_scale}
 use Rattle.command_base.specs.declared.refusal.NoScale.{NoScale}
 use Rattle.reduce_laws.specs.Halves.{IsHalf}
-use Rattle.reshard_cmd.specs.Making.{OfBoth}
-use Rattle.reshard_cmd.specs.Judging.{too_many}
+use Rattle.make_scale.specs.Stored.{OfBoth}
+use Rattle.make_scale.specs.Judging.{too_many}
 use Rattle.downsample_cmd.specs.Answering.{CanDownsample, IsReadyReduction}
 
 -- the width and the channels of a document's volume

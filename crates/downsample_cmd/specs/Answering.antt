@@ -18,11 +18,12 @@ use Rattle.command_base.specs.Scales.{HasOneSize, IsReady, stored_scale}
 use Rattle.command_base.specs.declared.refusal.NoScale.{NoScale}
 use Rattle.command_base.specs.declared.status.Status.{Status}
 use Rattle.reshard_cmd.specs.Copying.{KeepsScales, counts_line}
-use Rattle.reshard_cmd.specs.Making.{CanBegin, Making, MakesScale, MakesStored, OfBoth}
-use Rattle.reshard_cmd.specs.Judging.{too_many}
-use Rattle.reshard_cmd.specs.Refusals.{reshard_line, reshard_status}
-use Rattle.reshard_cmd.specs.declared.refusal.ReshardRefusal.{ReshardRefusal}
-use Rattle.downsample_cmd.specs.Downsampling.{PutsReducedFront, reduced_list, reducing, source_fault}
+use Rattle.make_scale.specs.Stored.{CanBegin, Making, MakesStored, OfBoth}
+use Rattle.make_scale.specs.Judging.{too_many}
+use Rattle.make_scale.specs.Refusals.{refusal_line, refusal_status}
+use Rattle.make_scale.specs.declared.refusal.MakeRefusal.{MakeRefusal}
+use Rattle.downsample_cmd.specs.Downsampling.{PutsReducedFront, reduced_list, source_fault}
+use Rattle.downsample_cmd.specs.Judging.{DiffersNext}
 
 -- a reduction can be begun: the target keeps the writing limit and has one chunk size, it is the scale after the source, no grid has too many cells,
 -- and the target's folder is empty
@@ -65,20 +66,16 @@ ReducedFront method m now dataset from to = IsReadyReduction m dataset from to �
 
 -- what is said of a reduction once it is told
 abbrev pub told_reduction : Method → Objects → Option Objects → Name → Scale → Scale → Making
-told_reduction method m now dataset from to = record (reducing method m now dataset from to) {
+told_reduction method m now dataset from to = record {
+  differs = DiffersNext from to;
+  fits = IsNext from to;
   made = λ written. HasDownsampled method m now dataset from to × CountsReduced written method m dataset from to;
   faulty = λ cell found. (source_fault m dataset from to ≡ Some (cell, found)) × ¬ HasNoFault m dataset from;
   front = ReducedFront method m now dataset from to;
 }
 
--- what reducing a scale into one that keeps the writing limit and has one chunk size answers, and what stands after it
-abbrev pub ReducesScale : Result Written ReshardRefusal → Method → Objects → Option Objects → Name → Scale →
-    Scale → Type 0
-ReducesScale result method m now dataset from to =
-    MakesScale (told_reduction method m now dataset from to) result m now dataset from to
-
 -- what `downsample` answers before it prints, by the two scales that are told
-abbrev pub ReducesStored : Result Written ReshardRefusal → Result Scale NoScale → Result Scale NoScale →
+abbrev pub ReducesStored : Result Written MakeRefusal → Result Scale NoScale → Result Scale NoScale →
     Method → Objects → Option Objects → Name → Type 0
 ReducesStored result source target method m now dataset =
     MakesStored (told_reduction method m now dataset) result source target m now dataset
@@ -105,7 +102,7 @@ CanDownsample m dataset key to_key =
     HasOneSize to × HasNoFault m dataset from)
 
 -- an answer that is right over the objects, where they are told
-abbrev pub IsRightReduction : Result Written ReshardRefusal → Method → Option Objects → Option Objects →
+abbrev pub IsRightReduction : Result Written MakeRefusal → Method → Option Objects → Option Objects →
     Name → Name → Name → Type 0
 IsRightReduction answer method told now dataset key to_key = IfSome told (λ m.
     ReducesStored answer (stored_scale m dataset key) (stored_scale m dataset to_key) method m now dataset)
@@ -114,6 +111,6 @@ IsRightReduction answer method told now dataset key to_key = IfSome told (λ m.
 abbrev pub Downsampled : Status → Method → Option Objects → Option Objects → Name → Name → Name → Outlets →
     Type 0
 Downsampled status method told now dataset key to_key o =
-    (answer : Result Written ReshardRefusal)
+    (answer : Result Written MakeRefusal)
     × IsRightReduction answer method told now dataset key to_key
-    × Ends counts_line reshard_status (reshard_line dataset) answer status o
+    × Ends counts_line refusal_status (refusal_line dataset) answer status o

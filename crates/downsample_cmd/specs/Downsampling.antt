@@ -19,9 +19,8 @@ use Rattle.reduce_laws.specs.declared.method.Method.{Method}
 use Rattle.reducer.specs.Works.{Reduction}
 use Rattle.shard_writer.specs.Writing.{BeginsNext, Drops, PutsFront, joint_len}
 use Rattle.shard_writer.specs.declared.written.Written.{Written}
-use Rattle.reshard_cmd.specs.declared.fault.ReshardFault.{ReshardFault}
-use Rattle.reshard_cmd.specs.Making.{Makes, Making, Puts}
-use Rattle.downsample_cmd.specs.Judging.{DiffersNext}
+use Rattle.make_scale.specs.declared.fault.MakeFault.{MakeFault as ReshardFault}
+use Rattle.make_scale.specs.Making.{Makes, Said}
 
 -- the objects that the reduced scale is stored as
 abbrev pub reduced_list : Method → Objects → Name → Scale → Scale → Listed
@@ -76,22 +75,15 @@ HasReducedJobs m reducer to =
     cells_of reducer.held ≡ in_key_order to (reduced_cells m reducer.held.dataset reducer.held.from to)
 
 -- what is said of a reduction
-abbrev pub reducing : Method → Objects → Option Objects → Name → Scale → Scale → Making
-reducing method m now dataset from to = record {
-  differs = DiffersNext from to;
-  fits = IsNext from to;
+abbrev pub said_reduction : Method → Objects → Option Objects → Name → Scale → Scale → Said
+said_reduction method m now dataset from to = record {
   made = IsReduced method m now dataset from to;
   faulty = IsFirstFault m dataset from to;
   front = PutsReducedFront method m now dataset from to;
 }
 
--- what storing a reduced scale in an empty folder answers over objects that are told
-abbrev pub Reduces : Result Written ReshardFault → Method → Objects → Option Objects → Name → Scale → Scale →
-    Type 0
-Reduces result method m now dataset from to = Puts (reducing method m now dataset from to) result
-
 -- what reducing a scale answers over objects that are told
 abbrev pub Downsamples : Result Written ReshardFault → Method → Objects → Option Objects → Name → Scale →
     Scale → Type 0
 Downsamples result method m now dataset from to =
-    Makes (reducing method m now dataset from to) result m now dataset to
+    Makes (said_reduction method m now dataset from to) result m now dataset to

@@ -6,8 +6,8 @@ use Rattle.vol_spec.specs.declared.scale.Scale.{Scale}
 use Rattle.info_doc.specs.declared.fault.Item.{Item}
 use Rattle.reduce_laws.specs.Halves.{twice}
 use Rattle.reduce_laws.specs.Reduced.{IsNext}
-use Rattle.reshard_cmd.specs.Judging.{DiffersAt, JudgesAs}
-use Rattle.reshard_cmd.specs.declared.fault.ReshardFault.{ReshardFault}
+use Rattle.make_scale.specs.Judging.{DiffersAt, JudgesAs}
+use Rattle.make_scale.specs.declared.fault.MakeFault.{MakeFault as ReshardFault}
 
 -- on each axis the target has half the source's size, rounded up,
 abbrev pub HasHalfSize : Scale → Scale → Type 0

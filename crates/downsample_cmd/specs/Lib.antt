@@ -1,3 +1,4 @@
 pub mod Answering
 pub mod Downsampling
 pub mod Judging
+pub mod ReductionLaws

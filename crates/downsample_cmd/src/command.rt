@@ -1,82 +1,24 @@
 //! The command `downsample`.
-ghost use Rattle.std.specs.Prelude.{◌≡◌, ◌⊎◌, ◌≤◌, length, false, None, Some, IfErr, IfSome, Ok, OnOk};
+ghost use Rattle.std.specs.Prelude.{◌≡◌, ◌≤◌, length, false, None, Some, IfErr, IfSome, OnOk};
 ghost use Rattle.vol_base.specs.Causes.{HasCauseOf, Rose};
 ghost use Rattle.vol_base.specs.Outside.{Objects, OnlyReads};
-ghost use Rattle.vol_spec.specs.Writable.{IsWritable};
 ghost use Rattle.shard_writer.specs.Writing.{Drops};
 ghost use Rattle.command_base.specs.Ending.{EndsWell, IsCaused};
 ghost use Rattle.command_base.specs.Outlets.{outlets_of};
-ghost use Rattle.command_base.specs.Scales.{HasOneSize, stored_scale};
+ghost use Rattle.command_base.specs.Scales.{stored_scale};
 ghost use Rattle.command_base.specs.Statuses.{prints, puts};
-ghost use Rattle.reshard_cmd.specs.Copying.{DropsUnsharded};
-ghost use Rattle.reshard_cmd.specs.Refusals.{reshard_status};
-ghost use Rattle.downsample_cmd.specs.Answering.{BeginsReduction, CanDownsample, Downsampled, DropsOrDownsamples, ReducedBack, ReducesScale, ReducesStored};
-ghost use Rattle.downsample_cmd.specs.Downsampling.{DropsOrReduces};
+ghost use Rattle.make_scale.specs.Refusals.{refusal_status};
+ghost use Rattle.make_scale.specs.Stored.{DropsUnsharded};
+ghost use Rattle.downsample_cmd.specs.Answering.{CanDownsample, Downsampled, DropsOrDownsamples, ReducedBack, ReducesStored};
 
-use crate::downsampling::downsample;
-use command_base::{Crew, Status, finish, read_scale, report, write_written_line};
+use crate::downsampling::Reducing;
+use command_base::{Crew, Status, finish, report, write_written_line};
+use make_scale::{MakeFault, MakeRefusal, make_stored};
 use reduce_laws::Method;
-use reshard_cmd::{ReshardRefusal, read_target, refuse};
 use shard_writer::Written;
 use std::sync::Wait;
 use std::thread::Threads;
 use vol_base::{Gate, Name, Outlet, Store};
-use vol_spec::Scale;
-
-// Reduces a scale into another one.
-fn reduce_scale<R: Threads + Wait + Sync, S: Store, G: Gate + Sync>(
-    crew: &Crew<R, G>,
-    store: &mut S,
-    dataset: &Name,
-    from: &Scale,
-    to: &Scale,
-    method: Method,
-) -> Result<Written, ReshardRefusal>
-    requires dataset { length dataset.now ≤ 200 }
-    requires writable { IsWritable to.now }
-    requires one { HasOneSize to.now }
-    ensures reduces { IfSome (S.objects store.old) (λ m.
-        ReducesScale result method m (S.objects store.new) dataset.now from.now to.now) }
-    ensures kept { IfErr result (λ refusal. puts (reshard_status refusal) ≡ false →
-        OnlyReads (S.objects store.old) (S.objects store.new) (S.draft store.old) (S.draft store.new)) }
-    ensures draft { OnOk result (Drops (S.draft store.old) (S.draft store.new)) }
-    ensures begun { DropsOrReduces method (S.objects store.old) (S.objects store.new) dataset.now from.now
-        to.now (S.draft store.old) (S.draft store.new) }
-    ensures unsharded { to.now.sharding ≡ None → Drops (S.draft store.old) (S.draft store.new) }
-    ensures cause { HasCauseOf ReshardRefusal.StoreFault (S.faults store.old) (S.faults store.new) result }
-{
-    match downsample(crew, store, dataset, from, to, method) {
-        Ok(written) => Ok(written),
-        Err(fault) => Err(refuse(fault)),
-    }
-}
-
-// Reduces a scale into that of a key of the data set.
-fn reduce_into<R: Threads + Wait + Sync, S: Store, G: Gate + Sync>(
-    crew: &Crew<R, G>,
-    store: &mut S,
-    dataset: &Name,
-    from: &Scale,
-    to_key: &Name,
-    method: Method,
-) -> Result<Written, ReshardRefusal>
-    requires dataset { length dataset.now ≤ 200 }
-    requires to_key { length to_key.now ≤ 200 }
-    ensures reduces { IfSome (S.objects store.old) (λ m. ReducesStored result (Ok from.now)
-        (stored_scale m dataset.now to_key.now) method m (S.objects store.new) dataset.now) }
-    ensures kept { IfErr result (λ refusal. puts (reshard_status refusal) ≡ false →
-        OnlyReads (S.objects store.old) (S.objects store.new) (S.draft store.old) (S.draft store.new)) }
-    ensures draft { OnOk result (Drops (S.draft store.old) (S.draft store.new)) }
-    ensures begun { Drops (S.draft store.old) (S.draft store.new) ⊎ IfSome (S.objects store.old) (λ m.
-        BeginsReduction (Ok from.now) (stored_scale m dataset.now to_key.now) method m (S.objects store.new)
-        dataset.now (S.draft store.new)) }
-    ensures unsharded { IfSome (S.objects store.old) (λ m.
-        DropsUnsharded (stored_scale m dataset.now to_key.now) (S.draft store.old) (S.draft store.new)) }
-    ensures cause { HasCauseOf ReshardRefusal.StoreFault (S.faults store.old) (S.faults store.new) result }
-{
-    let to = read_target(crew.alloc, store, dataset, to_key)?;
-    reduce_scale(crew, store, dataset, from, &to, method)
-}
 
 // Reduces the scale of a key of a data set into that of another key, which is empty.
 fn reduce_stored<R: Threads + Wait + Sync, S: Store, G: Gate + Sync>(
@@ -86,24 +28,24 @@ fn reduce_stored<R: Threads + Wait + Sync, S: Store, G: Gate + Sync>(
     key: &Name,
     to_key: &Name,
     method: Method,
-) -> Result<Written, ReshardRefusal>
+) -> Result<Written, MakeRefusal>
     requires dataset { length dataset.now ≤ 200 }
     requires key { length key.now ≤ 200 }
     requires to_key { length to_key.now ≤ 200 }
     ensures reduces { IfSome (S.objects store.old) (λ m. ReducesStored result
         (stored_scale m dataset.now key.now) (stored_scale m dataset.now to_key.now) method m
         (S.objects store.new) dataset.now) }
-    ensures kept { IfErr result (λ refusal. puts (reshard_status refusal) ≡ false →
+    ensures kept { IfErr result (λ refusal. puts (refusal_status refusal) ≡ false →
         OnlyReads (S.objects store.old) (S.objects store.new) (S.draft store.old) (S.draft store.new)) }
     ensures draft { OnOk result (Drops (S.draft store.old) (S.draft store.new)) }
     ensures begun { DropsOrDownsamples method (S.objects store.old) (S.objects store.new) dataset.now key.now
         to_key.now (S.draft store.old) (S.draft store.new) }
     ensures unsharded { IfSome (S.objects store.old) (λ m.
         DropsUnsharded (stored_scale m dataset.now to_key.now) (S.draft store.old) (S.draft store.new)) }
-    ensures cause { HasCauseOf ReshardRefusal.StoreFault (S.faults store.old) (S.faults store.new) result }
+    ensures cause { HasCauseOf (MakeRefusal.Unmade MakeFault.StoreFault) (S.faults store.old) (S.faults store.new) result }
 {
-    let from = read_scale(crew.alloc, store, dataset, key)?;
-    reduce_into(crew, store, dataset, &from, to_key, method)
+    let reducing = Reducing::of(crew, method);
+    make_stored(crew, store, &reducing, dataset, key, dataset, to_key)
 }
 
 /// The command `downsample`: reduces the scale of a key of a data set, read by its first chunk size, into that of another

@@ -1,111 +1,96 @@
 //! The reduction of a scale.
-ghost use Rattle.std.specs.Prelude.{◌≡◌, ◌≤◌, ◌^◌, false, length, IfErr, IfSome, None, OnOk};
+ghost use Rattle.std.specs.Prelude.{◌≡◌, ◌≤◌, ◌^◌, false, List, ℕ, length, IfErr, IfOk, IfSome, None, OnOk, Option, Result};
 ghost use Rattle.vol_base.specs.Causes.{HasCauseOf};
-ghost use Rattle.vol_base.specs.Outside.{HaveBytes, any_under};
+ghost use Rattle.vol_base.specs.Outside.{HaveBytes, Objects, OnlyReads, any_under};
 ghost use Rattle.vol_spec.specs.CellNames.{folder_of};
 ghost use Rattle.vol_spec.specs.Writable.{IsWritable};
 ghost use Rattle.copier.specs.Held.{cells_of};
 ghost use Rattle.reduce_laws.specs.Reduced.{IsNext};
-ghost use Rattle.shard_writer.specs.Writing.{Drops};
+ghost use Rattle.reducer.specs.Works.{IsApart, work_of};
+ghost use Rattle.shard_writer.specs.Writing.{Drops, job_objects};
+ghost use Rattle.shard_writer.specs.declared.written.WriteFault.{WriteFault};
+ghost use Rattle.shard_writer.specs.declared.written.Written.{Written};
 ghost use Rattle.write_plan.specs.Pairs.{cell_count};
 ghost use Rattle.command_base.specs.Scales.{HasOneSize};
-ghost use Rattle.reshard_cmd.specs.Resharding.{IsLate, KeepsStore};
-ghost use Rattle.downsample_cmd.specs.Downsampling.{Downsamples, DropsOrReduces, HasReducedJobs, Reduces};
+ghost use Rattle.make_scale.specs.Making.{KeepsStore, Puts, Wrote};
+ghost use Rattle.downsample_cmd.specs.Downsampling.{Downsamples, DropsOrReduces, reduced_list, said_reduction};
 ghost use Rattle.downsample_cmd.specs.Judging.{JudgesNext};
 
-use crate::judge::judge_next;
+use crate::judge::find_difference;
 use command_base::Crew;
+use info_doc::Item;
+use make_scale::{MakeFault as ReshardFault, Making, make_scale};
 use reduce_laws::Method;
 use reducer::Reducer;
-use reshard_cmd::{ReshardFault, judge_folder};
-use shard_writer::{WriteFault, Written, write_scale};
+use shard_writer::Written;
+use std::alloc::Global;
 use std::sync::Wait;
 use std::thread::Threads;
 use vol_base::{Gate, Name, Store, StoreRefusal};
 use vol_spec::Scale;
 
-// Puts the objects of a reduced scale, whose chunks a reducer makes.
-fn put_reduced<R: Threads + Wait + Sync, S: Store, G: Gate + Sync>(
-    crew: &Crew<R, G>,
-    store: &mut S,
-    dataset: &Name,
-    scale: &Scale,
-    reducer: &mut Reducer<R>,
-) -> Result<Written, ReshardFault>
-    requires dataset { length dataset.now ≤ 200 }
-    requires writable { IsWritable scale.now }
-    requires few { cell_count scale.now ≤ 2 ^ 22 }
-    requires own { reducer.old.held.dataset ≡ dataset.now }
-    requires next { IsNext reducer.old.held.from scale.now }
-    requires scale { reducer.old.held.to ≡ scale.now }
-    requires jobs { length (cells_of reducer.old.held) ≤ 2 ^ 22 }
-    requires reduced { IfSome (S.objects store.old) (λ m. HasReducedJobs m reducer.old scale.now) }
-    requires empty { IfSome (S.objects store.old) (λ m.
-        any_under m (folder_of dataset.now scale.now) ≡ false) }
-    requires bytes { IfSome (S.objects store.old) HaveBytes }
-    ensures reduces { IfSome (S.objects store.old) (λ m. Reduces result reducer.old.method m
-        (S.objects store.new) dataset.now reducer.old.held.from scale.now) }
-    ensures late { IfErr result IsLate }
-    ensures draft { OnOk result (Drops (S.draft store.old) (S.draft store.new)) }
-    ensures begun { DropsOrReduces reducer.old.method (S.objects store.old) (S.objects store.new) dataset.now
-        reducer.old.held.from scale.now (S.draft store.old) (S.draft store.new) }
-    ensures unsharded { scale.now.sharding ≡ None → Drops (S.draft store.old) (S.draft store.new) }
-    ensures cause { HasCauseOf ReshardFault.StoreFault (S.faults store.old) (S.faults store.new) result }
-{
-    match write_scale(
-        crew.rt,
-        crew.alloc,
-        store,
-        dataset,
-        scale,
-        reducer,
-        crew.workers,
-        crew.gate,
-    ) {
-        Ok(written) => Ok(written),
-        Err(WriteFault::StoreFault) => Err(ReshardFault::StoreFault),
-        Err(WriteFault::Damaged { cell, fault }) => Err(ReshardFault::Damaged { cell, fault }),
-        Err(WriteFault::OutOfMemory) => Err(ReshardFault::OutOfMemory),
+/// Making a reduced scale, in the source's data set.
+#[derive(Drop)]
+pub(crate) struct Reducing<'a, R> {
+    rt: &'a R,
+    workers: u32,
+    method: Method,
+}
+
+impl<'a, R> Reducing<'a, R> {
+    /// Reducing by a crew.
+    pub(crate) fn of<G>(crew: &Crew<'a, R, G>, method: Method) -> Reducing<'a, R>
+        ensures { result.method ≡ method }
+    {
+        Reducing {
+            rt: crew.rt,
+            workers: crew.workers,
+            method,
+        }
     }
 }
 
-// Reduces a scale into an empty folder, where the target is the next scale and has few cells.
-fn write_reduced<R: Threads + Wait + Sync, S: Store, G: Gate + Sync>(
-    crew: &Crew<R, G>,
-    store: &mut S,
-    dataset: &Name,
-    from: &Scale,
-    to: &Scale,
-    method: Method,
-) -> Result<Written, ReshardFault>
-    requires dataset { length dataset.now ≤ 200 }
-    requires writable { IsWritable to.now }
-    requires few { cell_count to.now ≤ 2 ^ 22 }
-    requires next { IsNext from.now to.now }
-    requires empty { IfSome (S.objects store.old) (λ m. any_under m (folder_of dataset.now to.now) ≡ false) }
-    requires bytes { IfSome (S.objects store.old) HaveBytes }
-    ensures reduces { IfSome (S.objects store.old) (λ m.
-        Reduces result method m (S.objects store.new) dataset.now from.now to.now) }
-    ensures late { IfErr result IsLate }
-    ensures draft { OnOk result (Drops (S.draft store.old) (S.draft store.new)) }
-    ensures begun { DropsOrReduces method (S.objects store.old) (S.objects store.new) dataset.now from.now
-        to.now (S.draft store.old) (S.draft store.new) }
-    ensures unsharded { to.now.sharding ≡ None → Drops (S.draft store.old) (S.draft store.new) }
-    ensures cause { HasCauseOf ReshardFault.StoreFault (S.faults store.old) (S.faults store.new) result }
-{
-    match Reducer::of(
-        crew.rt,
-        crew.alloc,
-        store,
-        method,
-        dataset,
-        from,
-        to,
-        crew.workers,
-    ) {
-        Ok(mut reducer) => put_reduced(crew, store, dataset, to, &mut reducer),
-        Err(StoreRefusal::Failed) => Err(ReshardFault::StoreFault),
-        Err(StoreRefusal::OutOfMemory) => Err(ReshardFault::OutOfMemory),
+impl<'a, R: Threads + Sync> Making for Reducing<'a, R> {
+    ghost use Rattle.downsample_cmd.specs.Judging.{DiffersNext};
+    ghost use Rattle.downsample_cmd.specs.ReductionLaws.{reduction_untouched};
+
+    type Maker = Reducer<'a, R>;
+
+    ghost suits = { λ x from_dataset to_dataset. from_dataset ≡ to_dataset };
+
+    ghost fits = { λ x from to. IsNext from to };
+
+    ghost differs = { λ x from to item. DiffersNext from to item };
+
+    ghost due = { λ x m from_dataset from to_dataset to. reduced_list x.method m to_dataset from to };
+
+    ghost says = { λ x m now from_dataset from to_dataset to. said_reduction x.method m now to_dataset from to };
+
+    ghost untouched = { λ x m from_dataset from to_dataset to. reduction_untouched x.method m to_dataset from to };
+
+    fn find_difference(&self, from: &Scale, to: &Scale) -> Option<Item> {
+        find_difference(from, to)
+    }
+
+    fn begin<S: Store>(
+        &self,
+        alloc: Global,
+        store: &mut S,
+        from_dataset: &Name,
+        from: &Scale,
+        _to_dataset: &Name,
+        to: &Scale,
+    ) -> Result<Reducer<'a, R>, StoreRefusal> {
+        Reducer::of(
+            self.rt,
+            alloc,
+            store,
+            self.method,
+            from_dataset,
+            from,
+            to,
+            self.workers,
+        )
     }
 }
 
@@ -145,13 +130,6 @@ pub fn downsample<R: Threads + Wait + Sync, S: Store, G: Gate + Sync>(
     ensures unsharded { to.now.sharding ≡ None → Drops (S.draft store.old) (S.draft store.new) }
     ensures cause { HasCauseOf ReshardFault.StoreFault (S.faults store.old) (S.faults store.new) result }
 {
-    match judge_next(from, to) {
-        Ok(()) => {}
-        Err(fault) => return Err(fault),
-    }
-    match judge_folder(store, dataset, to) {
-        Ok(()) => {}
-        Err(refusal) => return Err(refusal),
-    }
-    write_reduced(crew, store, dataset, from, to, method)
+    let reducing = Reducing::of(crew, method);
+    make_scale(crew, store, &reducing, dataset, from, dataset, to)
 }

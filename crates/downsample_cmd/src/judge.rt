@@ -1,12 +1,10 @@
-//! What is judged before a scale is reduced.
-ghost use Rattle.std.specs.Prelude.{◌≡◌, ◌&&◌, ◌+◌, ◌/◌, ◌↔◌, IfErr, IsTrue, MatchOption};
+//! Whether a scale is the next one.
+ghost use Rattle.std.specs.Prelude.{◌≡◌, ◌&&◌, ◌+◌, ◌/◌, ◌↔◌, IsTrue, MatchOption};
 ghost use Rattle.reduce_laws.specs.Halves.{twice};
 ghost use Rattle.reduce_laws.specs.Reduced.{IsNext};
-ghost use Rattle.reshard_cmd.specs.Judging.{IsOfScales};
-ghost use Rattle.downsample_cmd.specs.Judging.{DiffersNext, HasHalfSize, HasTwiceOffset, JudgesNext};
+ghost use Rattle.downsample_cmd.specs.Judging.{DiffersNext, HasHalfSize, HasTwiceOffset};
 
 use info_doc::Item;
-use reshard_cmd::{ReshardFault, find_excess};
 use vol_spec::Scale;
 
 // Whether a size is half another, rounded up.
@@ -50,8 +48,8 @@ fn has_twice_offset(from: &Scale, to: &Scale) -> bool
     are_all(x, y, z)
 }
 
-// The first item in which a scale isn't the next one after another; none where it is.
-fn find_difference(from: &Scale, to: &Scale) -> Option<Item>
+/// The first item in which a scale isn't the next one after another; none where it is.
+pub(crate) fn find_difference(from: &Scale, to: &Scale) -> Option<Item>
     ensures { MatchOption result (IsNext from.now to.now) (DiffersNext from.now to.now) }
 {
     if !has_half_size(from, to) {
@@ -67,18 +65,4 @@ fn find_difference(from: &Scale, to: &Scale) -> Option<Item>
         return Some(Item::NumChannels);
     }
     None
-}
-
-/// Refuses a scale that isn't the next one, and grids of too many cells.
-pub(crate) fn judge_next(from: &Scale, to: &Scale) -> Result<(), ReshardFault>
-    ensures judges { JudgesNext result from.now to.now }
-    ensures early { IfErr result IsOfScales }
-{
-    if let Some(item) = find_difference(from, to) {
-        return Err(ReshardFault::Differs { item });
-    }
-    match find_excess(from, to) {
-        Some(cells) => Err(ReshardFault::TooManyCells { cells }),
-        None => Ok(()),
-    }
 }

@@ -10,7 +10,7 @@ use Rattle.vol_spec.specs.Types.{Bytes, Chunks, Name}
 use Rattle.vol_spec.specs.declared.scale.Scale.{Scale}
 use Rattle.chunk_laws.proofs.Law.{stored_outside}
 use Rattle.copy_laws.proofs.BackSteps.{reads_as_source}
-use Rattle.reshard_cmd.proofs.AnswerSteps.{few_cells}
+use Rattle.make_scale.proofs.AnswerSteps.{few_cells}
 use Rattle.reshard_cmd.proofs.CopyingSteps.{few_copied}
 use Rattle.reshard_cmd.specs.Copying.{AllReadAsSource, HasCopied, KeepsScales}
 use Rattle.command_base.specs.Scales.{info_name, scale_from, stored_scale}

@@ -1,6 +1,6 @@
 -- What a copier's jobs are stored as, and what storing them answers.
 use Rattle.std.proofs.Common.{◌≡◌, ◌∙◌, ℕ, ◌≤◌, ◌^◌, List, length, map, Option, Some, None, IfSome, false, refl, ap, sym, subst, arith}
-use Rattle.std.specs.Prelude.{Result, Ok, Err}
+use Rattle.std.specs.Prelude.{IfOk, Result, Ok, Err}
 use Rattle.vol_base.specs.Outside.{HaveBytes, Objects, any_under}
 use Rattle.vol_base.specs.declared.faults.Fault.{Fault}
 use Rattle.vol_spec.specs.BoxValues.{first_some}
@@ -25,9 +25,9 @@ use Rattle.shard_writer.specs.declared.written.Written.{Written}
 use Rattle.shard_writer.specs.declared.written.WriteFault.{WriteFault}
 use Rattle.shard_writer.specs.declared.written.WriteFault.TheVariants as writes
 use Rattle.write_plan.specs.Pairs.{cell_count}
-use Rattle.reshard_cmd.specs.Resharding.{Copies, HasCopyJobs, IsCopied, PutsCopyFront, SparesFaulty, copy_fault, copy_list}
-use Rattle.reshard_cmd.specs.declared.fault.ReshardFault.{ReshardFault}
-use Rattle.reshard_cmd.specs.declared.fault.ReshardFault.TheVariants.{Damaged}
+use Rattle.make_scale.specs.Making.{Puts, Wrote}
+use Rattle.vol_base.specs.declared.outside.StoreRefusal.{StoreRefusal}
+use Rattle.reshard_cmd.specs.Resharding.{HasCopyJobs, IsCopied, said_copy, PutsCopyFront, SparesFaulty, copy_fault, copy_list}
 use Rattle.reshard_cmd.proofs.FaultSteps.{first_is, none_is}
 use Rattle.reshard_cmd.proofs.JobSteps.{as_many_jobs, job_by_job, objects_by_job, spared_by_job}
 
@@ -53,9 +53,6 @@ module _ (m : Objects) (h : Held) (to_dataset : List ℕ) (to : Scale) (scale : 
       objects_by_job to_dataset h.to to (cells_of h) copied scale jobs order (copied_raw m h.dataset h.from)
       ∙ ap (stored_list to_dataset to) (sym (copy_chunks m h.dataset h.from to))
 
-  pub told_copy : told_objects to_dataset (work_of h) (Some m) ≡ copy_list m h.dataset h.from to_dataset to
-  told_copy = copier_objects
-
   -- and its first fault is theirs
   pub copier_fault : first_of_jobs (work_of h) m ≡ copy_fault m h.dataset h.from to
   copier_fault = job_by_job to_dataset h.to to (cells_of h) copied scale jobs order (λ s. first_some) (λ s cell. first_fault m h.dataset h.from (cell_box s cell))
@@ -78,56 +75,54 @@ module _ (m : Objects) (h : Held) (to_dataset : List ℕ) (to : Scale) (scale : 
   front_of now front spares = (subst (λ list. PutsFront list m now) copier_objects front, spares_of now spares)
 
   module _ (volume : AreOfOneVolume h.from to) (few : cell_count to ≤ 2 ^ 22) (can : IsWritable to) (none : any_under m (folder_of to_dataset to) ≡ false) (all_bytes : HaveBytes m) where
-    stored : (written : Written) (now : Option Objects) → written.objects ≡ length (told_objects to_dataset (work_of h) (Some m)) → written.cells ≡ length (cells_of h)
-        → written.bytes ≡ joint_len (told_objects to_dataset (work_of h) (Some m)) → PutsJobs to_dataset (work_of h) (Some m) now → first_of_jobs (work_of h) m ≡ None
-        → IsCopied m now h.dataset h.from to_dataset to written
-    stored written now objects cells joint put first =
-        let sound = none_is m h.dataset h.from to volume (sym copier_fault ∙ first) in
+    -- and what storing them answers is said of the copy
+    pub copied_wrote : (now : Option Objects) (answer : Result Written WriteFault) → Wrote to_dataset (work_of h) m now answer → Puts (said_copy m now h.dataset h.from to_dataset to) answer
+    copied_wrote now (Ok written) wrote =
+        let sound = none_is m h.dataset h.from to volume (sym copier_fault ∙ wrote.answer) in
         let most = few_copied m h.dataset h.from to few in
         record {
-          put = put ∙ ap (λ list. Some (put_in m list)) copier_objects;
-          objects = objects ∙ ap length told_copy;
-          cells = cells ∙ copier_count;
-          bytes = joint ∙ ap joint_len told_copy;
+          put = wrote.put ∙ ap (λ list. Some (put_in m list)) copier_objects;
+          objects = wrote.objects ∙ ap length copier_objects;
+          cells = wrote.cells ∙ copier_count;
+          bytes = wrote.bytes ∙ ap joint_len copier_objects;
           source = sound;
           values = λ p c inside l. copied_value m h.dataset to_dataset h.from to volume most can none p c all_bytes sound inside l;
           target = λ cell is. copied_sound m h.dataset to_dataset h.from to volume most can none cell is;
         }
+    copied_wrote now (Err writes.StoreFault) wrote = front_of now wrote.front wrote.spares
+    copied_wrote now (Err writes.OutOfMemory) wrote = front_of now wrote.front wrote.spares
+    copied_wrote now (Err (writes.Damaged cell fault)) wrote = (first_is m h.dataset h.from to cell fault (sym copier_fault ∙ wrote.answer), front_of now wrote.front wrote.spares)
 
--- what storing the jobs of a copier answers
-pub copied_ok : (o now : Option Objects) (h : Held) (to_dataset : List ℕ) (to : Scale) (written : Written) → h.to ≡ to → IfSome o (λ m. HasCopyJobs m h to)
-    → AreOfOneVolume h.from to → cell_count to ≤ 2 ^ 22 → IsWritable to → IfSome o (λ m. any_under m (folder_of to_dataset to) ≡ false) → IfSome o HaveBytes
-    → written.objects ≡ length (told_objects to_dataset (work_of h) o) → written.cells ≡ length (cells_of h) → (KnowsLens (work_of h) o → written.bytes ≡ joint_len (told_objects to_dataset (work_of h) o))
-    → PutsJobs to_dataset (work_of h) o now → IfSome o (λ m. first_of_jobs (work_of h) m ≡ None) → IfSome o (λ m. Copies (Ok written) m now h.dataset h.from to_dataset to)
-copied_ok None now h to_dataset to written scale jobs volume few can none bytes objects cells joint put first = tt
-copied_ok (Some m) now h to_dataset to written scale jobs volume few can none bytes objects cells joint put first =
-    stored m h to_dataset to scale jobs volume few can none bytes written now objects cells (joint tt) put first
+-- the same of a copier that was made for a source and a target
+module _ (m : Objects) (h : Held) (from_dataset : List ℕ) (from : Scale) (to_dataset : List ℕ) (to : Scale) (own : h.dataset ≡ from_dataset) (read : h.from ≡ from) (scale : h.to ≡ to) (made : cells_of h ≡ in_key_order to (copied_cells m from_dataset from to)) where
+  jobs : HasCopyJobs m h to
+  jobs =
+      subst (λ s. cells_of h ≡ in_key_order to (copied_cells m h.dataset s to)) (sym read)
+      (subst (λ name. cells_of h ≡ in_key_order to (copied_cells m name from to)) (sym own) made)
 
-pub copied_front : (o now : Option Objects) (h : Held) (to_dataset : List ℕ) (to : Scale) → h.to ≡ to → IfSome o (λ m. HasCopyJobs m h to) → PutsSome to_dataset (work_of h) o now → spared.SparesFaulty to_dataset (work_of h) o now
-    → IfSome o (λ m. PutsCopyFront m now h.dataset h.from to_dataset to)
-copied_front None now h to_dataset to scale jobs front spares = tt
-copied_front (Some m) now h to_dataset to scale jobs front spares = front_of m h to_dataset to scale jobs now front spares
+  pub due_in : job_objects to_dataset (work_of h) m ≡ copy_list m from_dataset from to_dataset to
+  due_in =
+      subst (λ s. job_objects to_dataset (work_of h) m ≡ copy_list m from_dataset s to_dataset to) read
+      (subst (λ name. job_objects to_dataset (work_of h) m ≡ copy_list m name h.from to_dataset to) own (copier_objects m h to_dataset to scale jobs))
 
-pub copied_damaged : (o now : Option Objects) (h : Held) (to_dataset : List ℕ) (to : Scale) (cell : List ℕ) (refusal : WriteFault) (fault : Fault) → h.to ≡ to → IfSome o (λ m. HasCopyJobs m h to)
-    → PutsSome to_dataset (work_of h) o now → spared.SparesFaulty to_dataset (work_of h) o now → refusal ≡ writes.Damaged cell fault → IfSome o (λ m. WritesAll {A = Written} (Err refusal) (first_of_jobs (work_of h) m))
-    → IfSome o (λ m. Copies (Err (Damaged cell fault)) m now h.dataset h.from to_dataset to)
-copied_damaged None now h to_dataset to cell refusal fault scale jobs front spares is first = tt
-copied_damaged (Some m) now h to_dataset to cell refusal fault scale jobs front spares is first =
-    let told : first_of_jobs (work_of h) m ≡ Some (cell, fault) = subst (λ r. WritesAll {A = Written} (Err r) (first_of_jobs (work_of h) m)) is first in
-    (first_is m h.dataset h.from to cell fault (sym (copier_fault m h to_dataset to scale jobs) ∙ told), front_of m h to_dataset to scale jobs now front spares)
+  pub apart_in : any_under m (folder_of to_dataset to) ≡ false → IsApart h to_dataset to
+  apart_in none = copier_apart m h to_dataset to scale jobs none
 
-pub apart_in : (o : Option Objects) (h : Held) (to_dataset : List ℕ) (to : Scale) → h.to ≡ to → IfSome o (λ m. HasCopyJobs m h to) → IfSome o (λ m. any_under m (folder_of to_dataset to) ≡ false)
-    → IfSome o (λ m. IsApart h to_dataset to)
-apart_in None h to_dataset to scale jobs none = tt
-apart_in (Some m) h to_dataset to scale jobs none = copier_apart m h to_dataset to scale jobs none
+  pub says_in : AreOfOneVolume from to → cell_count to ≤ 2 ^ 22 → IsWritable to → any_under m (folder_of to_dataset to) ≡ false → HaveBytes m
+      → (now : Option Objects) (answer : Result Written WriteFault) → Wrote to_dataset (work_of h) m now answer → Puts (said_copy m now from_dataset from to_dataset to) answer
+  says_in volume few can none bytes now answer wrote =
+      subst (λ s. Puts (said_copy m now from_dataset s to_dataset to) answer) read
+      (subst (λ name. Puts (said_copy m now name h.from to_dataset to) answer) own
+      (copied_wrote m h to_dataset to scale jobs (subst (λ s. AreOfOneVolume s to) (sym read) volume) few can none bytes now answer wrote))
 
--- nothing is put yet
-pub front_none : (o now : Option Objects) (from_dataset : List ℕ) (from : Scale) (to_dataset : List ℕ) (to : Scale) → now ≡ o → IfSome o (λ m. PutsCopyFront m now from_dataset from to_dataset to)
-front_none None now from_dataset from to_dataset to e = tt
-front_none (Some m) now from_dataset from to_dataset to e = (
-  record { count = 0; within = omega arith; put = e },
-  subst (λ o. SparesFaulty m o from_dataset from to_dataset to) (sym e) (λ cell listed faulty. refl),
-)
+-- what is said of each copier that is made, over objects that are told
+pub of_copier : (o : Option Objects) (r : Result Held StoreRefusal) (from_dataset : List ℕ) (from : Scale) (to_dataset : List ℕ) (to : Scale) (P : Objects → Held → Type 0) → IfOk r (λ h. h.dataset ≡ from_dataset) → IfOk r (λ h. h.from ≡ from)
+    → IfOk r (λ h. h.to ≡ to) → IfOk r (λ h. IfSome o (λ m. cells_of h ≡ in_key_order to (copied_cells m from_dataset from to))) → IfSome o (λ m. any_under m (folder_of to_dataset to) ≡ false) → IfSome o HaveBytes
+    → ((m : Objects) (h : Held) → h.dataset ≡ from_dataset → h.from ≡ from → h.to ≡ to → cells_of h ≡ in_key_order to (copied_cells m from_dataset from to) → any_under m (folder_of to_dataset to) ≡ false → HaveBytes m → P m h)
+    → IfOk r (λ h. IfSome o (λ m. P m h))
+of_copier o (Err refusal) from_dataset from to_dataset to P own read scale made none bytes f = tt
+of_copier None (Ok h) from_dataset from to_dataset to P own read scale made none bytes f = tt
+of_copier (Some m) (Ok h) from_dataset from to_dataset to P own read scale made none bytes f = f m h own read scale made none bytes
 
 -- all is put, of a source that has no fault
 pub front_whole : (m : Objects) (now : Option Objects) (from_dataset : List ℕ) (from : Scale) (to_dataset : List ℕ) (to : Scale) → PutsFront (copy_list m from_dataset from to_dataset to) m now → HasNoFault m from_dataset from
@@ -137,21 +132,3 @@ front_whole m now from_dataset from to_dataset to front sound = (front, spares n
     spares : (now : Option Objects) → SparesFaulty m now from_dataset from to_dataset to
     spares None = tt
     spares (Some n) = λ cell listed faulty. absurd (faulty (none_anywhere m from_dataset from (cell_box to cell) sound))
-
--- a copier's jobs, volume and objects in the words of the scale that it reads
-pub jobs_in : (o p : Option Objects) (h : Held) (dataset : List ℕ) (from to : Scale) → p ≡ o → h.dataset ≡ dataset → h.from ≡ from
-    → IfSome o (λ m. cells_of h ≡ in_key_order to (copied_cells m dataset from to)) → IfSome p (λ m. HasCopyJobs m h to)
-jobs_in o p h dataset from to same d f jobs =
-    subst (λ x. IfSome x (λ m. HasCopyJobs m h to)) (sym same)
-    (subst (λ s. IfSome o (λ m. cells_of h ≡ in_key_order to (copied_cells m h.dataset s to))) (sym f)
-    (subst (λ name. IfSome o (λ m. cells_of h ≡ in_key_order to (copied_cells m name from to))) (sym d) jobs))
-
-pub copies_in : (o p now : Option Objects) (r : Result Written ReshardFault) (h : Held) (from_dataset : List ℕ) (from : Scale) (to_dataset : List ℕ) (to : Scale) → p ≡ o → h.dataset ≡ from_dataset → h.from ≡ from
-    → IfSome p (λ m. Copies r m now h.dataset h.from to_dataset to) → IfSome o (λ m. Copies r m now from_dataset from to_dataset to)
-copies_in o p now r h from_dataset from to_dataset to same d f copies =
-    subst (λ s. IfSome o (λ m. Copies r m now from_dataset s to_dataset to)) f
-    (subst (λ name. IfSome o (λ m. Copies r m now name h.from to_dataset to)) d
-    (subst (λ x. IfSome x (λ m. Copies r m now h.dataset h.from to_dataset to)) same copies))
-
-pub told_in : (o p : Option Objects) (P : Objects → Type 0) → p ≡ o → IfSome o P → IfSome p P
-told_in o p P same h = subst (λ x. IfSome x P) (sym same) h

@@ -19,13 +19,12 @@ use Rattle.command_base.specs.Outlets.{Outlets}
 use Rattle.command_base.specs.Scales.{IsWritableAlone, stored_scale}
 use Rattle.command_base.specs.declared.refusal.NoScale.{NoScale}
 use Rattle.command_base.specs.declared.status.Status.{Status}
-use Rattle.reshard_cmd.specs.Making.{CanBegin, Making, MakesScale, MakesStored, OfBoth}
-use Rattle.reshard_cmd.specs.Refusals.{reshard_line, reshard_status}
-use Rattle.reshard_cmd.specs.Resharding.{copy_fault, copy_list, copying, PutsCopyFront}
-use Rattle.reshard_cmd.specs.declared.fault.ReshardFault.{ReshardFault}
-use Rattle.reshard_cmd.specs.declared.fault.ReshardFault.TheVariants as fault
-use Rattle.reshard_cmd.specs.declared.refusal.ReshardRefusal.{ReshardRefusal}
-use Rattle.reshard_cmd.specs.declared.refusal.ReshardRefusal.TheVariants as refused
+use Rattle.reshard_cmd.specs.Judging.{DiffersFirst}
+use Rattle.make_scale.specs.Stored.{CanBegin, Making, MakesStored, OfBoth}
+use Rattle.make_scale.specs.Refusals.{refusal_line as make_line, refusal_status}
+use Rattle.reshard_cmd.specs.Resharding.{copy_fault, copy_list, PutsCopyFront}
+use Rattle.make_scale.specs.declared.refusal.MakeRefusal.{MakeRefusal}
+use Rattle.make_scale.specs.declared.refusal.MakeRefusal.TheVariants as refused
 
 -- a copy can be begun: the target keeps the writing limit and has one chunk size, both scales are of one volume, no grid has too many cells, and
 -- the target's folder is empty
@@ -71,30 +70,11 @@ abbrev pub CopyFront : Objects → Option Objects → Name → Scale → Name �
 CopyFront m now from_dataset from to_dataset to = IsReadyCopy m from to_dataset to ×
     PutsCopyFront m now from_dataset from to_dataset to
 
--- what a fault of the copy is, as a refusal
-abbrev pub unmade : ReshardFault → ReshardRefusal
-unmade (fault.Differs item) = refused.Differs item
-unmade (fault.TooManyCells cells) = refused.TooManyCells cells
-unmade fault.NotEmpty = refused.NotEmpty
-unmade (fault.Damaged cell found) = refused.Damaged cell found
-unmade fault.StoreFault = refused.StoreFault
-unmade fault.OutOfMemory = refused.NoMemory
-
--- what reading the scale that is copied into answers
-abbrev pub ReadsTarget : Result Scale ReshardRefusal → Result Scale NoScale → Type 0
-ReadsTarget (Done to) told = (told ≡ Done to) × IsWritableAlone to
-ReadsTarget (Err (refused.NoTarget why)) told = told ≡ Err why
-ReadsTarget (Err (refused.TooManyVoxels voxels)) told =
-    IsOkAnd told (λ to. first_wide (all_views to) ≡ Some voxels)
-ReadsTarget (Err refused.SeveralSizes) told =
-    IsOkAnd told (λ to. All IsWritable (all_views to) × (0 < length to.more))
-ReadsTarget (Err refused.StoreFault) told = Unit {0}
-ReadsTarget (Err refused.NoMemory) told = Unit {0}
-ReadsTarget (Err other) told = ⊥
-
 -- what is said of a copy once it is told
 abbrev pub told_copy : Objects → Option Objects → Name → Scale → Name → Scale → Making
-told_copy m now from_dataset from to_dataset to = record (copying m now from_dataset from to_dataset to) {
+told_copy m now from_dataset from to_dataset to = record {
+  differs = DiffersFirst from to;
+  fits = AreOfOneVolume from to;
   made = λ written. HasCopied m now from_dataset from to_dataset to ×
       CountsCopy written m from_dataset from to_dataset to;
   faulty = λ cell found. (copy_fault m from_dataset from to ≡ Some (cell, found)) ×
@@ -102,22 +82,12 @@ told_copy m now from_dataset from to_dataset to = record (copying m now from_dat
   front = CopyFront m now from_dataset from to_dataset to;
 }
 
--- what copying a scale into one that keeps the writing limit and has one chunk size answers, and what stands after it
-abbrev pub CopiesScale : Result Written ReshardRefusal → Objects → Option Objects → Name → Scale → Name →
-    Scale → Type 0
-CopiesScale result m now from_dataset from to_dataset to =
-    MakesScale (told_copy m now from_dataset from to_dataset to) result m now to_dataset from to
-
 -- what `reshard` answers before it prints, by the two scales that are told
-abbrev pub CopiesStored : Result Written ReshardRefusal → Result Scale NoScale → Result Scale NoScale →
+abbrev pub CopiesStored : Result Written MakeRefusal → Result Scale NoScale → Result Scale NoScale →
     Objects → Option Objects → Name → Name → Type 0
 CopiesStored result source target m now from_dataset to_dataset =
     MakesStored (λ from to. told_copy m now from_dataset from to_dataset to) result source target m now
     to_dataset
-
--- where the target isn't sharded, nothing is being written, or what was before
-abbrev pub DropsUnsharded : Result Scale NoScale → Option Draft → Option Draft → Type 0
-DropsUnsharded target before after = IfOk target (λ to. to.sharding ≡ None → Drops before after)
 
 -- both scales are there, and of the objects of their copy the next one is being written, behind those that were put in
 abbrev pub BeginsCopy : Result Scale NoScale → Result Scale NoScale → Objects → Option Objects → Name →
@@ -133,7 +103,7 @@ DropsOrReshards old now from_dataset from_key to_dataset to_key before after = D
     now from_dataset to_dataset after)
 
 -- which data set's name a refusal tells, the target's only where its scale isn't there
-abbrev pub named_in : ReshardRefusal → Name → Name → Name
+abbrev pub named_in : MakeRefusal → Name → Name → Name
 named_in (refused.NoTarget why) from_dataset to_dataset = to_dataset
 named_in other from_dataset to_dataset = from_dataset
 
@@ -148,12 +118,12 @@ abbrev pub counts_line : Written → Bytes
 counts_line written = written_line written.objects written.cells
 
 -- the line of a refusal, with the name of the data set that it is told of
-abbrev pub refusal_line : Name → Name → ReshardRefusal → Bytes
+abbrev pub refusal_line : Name → Name → MakeRefusal → Bytes
 refusal_line from_dataset to_dataset refusal =
-    reshard_line (named_in refusal from_dataset to_dataset) refusal
+    make_line (named_in refusal from_dataset to_dataset) refusal
 
 -- an answer that is right over the objects, where they are told
-abbrev pub IsRightCopy : Result Written ReshardRefusal → Option Objects → Option Objects → Name → Name →
+abbrev pub IsRightCopy : Result Written MakeRefusal → Option Objects → Option Objects → Name → Name →
     Name → Name → Type 0
 IsRightCopy answer told now from_dataset from_key to_dataset to_key = IfSome told (λ m.
     CopiesStored answer (stored_scale m from_dataset from_key) (stored_scale m to_dataset to_key) m now
@@ -163,6 +133,6 @@ IsRightCopy answer told now from_dataset from_key to_dataset to_key = IfSome tol
 abbrev pub Resharded : Status → Option Objects → Option Objects → Name → Name → Name → Name → Outlets →
     Type 0
 Resharded status told now from_dataset from_key to_dataset to_key o =
-    (answer : Result Written ReshardRefusal)
+    (answer : Result Written MakeRefusal)
     × IsRightCopy answer told now from_dataset from_key to_dataset to_key
-    × Ends counts_line reshard_status (refusal_line from_dataset to_dataset) answer status o
+    × Ends counts_line refusal_status (refusal_line from_dataset to_dataset) answer status o

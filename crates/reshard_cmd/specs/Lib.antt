@@ -1,6 +1,4 @@
+pub mod CopyLaws
 pub mod Copying
 pub mod Judging
-pub mod Lines
-pub mod Making
-pub mod Refusals
 pub mod Resharding

@@ -17,10 +17,8 @@ use Rattle.copy_laws.specs.Copied.{KeepsValues, copied_in}
 use Rattle.copier.specs.Held.{Held, cells_of}
 use Rattle.shard_writer.specs.Writing.{BeginsNext, Drops, PutsFront, joint_len}
 use Rattle.shard_writer.specs.declared.written.Written.{Written}
-use Rattle.reshard_cmd.specs.Judging.{DiffersFirst}
-use Rattle.reshard_cmd.specs.Making.{Makes, Making, Puts}
-use Rattle.reshard_cmd.specs.declared.fault.ReshardFault.{ReshardFault}
-use Rattle.reshard_cmd.specs.declared.fault.ReshardFault.TheVariants.{Differs, TooManyCells, NotEmpty, StoreFault, Damaged, OutOfMemory}
+use Rattle.make_scale.specs.Making.{Makes, Said}
+use Rattle.make_scale.specs.declared.fault.MakeFault.{MakeFault as ReshardFault}
 
 -- the objects that the copy is stored as
 abbrev pub copy_list : Objects → Name → Scale → Name → Scale → Listed
@@ -74,38 +72,16 @@ pub record IsCopied (m : Objects) (now : Option Objects) (from_dataset : Name) (
 abbrev pub HasCopyJobs : Objects → Held → Scale → Type 0
 HasCopyJobs m copier to = cells_of copier ≡ in_key_order to (copied_cells m copier.dataset copier.from to)
 
--- a fault that is found only once the copy is begun
-abbrev pub IsLate : ReshardFault → Type 0
-IsLate (Damaged cell fault) = Unit {0}
-IsLate StoreFault = Unit {0}
-IsLate OutOfMemory = Unit {0}
-IsLate other = ⊥
-
 -- what is said of a copy
-abbrev pub copying : Objects → Option Objects → Name → Scale → Name → Scale → Making
-copying m now from_dataset from to_dataset to = record {
-  differs = DiffersFirst from to;
-  fits = AreOfOneVolume from to;
+abbrev pub said_copy : Objects → Option Objects → Name → Scale → Name → Scale → Said
+said_copy m now from_dataset from to_dataset to = record {
   made = IsCopied m now from_dataset from to_dataset to;
   faulty = IsFirstFault m from_dataset from to;
   front = PutsCopyFront m now from_dataset from to_dataset to;
 }
 
--- what storing a copy in an empty folder answers over objects that are told
-abbrev pub Copies : Result Written ReshardFault → Objects → Option Objects → Name → Scale → Name → Scale →
-    Type 0
-Copies result m now from_dataset from to_dataset to =
-    Puts (copying m now from_dataset from to_dataset to) result
-
 -- what copying a scale answers over objects that are told
 abbrev pub Reshards : Result Written ReshardFault → Objects → Option Objects → Name → Scale → Name → Scale →
     Type 0
 Reshards result m now from_dataset from to_dataset to =
-    Makes (copying m now from_dataset from to_dataset to) result m now to_dataset to
-
--- what stands after a refusal, also where nothing is told: the store is only read before the copy is begun
-abbrev pub KeepsStore : ReshardFault → Option Objects → Option Objects → Option Draft → Option Draft → Type 0
-KeepsStore (Differs item) old now before after = OnlyReads old now before after
-KeepsStore (TooManyCells cells) old now before after = OnlyReads old now before after
-KeepsStore NotEmpty old now before after = OnlyReads old now before after
-KeepsStore other old now before after = Unit {0}
+    Makes (said_copy m now from_dataset from to_dataset to) result m now to_dataset to

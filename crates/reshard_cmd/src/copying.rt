@@ -1,101 +1,68 @@
 //! The copy of a scale.
-ghost use Rattle.std.specs.Prelude.{◌≡◌, ◌≤◌, ◌^◌, Err, false, length, IfErr, IfSome, None, OnOk};
+ghost use Rattle.std.specs.Prelude.{◌≡◌, ◌≤◌, ◌^◌, false, List, ℕ, length, IfErr, IfOk, IfSome, None, OnOk, Option, Result};
 ghost use Rattle.vol_base.specs.Causes.{HasCauseOf};
-ghost use Rattle.vol_base.specs.Outside.{HaveBytes, any_under};
+ghost use Rattle.vol_base.specs.Outside.{HaveBytes, Objects, OnlyReads, any_under};
 ghost use Rattle.vol_spec.specs.CellNames.{folder_of};
 ghost use Rattle.vol_spec.specs.Copies.{AreOfOneVolume};
 ghost use Rattle.vol_spec.specs.Writable.{IsWritable};
-ghost use Rattle.shard_writer.specs.Writing.{Drops};
+ghost use Rattle.shard_writer.specs.Writing.{Drops, job_objects};
+ghost use Rattle.shard_writer.specs.declared.written.WriteFault.{WriteFault};
+ghost use Rattle.shard_writer.specs.declared.written.Written.{Written};
 ghost use Rattle.write_plan.specs.Pairs.{cell_count};
 ghost use Rattle.command_base.specs.Scales.{HasOneSize};
+ghost use Rattle.copier.specs.Held.{IsApart, cells_of, work_of};
+ghost use Rattle.make_scale.specs.Making.{KeepsStore, Puts, Wrote};
 ghost use Rattle.reshard_cmd.specs.Judging.{Judges};
-ghost use Rattle.reshard_cmd.specs.Resharding.{Copies, DropsOrCopies, HasCopyJobs, IsLate, KeepsStore, Reshards};
-ghost use Rattle.copier.specs.Held.{cells_of};
+ghost use Rattle.reshard_cmd.specs.Resharding.{DropsOrCopies, Reshards, copy_list, said_copy};
 
 use crate::ReshardFault;
-use crate::judge::{judge_folder, judge_scales};
+use crate::judge::find_difference;
 use command_base::Crew;
 use copier::Copier;
-use shard_writer::{WriteFault, Written, write_scale};
+use info_doc::Item;
+use make_scale::{Making, make_scale};
+use shard_writer::Written;
+use std::alloc::Global;
 use std::sync::Wait;
 use std::thread::Threads;
 use vol_base::{Gate, Name, Store, StoreRefusal};
 use vol_spec::Scale;
 
-// Puts the objects of a copy, whose chunks a copier makes.
-fn put_copy<R: Threads + Wait + Sync, S: Store, G: Gate + Sync>(
-    crew: &Crew<R, G>,
-    store: &mut S,
-    dataset: &Name,
-    scale: &Scale,
-    copier: &mut Copier,
-) -> Result<Written, ReshardFault>
-    requires dataset { length dataset.now ≤ 200 }
-    requires writable { IsWritable scale.now }
-    requires few { cell_count scale.now ≤ 2 ^ 22 }
-    requires volume { AreOfOneVolume copier.old.from scale.now }
-    requires scale { copier.old.to ≡ scale.now }
-    requires jobs { length (cells_of copier.old) ≤ 2 ^ 22 }
-    requires copied { IfSome (S.objects store.old) (λ m. HasCopyJobs m copier.old scale.now) }
-    requires empty { IfSome (S.objects store.old) (λ m.
-        any_under m (folder_of dataset.now scale.now) ≡ false) }
-    requires bytes { IfSome (S.objects store.old) HaveBytes }
-    ensures copies { IfSome (S.objects store.old) (λ m.
-        Copies result m (S.objects store.new) copier.old.dataset copier.old.from dataset.now scale.now) }
-    ensures late { IfErr result IsLate }
-    ensures draft { OnOk result (Drops (S.draft store.old) (S.draft store.new)) }
-    ensures begun { DropsOrCopies (S.objects store.old) (S.objects store.new) copier.old.dataset
-        copier.old.from dataset.now scale.now (S.draft store.old) (S.draft store.new) }
-    ensures unsharded { scale.now.sharding ≡ None → Drops (S.draft store.old) (S.draft store.new) }
-    ensures cause { HasCauseOf ReshardFault.StoreFault (S.faults store.old) (S.faults store.new) result }
-{
-    match write_scale(
-        crew.rt,
-        crew.alloc,
-        store,
-        dataset,
-        scale,
-        copier,
-        crew.workers,
-        crew.gate,
-    ) {
-        Ok(written) => Ok(written),
-        Err(WriteFault::StoreFault) => Err(ReshardFault::StoreFault),
-        Err(WriteFault::Damaged { cell, fault }) => Err(ReshardFault::Damaged { cell, fault }),
-        Err(WriteFault::OutOfMemory) => Err(ReshardFault::OutOfMemory),
-    }
-}
+/// Making a copy.
+pub(crate) struct Copying;
 
-// Copies a scale into an empty folder, where both scales are of one volume and have few cells.
-fn write_copy<R: Threads + Wait + Sync, S: Store, G: Gate + Sync>(
-    crew: &Crew<R, G>,
-    store: &mut S,
-    from_dataset: &Name,
-    from: &Scale,
-    to_dataset: &Name,
-    to: &Scale,
-) -> Result<Written, ReshardFault>
-    requires from_dataset { length from_dataset.now ≤ 200 }
-    requires to_dataset { length to_dataset.now ≤ 200 }
-    requires writable { IsWritable to.now }
-    requires few { cell_count to.now ≤ 2 ^ 22 }
-    requires volume { AreOfOneVolume from.now to.now }
-    requires empty { IfSome (S.objects store.old) (λ m.
-        any_under m (folder_of to_dataset.now to.now) ≡ false) }
-    requires bytes { IfSome (S.objects store.old) HaveBytes }
-    ensures copies { IfSome (S.objects store.old) (λ m.
-        Copies result m (S.objects store.new) from_dataset.now from.now to_dataset.now to.now) }
-    ensures late { IfErr result IsLate }
-    ensures draft { OnOk result (Drops (S.draft store.old) (S.draft store.new)) }
-    ensures begun { DropsOrCopies (S.objects store.old) (S.objects store.new) from_dataset.now from.now
-        to_dataset.now to.now (S.draft store.old) (S.draft store.new) }
-    ensures unsharded { to.now.sharding ≡ None → Drops (S.draft store.old) (S.draft store.new) }
-    ensures cause { HasCauseOf ReshardFault.StoreFault (S.faults store.old) (S.faults store.new) result }
-{
-    match Copier::of(crew.alloc, store, from_dataset, from, to) {
-        Ok(mut copier) => put_copy(crew, store, to_dataset, to, &mut copier),
-        Err(StoreRefusal::Failed) => Err(ReshardFault::StoreFault),
-        Err(StoreRefusal::OutOfMemory) => Err(ReshardFault::OutOfMemory),
+impl Making for Copying {
+    ghost use Rattle.reshard_cmd.specs.Judging.{DiffersFirst};
+    ghost use Rattle.reshard_cmd.specs.CopyLaws.{copy_untouched};
+
+    type Maker = Copier;
+
+    ghost suits = { λ x from_dataset to_dataset. Unit {0} };
+
+    ghost fits = { λ x from to. AreOfOneVolume from to };
+
+    ghost differs = { λ x from to item. DiffersFirst from to item };
+
+    ghost due = { λ x. copy_list };
+
+    ghost says = { λ x. said_copy };
+
+    ghost untouched = { λ x. copy_untouched };
+
+    fn find_difference(&self, from: &Scale, to: &Scale) -> Option<Item> {
+        find_difference(from, to)
+    }
+
+    fn begin<S: Store>(
+        &self,
+        alloc: Global,
+        store: &mut S,
+        from_dataset: &Name,
+        from: &Scale,
+        _to_dataset: &Name,
+        to: &Scale,
+    ) -> Result<Copier, StoreRefusal> {
+        Copier::of(alloc, store, from_dataset, from, to)
     }
 }
 
@@ -134,13 +101,5 @@ pub fn reshard<R: Threads + Wait + Sync, S: Store, G: Gate + Sync>(
     ensures unsharded { to.now.sharding ≡ None → Drops (S.draft store.old) (S.draft store.new) }
     ensures cause { HasCauseOf ReshardFault.StoreFault (S.faults store.old) (S.faults store.new) result }
 {
-    match judge_scales(from, to) {
-        Ok(()) => {}
-        Err(fault) => return Err(fault),
-    }
-    match judge_folder(store, to_dataset, to) {
-        Ok(()) => {}
-        Err(refusal) => return Err(refusal),
-    }
-    write_copy(crew, store, from_dataset, from, to_dataset, to)
+    make_scale(crew, store, &Copying, from_dataset, from, to_dataset, to)
 }

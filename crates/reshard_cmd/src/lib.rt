@@ -3,14 +3,8 @@
 
 mod command;
 mod copying;
-mod fault;
 mod judge;
-mod lines;
-mod refusal;
-mod report;
 
-pub use command::{read_target, refuse, run_reshard};
+pub use command::run_reshard;
 pub use copying::reshard;
-pub use fault::ReshardFault;
-pub use judge::{find_excess, judge_folder};
-pub use refusal::ReshardRefusal;
+pub use make_scale::MakeFault as ReshardFault;

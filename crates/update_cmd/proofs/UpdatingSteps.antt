@@ -1,5 +1,5 @@
 -- What an updater's jobs are stored as, and what storing them answers.
-use Rattle.std.proofs.Common.{◌≡◌, ◌∙◌, ℕ, ◌+◌, ◌<◌, ◌≤◌, ◌^◌, List, [], ◌∷◌, length, map, get_or, Option, Some, None, IfSome, refl, ap, sym, subst, arith}
+use Rattle.std.proofs.Common.{Result, ◌≡◌, ◌∙◌, ℕ, ◌+◌, ◌<◌, ◌≤◌, ◌^◌, List, [], ◌∷◌, length, map, get_or, Option, Some, None, IfSome, refl, ap, sym, subst, arith}
 use Rattle.std.specs.Prelude.{All, Contains, Ok, Err}
 use Rattle.std.specs.FinMap as fin
 use Rattle.std.specs.Option.{option_map}
@@ -37,12 +37,18 @@ use Rattle.update_laws.proofs.ReadSteps.{updated_sound, updated_value}
 use Rattle.update_laws.proofs.UpdateSteps.{AreInOrder-after}
 use Rattle.updater.specs.Updates as updater
 use Rattle.updater.specs.Updates.{IsApart, work_of}
-use Rattle.update_cmd.specs.Updating.{HasUpdateJobs, IsUpdated, PutsUpdateFront, SparesFaulty, Updates, update_fault, update_list}
-use Rattle.update_cmd.specs.declared.fault.UpdateFault.TheVariants.{Damaged}
+use Rattle.update_cmd.specs.Updating.{HasUpdateJobs, IsUpdated, PutsUpdateFront, SparesFaulty, Updates, unwritten, update_fault, update_list}
+use Rattle.update_cmd.specs.declared.fault.UpdateFault.{UpdateFault}
+use Rattle.told_writer.specs.Told.{Wrote}
 
 after_chunks : (m : Objects) (dataset : List ℕ) (s : Scale) (ws : List (Box3 × List ℕ)) → after m dataset s ws ≡ map (chunk_by (after_raw m dataset s ws)) (after_cells m dataset s ws)
 unfolding after
 after_chunks m dataset s ws = refl
+
+-- a fault of writing, as one of an update
+abbrev pub update_of : Result Written WriteFault → Result Written UpdateFault
+update_of (Ok written) = Ok written
+update_of (Err fault) = Err (unwritten fault)
 
 -- what each of some cells has
 all_map : {Y : Type 0} (f g : List ℕ → Y) (P : List ℕ → Type 0) (xs : List (List ℕ)) → ((x : List ℕ) → P x → f x ≡ g x) → All P xs → map f xs ≡ map g xs
@@ -109,9 +115,6 @@ module _ (m : Objects) (u : updater.Updates) (dataset : List ℕ) (s : Scale) (i
       ∙ stored_by_key dataset s (after_raw m dataset s u.writes) (after_cells m dataset s u.writes) (AreInOrder-after m dataset s u.writes)
       ∙ ap (stored_list dataset s) (sym (after_chunks m dataset s u.writes))
 
-  pub told_updates : told_objects dataset (work_of u) (Some m) ≡ update_list m dataset s u.writes
-  told_updates = updater_objects
-
   keyed : List (List ℕ)
   keyed = in_key_order s (after_cells m dataset s u.writes)
 
@@ -170,42 +173,29 @@ module _ (m : Objects) (u : updater.Updates) (dataset : List ℕ) (s : Scale) (i
   front_of : (now : Option Objects) → PutsSome dataset (work_of u) (Some m) now → spared.SparesFaulty dataset (work_of u) (Some m) now → PutsUpdateFront m now dataset s u.writes
   front_of now front spares = (subst (λ list. PutsFront list m now) updater_objects front, spares_of now spares)
 
-  stored : (written : Written) (now : Option Objects) → CanUpdate m dataset s u.writes → written.objects ≡ length (told_objects dataset (work_of u) (Some m)) → written.cells ≡ length (cells_of u.held)
-      → written.bytes ≡ joint_len (told_objects dataset (work_of u) (Some m)) → PutsJobs dataset (work_of u) (Some m) now → first_of_jobs (work_of u) m ≡ None
-      → IsUpdated m now dataset s u.writes written
-  stored written now can objects cells joint put first = record {
-    put = put ∙ ap (λ list. Some (put_in m list)) updater_objects;
-    objects = objects ∙ ap length told_updates;
-    cells = cells ∙ updater_count;
-    bytes = joint ∙ ap joint_len told_updates;
-    sound = all_sound (sym updater_fault ∙ first);
+  -- what storing them answers is an update
+  pub updated_wrote : (now : Option Objects) → CanUpdate m dataset s u.writes → (answer : Result Written WriteFault) → Wrote dataset (work_of u) m now answer → Updates (update_of answer) m now dataset s u.writes
+  updated_wrote now can (Ok written) wrote = record {
+    put = wrote.put ∙ ap (λ list. Some (put_in m list)) updater_objects;
+    objects = wrote.objects ∙ ap length updater_objects;
+    cells = wrote.cells ∙ updater_count;
+    bytes = wrote.bytes ∙ ap joint_len updater_objects;
+    sound = all_sound (sym updater_fault ∙ wrote.answer);
     values = λ p c inside l none. updated_value m dataset s u.writes can p c inside l none;
     faultless = λ cell one none. updated_sound m dataset s u.writes can cell one none;
     untouched = λ name apart. untouched_name m dataset s u.writes can name apart;
   }
+  updated_wrote now can (Err writes.StoreFault) wrote = front_of now wrote.front wrote.spares
+  updated_wrote now can (Err writes.OutOfMemory) wrote = front_of now wrote.front wrote.spares
+  updated_wrote now can (Err (writes.Damaged cell fault)) wrote = (sym updater_fault ∙ wrote.answer, front_of now wrote.front wrote.spares)
 
--- what storing the jobs of an updater answers
-pub updated_ok : (o now : Option Objects) (u : updater.Updates) (dataset : List ℕ) (s : Scale) (written : Written) → IsOf u dataset s → IfSome o (λ m. HasUpdateJobs m u dataset s)
-    → IsWritable s → length (cells_of u.held) ≤ 2 ^ 22 → All (λ (write : Box3 × List ℕ). AreBytes write.1) u.writes → IfSome o HaveBytes
-    → written.objects ≡ length (told_objects dataset (work_of u) o) → written.cells ≡ length (cells_of u.held) → (KnowsLens (work_of u) o → written.bytes ≡ joint_len (told_objects dataset (work_of u) o))
-    → PutsJobs dataset (work_of u) o now → IfSome o (λ m. first_of_jobs (work_of u) m ≡ None) → IfSome o (λ m. Updates (Ok written) m now dataset s u.writes)
-updated_ok None now u dataset s written is jobs can few bytes held objects cells joint put first = tt
-updated_ok (Some m) now u dataset s written is jobs can few bytes held objects cells joint put first =
+pub updated_in : (o now : Option Objects) (u : updater.Updates) (dataset : List ℕ) (s : Scale) (answer : Result Written WriteFault) (result : Result Written UpdateFault) → result ≡ update_of answer → IsOf u dataset s → IfSome o (λ m. HasUpdateJobs m u dataset s)
+    → IsWritable s → length (cells_of u.held) ≤ 2 ^ 22 → All (λ (write : Box3 × List ℕ). AreBytes write.1) u.writes → IfSome o HaveBytes → IfSome o (λ m. Wrote dataset (work_of u) m now answer) → IfSome o (λ m. Updates result m now dataset s u.writes)
+updated_in None now u dataset s answer result same is jobs can few bytes held wrote = tt
+updated_in (Some m) now u dataset s answer result same is jobs can few bytes held wrote =
     let count = updater_count m u dataset s is jobs in
-    stored m u dataset s is jobs written now (record { few = omega (arith, few, count); writable = can; written = bytes; held = held }) objects cells (joint tt) put first
-
-pub updated_front : (o now : Option Objects) (u : updater.Updates) (dataset : List ℕ) (s : Scale) → IsOf u dataset s → IfSome o (λ m. HasUpdateJobs m u dataset s) → PutsSome dataset (work_of u) o now
-    → spared.SparesFaulty dataset (work_of u) o now → IfSome o (λ m. PutsUpdateFront m now dataset s u.writes)
-updated_front None now u dataset s is jobs front spares = tt
-updated_front (Some m) now u dataset s is jobs front spares = front_of m u dataset s is jobs now front spares
-
-pub updated_damaged : (o now : Option Objects) (u : updater.Updates) (dataset : List ℕ) (s : Scale) (cell : List ℕ) (refusal : WriteFault) (fault : Fault) → IsOf u dataset s → IfSome o (λ m. HasUpdateJobs m u dataset s)
-    → PutsSome dataset (work_of u) o now → spared.SparesFaulty dataset (work_of u) o now → refusal ≡ writes.Damaged cell fault → IfSome o (λ m. WritesAll {A = Written} (Err refusal) (first_of_jobs (work_of u) m))
-    → IfSome o (λ m. Updates (Err (Damaged cell fault)) m now dataset s u.writes)
-updated_damaged None now u dataset s cell refusal fault is jobs front spares same first = tt
-updated_damaged (Some m) now u dataset s cell refusal fault is jobs front spares same first =
-    let told : first_of_jobs (work_of u) m ≡ Some (cell, fault) = subst (λ r. WritesAll {A = Written} (Err r) (first_of_jobs (work_of u) m)) same first in
-    (sym (updater_fault m u dataset s is jobs) ∙ told, front_of m u dataset s is jobs now front spares)
+    subst (λ r. Updates r m now dataset s u.writes) (sym same)
+    (updated_wrote m u dataset s is jobs now (record { few = omega (arith, few, count); writable = can; written = bytes; held = held }) answer wrote)
 
 pub apart_in : (o : Option Objects) (u : updater.Updates) (dataset : List ℕ) (s : Scale) → IsOf u dataset s → IfSome o (λ m. IsApart u dataset s)
 apart_in None u dataset s is = tt

@@ -14,6 +14,8 @@ use Rattle.copier.specs.Held.{cells_of}
 use Rattle.kept_cells.specs.declared.fault.KeepRefusal.{KeepRefusal}
 use Rattle.kept_cells.specs.declared.fault.KeepRefusal.TheVariants as keeps
 use Rattle.shard_writer.specs.Writing.{BeginsNext, Drops, PutsFront, joint_len}
+use Rattle.shard_writer.specs.declared.written.WriteFault.{WriteFault}
+use Rattle.shard_writer.specs.declared.written.WriteFault.TheVariants as writes
 use Rattle.shard_writer.specs.declared.written.Written.{Written}
 use Rattle.update_laws.specs.Judged.{refusal_in}
 use Rattle.update_laws.specs.Judged.Refusal.{BadShard as BadShardOf, TooManyCells as TooManyOf}
@@ -76,6 +78,12 @@ IsLate (Damaged cell fault) = Unit {0}
 IsLate StoreFault = Unit {0}
 IsLate OutOfMemory = Unit {0}
 IsLate other = ⊥
+
+-- what a fault of writing is
+abbrev pub unwritten : WriteFault → UpdateFault
+unwritten writes.StoreFault = StoreFault
+unwritten (writes.Damaged cell fault) = Damaged cell fault
+unwritten writes.OutOfMemory = OutOfMemory
 
 -- what putting the objects answers over objects that are told
 abbrev pub Updates : Result Written UpdateFault → Objects → Option Objects → Name → Scale → Writes → Type 0

@@ -10,9 +10,10 @@ ghost use Rattle.update_cmd.specs.Updating.{DropsOrUpdates, HasUpdateJobs, IsLat
 
 use crate::UpdateFault;
 use command_base::Crew;
-use shard_writer::{WriteFault, Written, write_scale};
+use shard_writer::Written;
 use std::sync::Wait;
 use std::thread::Threads;
+use told_writer::write_told;
 use updater::Updater;
 use vol_base::{Gate, Name, Store};
 use vol_spec::Scale;
@@ -43,19 +44,6 @@ pub(crate) fn put_updates<R: Threads + Wait + Sync, S: Store, G: Gate + Sync>(
     ensures unsharded { scale.now.sharding ≡ None → Drops (S.draft store.old) (S.draft store.new) }
     ensures cause { HasCauseOf UpdateFault.StoreFault (S.faults store.old) (S.faults store.new) result }
 {
-    match write_scale(
-        crew.rt,
-        crew.alloc,
-        store,
-        dataset,
-        scale,
-        updater,
-        crew.workers,
-        crew.gate,
-    ) {
-        Ok(written) => Ok(written),
-        Err(WriteFault::StoreFault) => Err(UpdateFault::StoreFault),
-        Err(WriteFault::Damaged { cell, fault }) => Err(UpdateFault::Damaged { cell, fault }),
-        Err(WriteFault::OutOfMemory) => Err(UpdateFault::OutOfMemory),
-    }
+    let written = write_told(crew, store, dataset, scale, updater)?;
+    Ok(written)
 }

@@ -15,8 +15,10 @@ use Rattle.cutout_cmd.specs.Cutouts.{cells_cost}
 use Rattle.downsample_cmd.proofs.DownsampleSteps.{memory_right as memory_reduces}
 use Rattle.generate_cmd.proofs.DrawnSteps.{memory_right as memory_generates}
 use Rattle.generate_cmd.specs.declared.refusal.GenerateRefusal.TheVariants as generate
-use Rattle.reshard_cmd.proofs.ReshardSteps.{draft_kept, memory_right as memory_copies}
-use Rattle.reshard_cmd.specs.declared.refusal.ReshardRefusal.TheVariants as reshard
+use Rattle.make_scale.proofs.StoredSteps.{draft_kept}
+use Rattle.make_scale.specs.declared.fault.MakeFault.TheVariants.{OutOfMemory as MakeMemory}
+use Rattle.make_scale.specs.declared.refusal.MakeRefusal.TheVariants.{Unmade}
+use Rattle.reshard_cmd.proofs.ReshardSteps.{memory_right as memory_copies}
 use Rattle.serve_cmd.specs.Servings.{IsBoundTo}
 use Rattle.update_cmd.proofs.AnswerSteps.{drops_unread, memory_right as memory_updates}
 use Rattle.update_cmd.specs.declared.refusal.UpdateRefusal.TheVariants as update
@@ -41,9 +43,9 @@ memory_answers (Some (Generate dataset key number writes workers)) before err co
     (Err (generate.Write write.NoMemory), memory_generates before.objects number writes dataset key, (refl, inl (refl, said)))
 memory_answers (Some (Verify dataset key part)) before err count unbound said = (Err verify.NoMemory, memory_verifies before.objects dataset key part, (refl, inl (refl, said)))
 memory_answers (Some (Reshard dataset key to_dataset to_key workers)) before err count unbound said =
-    (Err reshard.NoMemory, memory_copies before.objects before.objects dataset key to_dataset to_key refl, (refl, inl (refl, said)))
+    (Err (Unmade MakeMemory), memory_copies before.objects before.objects dataset key to_dataset to_key refl, (refl, inl (refl, said)))
 memory_answers (Some (Downsample dataset key to_key method workers)) before err count unbound said =
-    (Err reshard.NoMemory, memory_reduces before.objects before.objects method dataset key to_key refl, (refl, inl (refl, said)))
+    (Err (Unmade MakeMemory), memory_reduces before.objects before.objects method dataset key to_key refl, (refl, inl (refl, said)))
 memory_answers (Some (Serve dataset port connections)) before err count unbound said = (
   (subst (IsBoundTo port) (sym unbound) tt, inl refl, said),
   in_told before.door.served _ (λ list noted. ([], noted ∙ ap Some (sym (nothing_behind list)), omega arith)),

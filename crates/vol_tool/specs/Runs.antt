@@ -19,7 +19,8 @@ use Rattle.update_cmd.specs.Answering.{CanBeUpdated, DropsOrPuts, Updated, Updat
 use Rattle.update_cmd.specs.Answering as update
 use Rattle.generate_cmd.specs.Generating.{CanGenerate, drawn, Generated}
 use Rattle.verify_cmd.specs.Verified.{AsksTwice, CanVerify, Verified}
-use Rattle.reshard_cmd.specs.Copying.{CanReshard, CopiedBack, DropsOrReshards, DropsUnsharded, Resharded}
+use Rattle.make_scale.specs.Stored.{DropsUnsharded}
+use Rattle.reshard_cmd.specs.Copying.{CanReshard, CopiedBack, DropsOrReshards, Resharded}
 use Rattle.downsample_cmd.specs.Answering.{CanDownsample, Downsampled, DropsOrDownsamples, ReducedBack}
 use Rattle.serve_cmd.specs.Servings.{AcceptsEnds, NotesEnds, ServeLeaves, ServeShows, TellsFirst}
 use Rattle.vol_tool.specs.Seen.{Faults, IsLater, LeavesStore, outlets, Seen}

@@ -1,36 +1,6 @@
-use Rattle.command_base.proofs.Choices.{err_is}
-use Rattle.reshard_cmd.specs.Refusals.{reshard_without}
-use Rattle.reshard_cmd.proofs.BegunSteps.{source_begun}
-use Rattle.reshard_cmd.proofs.MakingSteps.{source_made, unsourced}
-use Rattle.reshard_cmd.proofs.ReshardSteps.{source_drops, target_kept}
-use Rattle.reshard_cmd.specs.Copying.{told_copy}
-use Rattle.reshard_cmd.specs.Resharding.{copy_list}
-use Rattle.shard_writer.specs.Writing.{BeginsNext}
+use Rattle.reshard_cmd.proofs.ReshardSteps.{copied_stored}
 use Rattle.reshard_cmd.proofs.command.copy_stored.Goals as goal
 
 pub returns-clause-copies : goal.returns-clause-copies
 returns-clause-copies g c =
-    source_made (λ m from to. told_copy m (g.S.Source.objects c.copy_into.new.store) c.args.from_dataset.now from c.args.to_dataset.now to) (g.S.Source.objects c.args.store.now) (g.S.Source.objects c.copy_into.new.store) c.args.to_dataset.now c.copy_into.result (g.S.Source.objects c.read_scale.new.store) c.args.from_dataset.now c.args.from_key.now
-    c.args.to_key.now c.in_ok-from.from c.read_scale.ensures.kept.same_objects c.in_ok-from.ensures.read c.copy_into.ensures.copies
-
-pub returns-in_err-from-clause-copies : goal.returns-in_err-from-clause-copies
-returns-in_err-from-clause-copies g c =
-    let is = err_is c.from_residual.result (reshard_without c.in_err-from.field-0.0) c.from_residual.ensures.1 in
-    unsourced (λ m from to. told_copy m (g.S.Source.objects c.read_scale.new.store) c.args.from_dataset.now from c.args.to_dataset.now to) (g.S.Source.objects c.args.store.now) (g.S.Source.objects c.read_scale.new.store) c.args.to_dataset.now c.from_residual.result c.in_err-from.field-0.0 c.args.from_dataset.now c.args.from_key.now c.args.to_key.now
-    is c.read_scale.ensures.kept.same_objects c.in_err-from.ensures.read
-
-pub returns-clause-unsharded : goal.returns-clause-unsharded
-returns-clause-unsharded g c =
-    source_drops (g.S.Source.objects c.args.store.now) (g.S.Source.objects c.read_scale.new.store) c.args.to_dataset.now c.args.to_key.now (g.S.Source.draft c.args.store.now) (g.S.Source.draft c.read_scale.new.store)
-    (g.S.Source.draft c.copy_into.new.store) c.read_scale.ensures.kept.same_objects c.read_scale.ensures.kept.same_draft c.copy_into.ensures.unsharded
-
-pub returns-in_err-from-clause-unsharded : goal.returns-in_err-from-clause-unsharded
-returns-in_err-from-clause-unsharded g c =
-    target_kept (g.S.Source.objects c.args.store.now) c.args.to_dataset.now c.args.to_key.now (g.S.Source.draft c.args.store.now) (g.S.Source.draft c.read_scale.new.store) c.read_scale.ensures.kept.same_draft
-
-pub returns-clause-begun : goal.returns-clause-begun
-returns-clause-begun g c =
-    source_begun (λ m from to. BeginsNext (copy_list m c.args.from_dataset.now from c.args.to_dataset.now to) m (g.S.Source.objects c.copy_into.new.store) (g.S.Source.draft c.copy_into.new.store))
-    (g.S.Source.objects c.args.store.now) (g.S.Source.objects c.read_scale.new.store) c.args.from_dataset.now c.args.from_key.now c.args.to_dataset.now c.args.to_key.now c.in_ok-from.from
-    (g.S.Source.draft c.args.store.now) (g.S.Source.draft c.read_scale.new.store) (g.S.Source.draft c.copy_into.new.store)
-    c.read_scale.ensures.kept.same_objects c.read_scale.ensures.kept.same_draft c.in_ok-from.ensures.read c.copy_into.ensures.begun
+    copied_stored (g.S.Source.objects c.args.store.now) (g.S.Source.objects c.make_stored.new.store) c.make_stored.result c.args.from_dataset.now c.args.from_key.now c.args.to_dataset.now c.args.to_key.now c.make_stored.ensures.makes

@@ -1,0 +1,5 @@
+pub mod Judging
+pub mod Lines
+pub mod Making
+pub mod Refusals
+pub mod Stored
