@@ -1,6 +1,7 @@
 # For the scripts beside it, each of which runs the program that it calls $name in the current directory, and has the functions
 # tell_commands and tell_words; $name and the words are told the latter. Without words, or with --help, -h or help, the commands are
-# told; with --build alone the program is only built. Where standard error is a terminal, a line of help follows the statuses 1, 5 and 9.
+# told; with --build alone the program is only built, and with --built alone status 0 says that it is there and no source is newer.
+# Where standard error is a terminal, a line of help follows the statuses 1, 5 and 9.
 #
 # In a checkout the program is built first where it isn't built yet, or where a source is newer; what the build says goes to
 # standard error. Status 125: it can't be built; a program that was there stays. What ./install puts down has the program beside it.
@@ -29,13 +30,12 @@ put_back() {
     if [ -x "$program" ]; then rm -f "$old"; elif [ -x "$old" ]; then mv -f "$old" "$program"; fi
 }
 
-# `rt run` proves, links and runs the program; the build stands where the program is there afterwards. What the program then
-# says, called without words, isn't told.
+# Proves, links and puts the program there, side by side; it says how far it is.
 build() {
-    echo "bin/$name: building, which takes half an hour or more the first time" >&2
+    echo "bin/$name: building, which takes half an hour on four processors the first time" >&2
     trap 'put_back; exit 125' INT TERM HUP
     [ ! -x "$program" ] || mv -f "$program" "$old"
-    (cd "$crate" && rt run) </dev/null 2>&1 | sed -u '/^usage$/d' >&2
+    "$root/bin/build_program" "$name" </dev/null >&2
     [ -x "$program" ]
     built=$?
     put_back
@@ -79,6 +79,10 @@ run_program() {
     esac
     # A build that was killed left this to do.
     [ "$program" = "$installed" ] || put_back
+    if [ "$*" = --built ]; then
+        is_stale && exit 1
+        exit 0
+    fi
     if is_stale && ! build; then
         echo "bin/$name: the program can't be built" >&2
         exit 125

@@ -14,14 +14,24 @@ TELLS = '#!/bin/sh\necho "{}:$*"\npwd\nexit 3\n'
 OLD = TELLS.format("old")
 ENDS = '#!/bin/sh\nexit "$(cat "$(dirname "$0")/status")"\n'
 
-# Stand-ins for `rt`: each notes that it was called.
+# Stand-ins for `rt`: each notes that it was called to link a program, whose crates are proved before it.
 BUILDS = """#!/bin/sh
+[ "$1" = all ] && { printf '== %s\\n' low "$(basename "$PWD")"; exit; }
 echo called >>"$CALLS"
 program=out/$(basename "$PWD")
 printf '%s\\n' '#!/bin/sh' 'echo "new:$*"' pwd 'exit 3' >$program
 chmod +x $program
 """
 FAILS = '#!/bin/sh\necho called >>"$CALLS"\necho refused\nexit 1\n'
+
+# One that has the program's bytes, where they are asked for by the first example's words, and what it writes.
+TRIES = """#!/bin/sh
+[ "$1" = try ] || exit 2
+for word in "$@"; do case $word in d/*=*) [ -s "${{word#*=}}" ] || exit 2 ;; esac; done
+printf '{bytes}'
+echo 'proved=no' >&2
+exit {status}
+"""
 
 DEMO = """vol_tool cutout d s '[0:4,0:4,0:4]'
 {first}
@@ -87,20 +97,26 @@ class Tree:
             shutil.copy2(ROOT / script, folder)
         self.program = folder / f"crates/{name}/out/{name}"
         self.program.parent.mkdir(parents=True)
-        (folder / f"crates/{name}/source.rt").touch()
-        (folder / "crates.txt").touch()
+        (folder / f"crates/{name}/src").mkdir()
+        (folder / f"crates/{name}/src/main.rt").touch()
+        (folder / "crates.txt").write_text(f"# from the ground up\nlow:\n{name}: low other\nabove: low {name}\n")
         for path, text in ("tools/rt", builder), (self.program, program), (f"{self.program}.old", aside):
             if text is not None:
                 put_program(folder / path, text)
         if is_old:
             os.utime(self.program, (1, 1))
+        self.path = f"{self.folder / 'tools'}:{os.environ['PATH']}"
 
     def call(self, *words):
         """What the script says with some words, and how often a build was called for."""
+        status, out, _, count = self.call_whole(*words)
+        return status, out, count
+
+    def call_whole(self, *words):
+        """The same, and what it says on the error output."""
         calls = self.folder / "calls"
-        path = f"{self.folder / 'tools'}:{os.environ['PATH']}"
-        status, out, _ = call([self.folder / "bin" / self.name, *words], self.folder / "tools", PATH=path, CALLS=str(calls))
-        return status, out, len(calls.read_text().splitlines()) if calls.exists() else 0
+        status, out, errors = call([self.folder / "bin" / self.name, *words], self.folder / "tools", PATH=self.path, CALLS=str(calls))
+        return status, out, errors, len(calls.read_text().splitlines()) if calls.exists() else 0
 
     def wants_call(self, name, count):
         """The program of this name is run, after so many builds, or none."""
@@ -161,14 +177,42 @@ def installs(trial):
         want_true((prefix / name).is_file(), f"{name} is missing")
 
 
+def tells_how_far_it_is(trial):
+    tree = Tree(trial.folder, builder=BUILDS)
+    status, out, errors, count = tree.call_whole("--build")
+    want((status, out, count), (0, "", 1))
+    want_true("proved 2 of 2 crates, 0 minutes\n" in errors, f"no line says how far it is: {errors!r}")
+    want(tree.call("--built"), (0, "", 1))
+
+
+def tells_what_is_built(trial):
+    for name, stands, status in ("none", {}, 1), ("old", {"program": OLD, "is_old": True}, 1), ("new", {"program": OLD}, 0):
+        want(Tree(trial.folder / name, **stands).call("--built"), (status, "", 0), name)
+
+
+def lines_of(*rows):
+    return "\n".join("".join(f" {number:3d}" for number in row) for row in rows)
+
+
+FIRST = [[x + 10 * y + 60 * z for x in range(4)] for z in range(4) for y in range(4)]
+
+
 def runs_the_demo(trial):
     tree = Tree(trial.folder)
     shutil.copy2(trial.program, tree.program)
     tree.program.touch()
-    first = [[x + 10 * y + 60 * z for x in range(4)] for z in range(4) for y in range(4)]
     second = [[int(value) * scale for value in row] for scale in (1, 10) for row in ROWS]
-    first, second = ("\n".join("".join(f" {number:3d}" for number in line) for line in lines) for lines in (first, second))
-    want(call([trial.folder / "demo"], trial.folder), (0, DEMO.format(first=first, second=second), ""))
+    want(call([trial.folder / "demo"], trial.folder), (0, DEMO.format(first=lines_of(*FIRST), second=lines_of(*second)), ""))
+
+
+def demo_without_a_program(trial, values, status, wanted):
+    """What the demo ends with where nothing is built, and the program, compiled without proof, says these values with a status."""
+    builder = TRIES.format(bytes="".join(f"\\{value:03o}" for row in values for value in row), status=status)
+    tree = Tree(trial.folder, builder=builder)
+    found, out, errors = call([trial.folder / "demo"], trial.folder, PATH=f"{trial.folder / 'tools'}:/usr/bin:/bin")
+    want(found, wanted, errors)
+    want_true((lines_of(*FIRST) in out) == (wanted == 0), f"it shows {out!r}")
+    want_true(("WITHOUT ITS PROOF" in out) == (wanted == 0), f"it says {out!r}")
 
 
 def rows():
@@ -178,7 +222,12 @@ def rows():
         yield f"{name}: no words, and words that ask for help", tells_the_commands, name
         yield f"{name}: a line of help on a terminal", helps_on_a_terminal, name
     yield "installed programs, the checkout gone", installs
+    yield "a line says how far a build is", tells_how_far_it_is
+    yield "whether a program is built", tells_what_is_built
     yield "the demo", runs_the_demo
+    yield "the demo without a program", demo_without_a_program, FIRST, 0, 0
+    yield "the demo without a program, whose bytes are wrong", demo_without_a_program, [[1, *FIRST[0][1:]], *FIRST[1:]], 0, 1
+    yield "the demo without a program, that can't be compiled", demo_without_a_program, [], 2, 1
 
 
 if __name__ == "__main__":
