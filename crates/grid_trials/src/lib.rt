@@ -29,8 +29,6 @@ mod vectors_vol_rows;
 #[cfg(test)]
 mod view_judge_rows;
 #[cfg(test)]
-mod vol_plain_rows;
-#[cfg(test)]
 mod voxel_raw_rows;
 #[cfg(test)]
 mod write_plan_rows;

@@ -1,9 +1,10 @@
 //! What was written last is read back.
+ghost use Rattle.std.specs.Prelude.{◌<◌};
 
-use crate::plain::{compare, number_of, place_of};
 use crate::volumes::{
     LABELS, RAW, RAW_TWICE, SEGMENTED, SHARDED, Volume, Write, byte_at, find_scale, written,
 };
+use chunk_grid::byte_len;
 use cutout_cmd::run_cutout;
 use info_doc::Scale;
 use memory_rows::{name_of, outlet_of};
@@ -14,7 +15,6 @@ use std::test::Fail;
 use std::thread::Threads;
 use verify_cmd::run_verify;
 use vol_base::Box3;
-use vol_plain::covers;
 
 // Parts of all volumes: whole ones, and parts across cells, blocks and planes.
 const PARTS: [(&Volume, &str); 10] = [
@@ -41,6 +41,42 @@ fn value_at(write: &Write, place: u64, width: u32) -> u64 {
     number
 }
 
+// The position and the channel of the n-th value of a box.
+fn place_of(part: &Box3, n: u64) -> ([i64; 3], u64) {
+    let [x, y, z] = [
+        part.size[0].max(1),
+        part.size[1].max(1),
+        part.size[2].max(1),
+    ];
+    let position = [
+        part.begin[0].saturating_add_unsigned(n % x),
+        part.begin[1].saturating_add_unsigned(n / x % y),
+        part.begin[2].saturating_add_unsigned(n / x / y % z),
+    ];
+    (position, n / x / y / z)
+}
+
+// The number that bytes spell, the lowest first.
+fn number_of(bytes: &[u8]) -> u64 {
+    let mut number = 0u64;
+    for byte in bytes.iter().rev() {
+        number = number.wrapping_mul(256).wrapping_add(*byte as u64);
+    }
+    number
+}
+
+fn covers_on(part: &Box3, p: [i64; 3], axis: usize) -> bool
+    requires { axis < 3 }
+{
+    let begin = part.begin[axis];
+    begin <= p[axis] && p[axis].abs_diff(begin) < part.size[axis]
+}
+
+// Whether a box has a position.
+fn covers(part: &Box3, p: [i64; 3]) -> bool {
+    covers_on(part, p, 0) && covers_on(part, p, 1) && covers_on(part, p, 2)
+}
+
 // How many positions of a write, x fastest, are before one.
 fn place_in(part: &Box3, p: [i64; 3], c: u64) -> u64 {
     let x = p[0].abs_diff(part.begin[0]);
@@ -61,7 +97,10 @@ fn last_value(writes: &[Write], p: [i64; 3], c: u64, width: u32) -> u64 {
     0
 }
 
+// Bytes are all values of a part, each the one that was written last.
 fn compare_last(rt: &impl Abort, scale: &Scale, writes: &[Write], part: &Box3, bytes: &[u8]) {
+    let len = byte_len(part, scale.channels, scale.width);
+    assert_eq!(rt; bytes.len() as u128, len);
     let width = scale.width.max(1) as usize;
     for (n, value) in bytes.chunks(width).enumerate() {
         let (p, c) = place_of(part, n as u64);
@@ -70,7 +109,7 @@ fn compare_last(rt: &impl Abort, scale: &Scale, writes: &[Write], part: &Box3, b
     }
 }
 
-// A cutout of a part of a volume has what was written last, and what the plain program reads.
+// A cutout of a part of a volume has what was written last.
 fn check_part<R: Threads + Wait + Abort + Sync>(
     rt: &R,
     alloc: Global,
@@ -93,7 +132,6 @@ fn check_part<R: Threads + Wait + Abort + Sync>(
         &part,
     );
     assert_eq!(rt; status.number(), 0, "at {text}");
-    compare(rt, &store, &dataset, &scale, &part, out.written());
     compare_last(rt, &scale, volume.writes, &part, out.written());
     Ok(())
 }

@@ -1,4 +1,4 @@
-//! Rows of servers, of what is read from them, and of the plain programs beside them. They stand here and not in their crates since
+//! Rows of servers, and of what is read from them. They stand here and not in their crates since
 //! `rt ci` proves a crate once more for its tests.
 #![tactic(auto)]
 
@@ -8,10 +8,6 @@ mod hall_rows;
 mod local_store;
 #[cfg(test)]
 mod peer_dial_rows;
-#[cfg(test)]
-mod plain_client_rows;
-#[cfg(test)]
-mod plain_server_rows;
 #[cfg(test)]
 mod random;
 #[cfg(test)]

@@ -1,2 +1,0 @@
-mod FieldSteps
-mod PlainSteps

@@ -1,3 +1,0 @@
-mod PlainSteps
-mod NextSteps
-mod HeadSteps
