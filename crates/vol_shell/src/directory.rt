@@ -446,7 +446,7 @@ fn search_below<R: Files + AllocGlobal + Clone + Drop>(
 }
 
 impl<R: Files<File = File>> Source for DirStore<R> {
-    ghost use Rattle.std.specs.Prelude.{None};
+    ghost use Rattle.std.specs.Prelude.{[], None};
     ghost use Rattle.vol_base.specs.Causes.{counted, is_count};
     ghost use Rattle.vol_shell.specs.Tallies.{draft_of};
 
@@ -535,90 +535,6 @@ impl<R: Files<File = File> + AllocGlobal + Clone + Drop> Store for DirStore<R> {
             count_fault(&mut self.faults);
             return Err(StoreRefusal::Failed);
         }
-        Ok(())
-    }
-}
-
-#[cfg(test)]
-mod tests {
-    use super::*;
-    use std::test::Fail;
-
-    fn name_of(path: &str) -> Result<Name, Fail> {
-        Ok(Name::new(path.as_bytes()).ok_or("a name")?)
-    }
-
-    // Puts an object of six bytes: in two pieces, with two bytes in the middle overwritten.
-    fn put_patched(store: &mut DirStore<HostRuntime>, name: &Name) -> Result<(), StoreRefusal> {
-        store.begin(name)?;
-        store.append(b"abcd")?;
-        store.append(b"ef")?;
-        store.patch_front(2, b"XY")?;
-        store.finish()
-    }
-
-    #[test]
-    fn puts_objects_in_place_of_older_ones(rt: HostRuntime) -> Result<(), Fail> {
-        let mut store = DirStore::new(rt);
-        let folder = name_of("d")?;
-        let object = name_of("d/s/0-1")?;
-        store.begin(&object)?;
-        assert!(rt; fs::metadata(&rt, "d/s/0-1.part").is_ok());
-        assert_eq!(rt; store.size(&object), Ok(None));
-        assert_eq!(rt; store.any_under(&folder), Ok(false));
-        store.begin(&name_of("d/s/1-2")?)?;
-        assert!(rt; fs::metadata(&rt, "d/s/0-1.part").is_err());
-        fs::write(&rt, "d/s/0-1", b"an older object")?;
-        put_patched(&mut store, &object)?;
-        assert_eq!(rt; store.size(&object), Ok(Some(6)));
-        assert_eq!(rt; store.any_under(&folder), Ok(true));
-        for part in ["d/s/0-1.part", "d/s/1-2.part"] {
-            assert!(rt; fs::metadata(&rt, part).is_err(), "at {part}");
-        }
-        assert_eq!(rt;
-            store.begin(&name_of("d/s/0-1/x")?),
-            Err(StoreRefusal::Failed)
-        );
-        assert_eq!(rt; store.begin(&name_of("x.part")?), Err(StoreRefusal::Failed));
-        Ok(())
-    }
-
-    #[test]
-    fn reads_what_the_file_holds(rt: HostRuntime) -> Result<(), Fail> {
-        let mut store = DirStore::new(rt);
-        let object = name_of("e/0-1")?;
-        put_patched(&mut store, &object)?;
-        for (at, wanted) in [(0, "abXYef"), (2, "XYef"), (5, "f"), (6, ""), (7, "")] {
-            let mut found = [b'.'; 6];
-            let got = store.read_at(&object, at, &mut found);
-            assert_eq!(rt; got, Ok(Got::Bytes(wanted.len() as u64)), "at {at}");
-            assert!(rt; found.starts_with(wanted.as_bytes()), "at {at}");
-        }
-        fs::write(&rt, "e/0-1", b"ab")?;
-        let mut found = [b'.'; 6];
-        assert_eq!(rt; store.read_at(&object, 0, &mut found), Err(Failed));
-        assert_eq!(rt; store.faults, 1);
-        assert_eq!(rt; store.read_at(&object, 0, &mut found), Ok(Got::Bytes(2)));
-        Ok(())
-    }
-
-    #[test]
-    fn tells_the_size_of_the_file_that_stands_there(rt: HostRuntime) -> Result<(), Fail> {
-        let mut store = DirStore::new(rt);
-        let object = name_of("f/0-1")?;
-        put_patched(&mut store, &object)?;
-        assert_eq!(rt; store.size(&object), Ok(Some(6)));
-        fs::write(&rt, "f/1-2", b"newer!")?;
-        fs::rename(&rt, "f/1-2", "f/0-1")?;
-        assert_eq!(rt; store.size(&object), Ok(Some(6)));
-        let mut found = [b'.'; 6];
-        assert_eq!(rt; store.read_at(&object, 0, &mut found), Ok(Got::Bytes(6)));
-        assert_eq!(rt; found, *b"newer!");
-        fs::write(&rt, "f/0-1", b"longer than that")?;
-        assert_eq!(rt; store.size(&object), Ok(Some(16)));
-        fs::remove_file(&rt, "f/0-1")?;
-        assert_eq!(rt; store.size(&object), Ok(None));
-        assert_eq!(rt; store.faults, 0);
         Ok(())
     }
 }

@@ -16,6 +16,6 @@ pub use door::TcpDoor;
 pub use lines::{
     DOOR_LINE, FEED_LINE, FOLDER_LINE, MEMORY_LINE, OUTPUT_LINE, STORE_LINE, USAGE_LINE, tell_lines,
 };
-pub use link::TcpLink;
+pub use link::{Limits, TcpLink};
 pub use output::say;
 pub use streams::{NoDoor, NoLink, StdFeed, StdOutlet};
