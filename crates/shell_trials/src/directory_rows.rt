@@ -1,4 +1,5 @@
 //! Objects below a real folder.
+use std::os::unix::fs::{MetadataExt, symlink};
 use std::test::Fail;
 use std::{fs, io};
 use vol_base::{Failed, Got, Name, Source, Store, StoreRefusal};
@@ -77,5 +78,53 @@ fn tells_the_size_of_the_file_that_stands_there(rt: HostRuntime) -> Result<(), F
     assert_eq!(rt; store.size(&object), Ok(Some(16)));
     fs::remove_file(&rt, "f/0-1")?;
     assert_eq!(rt; store.size(&object), Ok(None));
+    Ok(())
+}
+
+// What an earlier run may have left in the place of the file that is to be written: a link that leads somewhere.
+#[derive(Clone, Copy, Debug)]
+enum Leftover {
+    Symbolic(&'static str),
+    Hard(&'static str),
+}
+
+use Leftover::{Hard, Symbolic};
+
+fn leave(rt: &HostRuntime, leftover: Leftover, path: &str) -> io::Result<()> {
+    match leftover {
+        Symbolic(target) => symlink(rt, target, path),
+        Hard(target) => fs::hard_link(rt, target, path),
+    }
+}
+
+// The object is right, and nothing is left of a link.
+fn holds_alone(rt: &HostRuntime, path: &str) -> io::Result<bool> {
+    let found = fs::symlink_metadata(rt, path)?;
+    let is_alone = found.is_file() && found.nlink() == 1;
+    Ok(is_alone && fs::read(rt, path)?.as_slice() == b"abXYef".as_slice())
+}
+
+// What a link leads to keeps its bytes, whether it is another object or no object at all.
+#[test]
+fn unlinks_leftovers_that_are_links(rt: HostRuntime) -> Result<(), Fail> {
+    let mut store = DirStore::new(rt);
+    let object = name_of("g0-1")?;
+    for led_to in ["foreign", "g1-2"] {
+        for leftover in [Symbolic(led_to), Hard(led_to)] {
+            fs::write(&rt, led_to, b"that stays")?;
+            leave(&rt, leftover, "g0-1.part")?;
+            put_patched(&mut store, &object)?;
+            assert!(rt; holds_alone(&rt, "g0-1")?, "at {leftover:?}");
+            assert!(rt;
+                fs::symlink_metadata(&rt, "g0-1.part").is_err(),
+                "at {leftover:?}"
+            );
+            assert_eq!(rt;
+                fs::read(&rt, led_to)?.as_slice(),
+                b"that stays".as_slice(),
+                "at {leftover:?}"
+            );
+        }
+    }
     Ok(())
 }

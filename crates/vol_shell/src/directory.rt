@@ -45,9 +45,12 @@ struct Unfinished {
 /// calls have no other answer for it. It tells nothing of what the files hold.
 ///
 /// The object that was read last stays open until another is asked for, or one is put, or its size is asked for and
-/// another file, or a longer or shorter one, stands in its place. An object is written to a file with `.part` behind
-/// its name, which is renamed at the end, in place of an older object. After a refusal, and where another object is
-/// begun, that file is removed, if the system lets it.
+/// another file, or a longer or shorter one, stands in its place.
+///
+/// An object is written to a file with `.part` behind its name, which is renamed at the end, in place of an older object.
+/// After a refusal, and where another object is begun, that file is removed, if the system lets it. What an earlier run
+/// left there, a file or a link of either kind, is unlinked and made anew, so that nothing that a link leads to is written;
+/// a folder there, or what is neither a file nor a link, is a fault.
 #[derive(Drop)]
 pub struct DirStore<R> {
     rt: R,
@@ -242,16 +245,37 @@ fn discard<R: Files>(rt: &R, unfinished: Unfinished) {
     let _ = fs::remove_file(rt, unfinished.path.as_str());
 }
 
-// Makes a file that is to be written, and the folders above it, or empties the one that stands there. What isn't a file
-// is told before it is opened, since an open would wait at a pipe.
-fn create_anyway<R: Files<File = File>>(rt: &R, path: &str) -> Result<File, Failed> {
-    if let Some((folder, _)) = path.rsplit_once('/') {
-        if fs::create_dir_all(rt, folder).is_err() {
-            return Err(Failed);
-        }
+// Makes a file where nothing stands at its path, not even a link, since what a link leads to isn't ours.
+fn create_new<R: Files<File = File>>(rt: &R, path: &str) -> io::Result<File> {
+    let mut options = OpenOptions::new();
+    options.write(true).create_new(true);
+    options.open(rt, path)
+}
+
+// Makes the folders above a path.
+fn make_folders<R: Files>(rt: &R, path: &str) -> Result<(), Failed> {
+    match path.rsplit_once('/') {
+        Some((folder, _)) if fs::create_dir_all(rt, folder).is_err() => Err(Failed),
+        _ => Ok(()),
     }
-    find(rt, path)?;
-    match fs::create(rt, path) {
+}
+
+// Removes the file or the link that stands at a path, where one does. All else that stands there is a fault. It is
+// neither opened nor followed: an open would wait at a pipe, and a write would go where a link leads.
+fn make_room<R: Files>(rt: &R, path: &str) -> Result<(), Failed> {
+    let is_free = match fs::symlink_metadata(rt, path) {
+        Ok(found) if found.is_file() || found.is_symlink() => fs::remove_file(rt, path).is_ok(),
+        Ok(_) => false,
+        Err(error) => tells_absence(&error),
+    };
+    if is_free { Ok(()) } else { Err(Failed) }
+}
+
+// Makes a file that is to be written, and the folders above it, in place of a file or a link that stands there.
+fn create_anyway<R: Files<File = File>>(rt: &R, path: &str) -> Result<File, Failed> {
+    make_folders(rt, path)?;
+    make_room(rt, path)?;
+    match create_new(rt, path) {
         Ok(file) => Ok(file),
         Err(_) => Err(Failed),
     }
@@ -259,9 +283,7 @@ fn create_anyway<R: Files<File = File>>(rt: &R, path: &str) -> Result<File, Fail
 
 // Makes a file that is to be written. Mostly its folder is there and it isn't, so that one call is enough.
 fn create_file<R: Files<File = File>>(rt: &R, path: &str) -> Result<File, Failed> {
-    let mut options = OpenOptions::new();
-    options.write(true).create_new(true);
-    match options.open(rt, path) {
+    match create_new(rt, path) {
         Ok(file) => Ok(file),
         Err(_) => create_anyway(rt, path),
     }
