@@ -78,6 +78,8 @@ fn door_of(rt: HostRuntime, address: Option<&'static str>, limit: u64) -> TcpDoo
         pause: Duration::from_millis(SHORT),
         send: Duration::from_millis(limit),
         draining: Duration::from_millis(SHORT),
+        retry: Duration::from_millis(SHORT),
+        shortage: Duration::from_millis(limit),
     };
     TcpDoor::with_limits(Host { rt, address }, limits)
 }

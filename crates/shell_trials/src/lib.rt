@@ -1,7 +1,9 @@
-//! Rows of vol_shell over real files and sockets, and over clocks and streams of their own. They stand here and not in
+//! Rows of vol_shell over real files and sockets, and over clocks, streams and a listener of their own. They stand here and not in
 //! their crate since `rt ci` proves a crate once more for its tests.
 #![tactic(auto)]
 
+#[cfg(test)]
+mod accept_rows;
 #[cfg(test)]
 mod directory_rows;
 #[cfg(test)]

@@ -93,6 +93,8 @@ fn limits() -> Limits {
         pause: Duration::from_millis(100),
         send: Duration::from_secs(1),
         draining: Duration::from_secs(2),
+        retry: Duration::from_millis(100),
+        shortage: Duration::from_secs(1),
     }
 }
 

@@ -2,12 +2,13 @@
 ghost use Rattle.std.specs.Prelude.{◌≡◌, ◌≢◌, None, IfOk};
 ghost use Rattle.std.specs.Net.Grammar.{IsIpText, Parses};
 
+use crate::accepts::next_stream;
 use crate::counts::count_fault;
 use crate::link::{Limits, TcpLink};
 use std::env::{Env, FillError};
 use std::io::{self, ErrorKind};
 use std::marker::Model;
-use std::net::{IpAddr, Ipv4Addr, Net, OpenListener, OpenStream, SocketAddr};
+use std::net::{IpAddr, Ipv4Addr, Net, OpenListener, SocketAddr};
 use std::time::{Clock, Duration};
 use vol_base::{Door, Failed};
 
@@ -29,6 +30,10 @@ struct Listening<L> {
 /// on, however its bytes come; and a shorter one, the pause, for the first byte behind a send, so that a peer that keeps an
 /// idle connection doesn't hold up the others. They send without delay. `close` first ends what is sent; then it drains
 /// what still comes, for one second and 64 KiB at most, so that the peer gets all that was sent.
+///
+/// Where the system has no descriptor or no memory left for the next connection, `accept` tries again every 100
+/// milliseconds, and fails after 20 seconds of that in a row: longer than a silent peer is waited for, so that silent peers
+/// alone end no server. A connection that fails before it was taken, or takes no limit, is passed over.
 #[derive(Drop)]
 pub struct TcpDoor<R: Net> {
     rt: R,
@@ -72,6 +77,8 @@ impl<R: Net> TcpDoor<R> {
                 pause,
                 send: Duration::from_secs(10),
                 draining: Duration::from_secs(1),
+                retry: Duration::from_millis(100),
+                shortage: Duration::from_secs(20),
             },
         )
     }
@@ -130,35 +137,6 @@ fn start<R: Net + Env>(rt: &R, port: u16) -> Result<Listening<R::Listener>, Fail
     }
 }
 
-// The next peer's stream. A peer that went before it was taken is passed over, and what a signal broke off is tried
-// again.
-fn next_stream<L: OpenListener>(listener: &L) -> io::Result<L::Stream> {
-    for _ in 0..u64::MAX {
-        match listener.accept() {
-            Ok((stream, _peer)) => return Ok(stream),
-            Err(error)
-                if matches!(
-                    error.kind(),
-                    ErrorKind::Interrupted | ErrorKind::ConnectionAborted
-                ) => {}
-            Err(error) => return Err(error),
-        }
-    }
-    Err(io::Error::from(ErrorKind::TimedOut))
-}
-
-// The next peer's stream, with a limit for each send.
-fn accept_stream<L>(listener: &L, send: Duration) -> io::Result<L::Stream>
-where
-    L: OpenListener,
-    L::Stream: OpenStream,
-{
-    let stream = next_stream(listener)?;
-    stream.set_nodelay(true)?;
-    stream.set_write_timeout(Some(send))?;
-    Ok(stream)
-}
-
 impl<R: Net + Clock + Env + Copy> Door for TcpDoor<R> {
     ghost use Rattle.vol_base.specs.Causes.{counted, is_count};
 
@@ -194,7 +172,7 @@ impl<R: Net + Clock + Env + Copy> Door for TcpDoor<R> {
     fn accept(&mut self) -> Result<TcpLink<R, R::Stream>, Failed> {
         let next = match &self.listening {
             Some(listening) if self.accepted < u64::MAX => {
-                accept_stream(&listening.listener, self.limits.send)
+                next_stream(&self.rt, &listening.listener, &self.limits)
             }
             _ => Err(io::Error::from(ErrorKind::NotConnected)),
         };

@@ -3,6 +3,7 @@
 //! door, and what stands for a door where none is wanted.
 #![tactic(auto)]
 
+mod accepts;
 mod counts;
 mod directory;
 mod door;

@@ -14,7 +14,7 @@ use vol_base::{Failed, Link};
 // How many bytes a connection that ends is drained of at most.
 const MOST_DRAINED: usize = 65536;
 
-/// How long a connection waits for its peer.
+/// How long a connection waits for its peer, and a door for its next connection. None is zero.
 #[derive(Clone, Copy)]
 pub struct Limits {
     /// For a whole head, from the accept or the last send on, however its bytes come.
@@ -25,6 +25,10 @@ pub struct Limits {
     pub send: Duration,
     /// For what still comes where the connection ends.
     pub draining: Duration,
+    /// For the next try to accept, where there is no descriptor or no memory left for a connection.
+    pub retry: Duration,
+    /// For such tries in a row, behind which the door fails.
+    pub shortage: Duration,
 }
 
 /// A stream of bytes both ways as a link, which tells nothing of what comes or was sent. What the stream has

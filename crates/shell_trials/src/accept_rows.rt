@@ -1,0 +1,266 @@
+//! A door over a clock and a listener of its own: what `accept` waits for, what it passes over, and where it fails.
+use std::cell::Cell;
+use std::env::{Env, FillError};
+use std::io::{self, ErrorKind, Read, Write};
+use std::net::{IpAddr, Ipv4Addr, Net, OpenListener, OpenStream, SocketAddr};
+use std::os::fd::{AsRawFd, RawFd};
+use std::process::Abort;
+use std::test::Fail;
+use std::time::{Clock, Duration};
+use vol_base::Door;
+use vol_shell::TcpDoor;
+
+// Linux's numbers of errors.
+const EINTR: i32 = 4;
+
+const EBADF: i32 = 9;
+
+const ENOMEM: i32 = 12;
+
+const ENFILE: i32 = 23;
+
+const EMFILE: i32 = 24;
+
+const EPROTO: i32 = 71;
+
+const ECONNABORTED: i32 = 103;
+
+const ENOBUFS: i32 = 105;
+
+// What a call of the listener gives: an error, or a stream, with whether it can be told not to delay, and to wait no longer for a
+// send.
+#[derive(Clone, Copy)]
+enum Given {
+    Error(i32),
+    Stream(bool, bool),
+}
+
+use Given::{Error, Stream};
+
+// A clock, and what the calls of the listener give, each so often; later ones give a stream.
+#[derive(Drop)]
+struct Course {
+    now: Cell<Duration>,
+    calls: Cell<u32>,
+    plan: &'static [(u32, Given)],
+}
+
+impl Course {
+    fn next(&self) -> Given {
+        let mut left = self.calls.get();
+        self.calls.set(left.saturating_add(1));
+        for (count, given) in self.plan {
+            if left < *count {
+                return *given;
+            }
+            left -= *count;
+        }
+        Stream(true, true)
+    }
+}
+
+// A stream that nothing comes from.
+#[derive(Drop)]
+struct Mute {
+    takes_no_delay: bool,
+    takes_limit: bool,
+}
+
+fn allow(is_allowed: bool) -> io::Result<()> {
+    if is_allowed {
+        Ok(())
+    } else {
+        Err(io::Error::from(ErrorKind::InvalidInput))
+    }
+}
+
+impl Read for Mute {
+    fn read(&mut self, _out: &mut [u8]) -> io::Result<usize> {
+        Ok(0)
+    }
+}
+
+impl Write for Mute {
+    fn write(&mut self, piece: &[u8]) -> io::Result<usize> {
+        Ok(piece.len())
+    }
+
+    fn flush(&mut self) -> io::Result<()> {
+        Ok(())
+    }
+}
+
+impl AsRawFd for Mute {
+    fn as_raw_fd(&self) -> RawFd {
+        -1
+    }
+}
+
+impl OpenStream for Mute {
+    fn set_nodelay(&self, _nodelay: bool) -> io::Result<()> {
+        allow(self.takes_no_delay)
+    }
+
+    fn set_write_timeout(&self, _limit: Option<Duration>) -> io::Result<()> {
+        allow(self.takes_limit)
+    }
+}
+
+// A host of a course, and its listener.
+#[derive(Clone, Copy, Drop)]
+struct Host<'a> {
+    course: &'a Course,
+    address: SocketAddr,
+}
+
+impl OpenListener for Host<'_> {
+    type Stream = Mute;
+
+    fn accept(&self) -> io::Result<(Mute, SocketAddr)> {
+        match self.course.next() {
+            Error(code) => Err(io::Error::from_raw_os_error(code)),
+            Stream(takes_no_delay, takes_limit) => Ok((
+                Mute {
+                    takes_no_delay,
+                    takes_limit,
+                },
+                self.address,
+            )),
+        }
+    }
+
+    fn local_addr(&self) -> io::Result<SocketAddr> {
+        Ok(self.address)
+    }
+}
+
+impl AsRawFd for Host<'_> {
+    fn as_raw_fd(&self) -> RawFd {
+        -1
+    }
+}
+
+impl<'a> Net for Host<'a> {
+    type Stream = Mute;
+
+    type Listener = Host<'a>;
+
+    fn bind(&self, _address: SocketAddr) -> io::Result<Host<'a>> {
+        Ok(*self)
+    }
+
+    fn connect(&self, _address: SocketAddr) -> io::Result<Mute> {
+        Err(io::Error::from(ErrorKind::Unsupported))
+    }
+}
+
+impl Clock for Host<'_> {
+    fn monotonic(&self) -> io::Result<Duration> {
+        Ok(self.course.now.get())
+    }
+
+    fn since_1970(&self) -> io::Result<Duration> {
+        Ok(self.course.now.get())
+    }
+
+    fn sleep(&self, duration: Duration) {
+        let now = self.course.now.get();
+        self.course.now.set(now.saturating_add(duration));
+    }
+}
+
+impl Env for Host<'_> {
+    fn arg(&self, _i: usize, _text: &mut [u8]) -> Result<usize, FillError> {
+        Err(FillError::NotPresent)
+    }
+
+    fn var(&self, _name: &str, _text: &mut [u8]) -> Result<usize, FillError> {
+        Err(FillError::NotPresent)
+    }
+
+    fn var_at(&self, _i: usize, _text: &mut [u8]) -> Result<usize, FillError> {
+        Err(FillError::NotPresent)
+    }
+}
+
+// Whether a door over a listener of this plan gives an end, and how many milliseconds that takes.
+fn accepts(plan: &'static [(u32, Given)]) -> Result<(bool, Duration), Fail> {
+    let course = Course {
+        now: Cell::new(Duration::ZERO),
+        calls: Cell::new(0),
+        plan,
+    };
+    let host = Host {
+        course: &course,
+        address: SocketAddr::new(IpAddr::V4(Ipv4Addr::LOCALHOST), 80),
+    };
+    let mut door = TcpDoor::new(host);
+    if door.listen(80).is_err() {
+        return Err("the door doesn't listen".into());
+    }
+    let is_given = door.accept().is_ok();
+    Ok((is_given, course.now.get()))
+}
+
+fn test_plans(rt: &impl Abort, rows: &[(&'static [(u32, Given)], bool, u64)]) -> Result<(), Fail> {
+    for (number, (plan, is_given, time)) in rows.iter().enumerate() {
+        let wanted = (*is_given, Duration::from_millis(*time));
+        assert_eq!(rt; accepts(plan)?, wanted, "at {number}");
+    }
+    Ok(())
+}
+
+// Every 100 milliseconds, for 20 seconds in a row.
+#[test]
+fn waits_for_descriptors_and_memory(rt: HostRuntime) -> Result<(), Fail> {
+    test_plans(
+        &rt,
+        &[
+            (
+                &[
+                    (1, Error(ENOMEM)),
+                    (1, Error(ENFILE)),
+                    (1, Error(EMFILE)),
+                    (1, Error(ENOBUFS)),
+                ],
+                true,
+                400,
+            ),
+            (&[(200, Error(EMFILE))], true, 20000),
+            (&[(201, Error(EMFILE))], false, 20000),
+            (
+                &[
+                    (150, Error(EMFILE)),
+                    (1, Error(ECONNABORTED)),
+                    (200, Error(EMFILE)),
+                ],
+                true,
+                35000,
+            ),
+        ],
+    )
+}
+
+#[test]
+fn passes_over_what_one_peer_did(rt: HostRuntime) -> Result<(), Fail> {
+    test_plans(
+        &rt,
+        &[
+            (
+                &[
+                    (3, Error(ECONNABORTED)),
+                    (3, Error(EPROTO)),
+                    (3, Error(EINTR)),
+                ],
+                true,
+                0,
+            ),
+            (
+                &[(300, Stream(false, true)), (300, Stream(true, false))],
+                true,
+                0,
+            ),
+            (&[(1, Error(EBADF))], false, 0),
+        ],
+    )
+}
