@@ -56,7 +56,7 @@ fn read_object(object: Option<&[u8]>, at: u64, out: &mut [u8]) -> Got
 }
 
 impl<'a> Source for Shelf<'a> {
-    ghost use Rattle.std.specs.Prelude.{None};
+    ghost use Rattle.std.specs.Prelude.{[], None};
 
     ghost objects = { λ s. Some (objects_on s.entries.now) };
 

@@ -246,7 +246,7 @@ impl<D: Dial> Remote<D> {
 }
 
 impl<D: Dial> Source for Remote<D> {
-    ghost use Rattle.std.specs.Prelude.{None};
+    ghost use Rattle.std.specs.Prelude.{[], None};
     ghost use Rattle.remote_store.specs.Shown.{count_at_is};
 
     ghost objects = { λ r. shown r.dataset (D.peer r.dial) };
