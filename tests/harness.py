@@ -395,11 +395,11 @@ def judge(program, title, judge_row, *arguments):
 
 
 def methods_of(cases, base):
-    """A row for each method, by its name, that a class of trials has beside those of another."""
+    """A row for each method, by its name, that a class of trials has beside those of another; a row may hand the method more."""
     for part in cases.__mro__:
         for name, method in vars(part).items() if not issubclass(base, part) else ():
             if callable(method) and not name.startswith("_"):
-                yield name.replace("_", " "), lambda trial, method=method: method(cases.of(trial))
+                yield name.replace("_", " "), lambda trial, *more, method=method: method(cases.of(trial), *more)
 
 
 # The program and the rows that are judged, for the processes that judge them.

@@ -771,7 +771,7 @@ def rows():
         return
     for title, *form in FORMS:
         yield f"the page: {title}", on_page, shows_form, title, *form
-    for title, _, _, judge in methods_of(OnPage, Trial):
+    for title, judge in methods_of(OnPage, Trial):
         yield f"the page: {title}", on_page, judge
 
 
