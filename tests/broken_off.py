@@ -13,7 +13,7 @@ import subprocess
 import tempfile
 import time
 
-from harness import LIMIT, main, objects_in, snapshot, want, want_files, want_front, want_true, wrong_with
+from harness import LIMIT, Skipped, main, objects_in, snapshot, want, want_files, want_front, want_true, wrong_with
 from model import OK, Sharding, Values, Volume, cutout, refused, sound, spell, verdict, voxels_in
 from model.copies import read_cells, values_of
 from model.pyramids import upper_of
@@ -175,8 +175,7 @@ def meets_full_disk(trial, form, work):
     size = PAGE * ((pages_of(run.before) + pages_of(run.after())) // 2)
     mount = ["mount", "-t", "tmpfs", "-o", f"size={size}", "tmpfs", own.folder]
     if subprocess.run(mount, capture_output=True, timeout=LIMIT).returncode != 0:
-        print("no tmpfs can be mounted here: the full disk is passed over")
-        return
+        raise Skipped("no tmpfs can be mounted, for which root is wanted")
     try:
         own.lay_out(run.before)
         own.want(run.words, refused("store fault"), run.stream)

@@ -7,15 +7,13 @@ import itertools
 import json
 import os
 import select
-import shutil
 import signal
 import tempfile
 import time
 
-from harness import Wrong, want, want_true
+from harness import Wrong, find_tool, want, want_true
 from servers import Handler, running
 
-NAMES = ("chromium", "chromium-browser", "google-chrome")
 OPTIONS = (
     "--headless=new", "--remote-debugging-pipe", "--no-sandbox", "--disable-gpu", "--disable-dev-shm-usage", "--hide-scrollbars",
     "--no-first-run", "--no-default-browser-check", "--disable-background-networking", "--disable-component-update", "--disable-sync",
@@ -43,15 +41,14 @@ def begin(words):
     return process, to_browser, from_browser
 
 
-def find_browser():
-    """The browser's command, or None where there is none."""
-    return next(filter(None, map(shutil.which, NAMES)), None)
-
-
 class Browser:
-    """A browser with one page; `exceptions` are the texts of those that the page didn't catch."""
+    """
+    A browser with one page; `exceptions` are the texts of those that the page didn't catch. Where Chromium isn't installed the row is
+    skipped.
+    """
 
-    def __init__(self, command, size):
+    def __init__(self, size):
+        command = find_tool("chromium", "chromium-browser", "google-chrome")
         self.numbers = itertools.count(1)
         self.session = {}
         self.exceptions = []

@@ -4,8 +4,8 @@
     tests/connections.py [PROGRAM [COUNT]]
 
 Streams of requests at random, COUNT of them with each of 1, 2, 8 and 16 workers, in pieces cut at random, over up to twelve connections at
-once: what each gets is what a plain model (model/requests.py) says, byte by byte. Others are silent, break off or drip meanwhile. Where a
-Chromium is installed it reads ranges of another origin.
+once: what each gets is what a plain model (model/requests.py) says, byte by byte. Others are silent, break off or drip meanwhile. A
+Chromium reads ranges of another origin.
 """
 import concurrent.futures
 import contextlib
@@ -18,7 +18,7 @@ import subprocess
 import threading
 import time
 
-from browser import Browser, fetch_parts, find_browser
+from browser import Browser, fetch_parts
 from harness import HALL_PROGRAM, LIMIT, NO_OUTPUTS, answers, main, methods_of, want, want_true, within
 from model import refused
 from model.replies import BAD, SILENCE, ask, closing, part_of, whole_of
@@ -141,12 +141,9 @@ class Cases(Hall):
 
     def a_browser(self):
         """It gets 40 ranges of another origin in under 3 seconds, though it keeps its connections."""
-        command = find_browser()
-        if command is None:
-            return
         with self.start("d --port=0 --connections=1000 --workers=8", stdout=subprocess.PIPE) as child:
             try:
-                with Browser(command, (300, 200)) as browser:
+                with Browser((300, 200)) as browser:
                     fetch_parts(browser, int(child.stdout.readline().split()[1]), LARGE[: 40 << 16], 3000)
             finally:
                 child.send_signal(signal.SIGTERM)

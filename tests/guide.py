@@ -5,17 +5,16 @@ Those of the README's first screen have to be among them.
     tests/guide.py [PROGRAM]
 
 The page's blocks of `sh` are run by one bash in a temporary home; a block of `text` is the output of the block before it. A block of
-`python` is saved under the name in its first line; where a module that it imports isn't installed it is only compiled, and run otherwise,
-unless a block of `sh` runs it. The ports 8080 and 8081 stand for free ones.
+`python` is saved under the name in its first line, and run unless a block of `sh` runs it; where a module that it imports isn't installed
+it is only compiled, and its row is skipped. The ports 8080 and 8081 stand for free ones.
 """
 import array
-import importlib.util
 import os
 import re
 import subprocess
 
 from arrays import save
-from harness import HALL_PROGRAM, LIMIT, ROOT, built, main, shorten
+from harness import HALL_PROGRAM, LIMIT, ROOT, Skipped, built, find_python, main, shorten
 from servers import free_port
 
 GUIDE = (ROOT / "docs" / "guide.md").read_text()
@@ -42,6 +41,14 @@ def read_blocks(page):
     return blocks
 
 
+def python_of(text):
+    """The Python that runs a script, or that it is skipped for want of a module."""
+    try:
+        return find_python(*re.findall(r"^(?:import|from) (\w+)", text, re.MULTILINE))
+    except Skipped as skipped:
+        return skipped
+
+
 def lines_of(number, language, text, scripts):
     """The lines of bash for a block; `scripts` are all of them."""
     yield f"echo '-- block {number}'"
@@ -53,9 +60,9 @@ def lines_of(number, language, text, scripts):
     else:
         name = re.match(r"# (\w+\.py)\n", text)[1]
         yield f"cat >{name} <<'END OF SCRIPT'\n{text}END OF SCRIPT"
-        modules = re.findall(r"^(?:import|from) (\w+)", text, re.MULTILINE)
-        is_compiled = f"python3 {name}" in scripts or None in map(importlib.util.find_spec, modules)
-        yield f"python3 -m py_compile {name}" if is_compiled else f"python3 {name} >/dev/null"
+        python = python_of(text)
+        is_compiled = f"python3 {name}" in scripts or isinstance(python, Skipped)
+        yield f"python3 -m py_compile {name}" if is_compiled else f"{python} {name} >/dev/null"
 
 
 def run_guide(program, home, blocks):
@@ -94,8 +101,10 @@ def judge_all(trial):
         if number + 1 >= len(outputs):
             yield title, f"it isn't passed: status {status} {shorten(err)}"
             return
+        python = python_of(text) if language == "python" else None
         is_due = not wanted or outputs[number] == wanted
-        yield title, None if is_due else f"it prints {shorten(outputs[number])} wanted {shorten(wanted)}"
+        wrong = None if is_due else f"it prints {shorten(outputs[number])} wanted {shorten(wanted)}"
+        yield title, python if isinstance(python, Skipped) else wrong
 
 
 def rows():

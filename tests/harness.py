@@ -1,9 +1,11 @@
 """
 What the scripts share: rows that have names and are picked, run side by side and told; and runs of the built program, each row in
 a temporary folder of its own. A script gives `main` its rows: each a title, a function and what it is called with behind the row's
-`Trial`. The function raises `Wrong`; one that goes through several rows yields each one's title, and what is wrong or None.
+`Trial`. The function raises `Wrong`; one that goes through several rows yields each one's title, and what is wrong or None. A row that
+can't be tried for want of a tool raises `Skipped`, which is counted; rows.txt says how many rows a script has, and fewer are a fault.
 """
 import argparse
+import collections
 import contextlib
 import dataclasses
 import itertools
@@ -12,6 +14,7 @@ import os
 import pathlib
 import re
 import resource
+import shutil
 import signal
 import subprocess
 import sys
@@ -25,12 +28,19 @@ ROOT = pathlib.Path(__file__).resolve().parent.parent
 CRATES = ROOT / "crates"
 PROGRAM, HALL_PROGRAM = (CRATES / name / "out" / name for name in ("vol_tool", "vol_serve"))
 
+# How many rows each script of the gate has.
+ROWS = ROOT / "tests" / "rows.txt"
+
 # How long a run may take, in seconds.
 LIMIT = 60
 
 
 class Wrong(Exception):
     """What is wrong with a row."""
+
+
+class Skipped(Exception):
+    """Why a row isn't tried."""
 
 
 def shorten(value):
@@ -66,11 +76,13 @@ def want_ending(found, wanted, what="it"):
 
 
 def wrong_with(judge, *arguments):
-    """What is wrong with what is judged, or None."""
+    """What is wrong with what is judged, or None; or that it is skipped."""
     try:
         judge(*arguments)
     except Wrong as wrong:
         return str(wrong)
+    except Skipped as skipped:
+        return skipped
 
 
 @contextlib.contextmanager
@@ -347,6 +359,30 @@ def leaves(trial, files, words, wanted, put, *streams, **how):
     want_put(before, standing(trial.folder), put)
 
 
+# Tools that a machine may lack
+
+
+def needed(tool, name):
+    """A tool that was found; a row that needs one that isn't there is skipped."""
+    if not tool:
+        raise Skipped(f"{name} isn't installed")
+    return tool
+
+
+def find_tool(name, *others):
+    """The path of a tool that has one of these names; a row without it is skipped. A server may stand where root alone looks."""
+    folders = os.pathsep.join([os.environ.get("PATH", os.defpath), "/usr/local/sbin", "/usr/sbin"])
+    return needed(next(filter(None, (shutil.which(one, path=folders) for one in (name, *others))), None), name)
+
+
+def find_python(*modules):
+    """A Python that has these modules: the one that runs, or the system's, which has Debian's packages; a row without it is skipped."""
+    script = "import importlib.util, sys; sys.exit(None in map(importlib.util.find_spec, sys.argv[1:]))"
+    pythons = [path for path in (sys.executable, "/usr/bin/python3") if os.access(path, os.X_OK)]
+    found = (path for path in pythons if subprocess.run([path, "-c", script, *modules], check=False).returncode == 0)
+    return needed(next(found, None), " and ".join(modules))
+
+
 # Pages
 
 
@@ -377,7 +413,7 @@ def tell(_trial, wrong):
 
 
 def judge(program, title, judge_row, *arguments):
-    """The titles of a row, or of the rows that it goes through, each with what is wrong or None."""
+    """The titles of a row, or of the rows that it goes through, each with what is wrong or None, or that it is skipped."""
     told = []
     with tempfile.TemporaryDirectory(ignore_cleanup_errors=True) as name:
         try:
@@ -386,6 +422,8 @@ def judge(program, title, judge_row, *arguments):
                 told.append(row)
         except Wrong as wrong:
             told.append((title, str(wrong)))
+        except Skipped as skipped:
+            told.append((title, skipped))
         except subprocess.TimeoutExpired:
             told.append((title, "it didn't end in time"))
         except Exception as error:  # pylint: disable=broad-except
@@ -395,11 +433,11 @@ def judge(program, title, judge_row, *arguments):
 
 
 def methods_of(cases, base):
-    """A row for each method, by its name, that a class of trials has beside those of another."""
+    """A row for each method, by its name, that a class of trials has beside those of another; a row may hand the method more."""
     for part in cases.__mro__:
         for name, method in vars(part).items() if not issubclass(base, part) else ():
             if callable(method) and not name.startswith("_"):
-                yield name.replace("_", " "), lambda trial, method=method: method(cases.of(trial))
+                yield name.replace("_", " "), lambda trial, *more, method=method: method(cases.of(trial), *more)
 
 
 # The program and the rows that are judged, for the processes that judge them.
@@ -423,10 +461,53 @@ def read_options(count, jobs, program):
     return parser.parse_args()
 
 
+def read_rows():
+    """What rows.txt says of each script of the gate: how many rows it has, and which programs it runs."""
+    lines = (line.split("#")[0].split() for line in ROWS.read_text().splitlines())
+    return {name: (int(count), programs) for name, count, *programs in filter(None, lines)}
+
+
+def judge_count(script, count):
+    """Whether a script has fewer rows than rows.txt says; a line tells it, and that there are more."""
+    due, _ = read_rows().get(script, (count, []))
+    if count == due:
+        return False
+    told = "rows are lost" if count < due else "put the new number there"
+    print(f"{count} rows, and tests/{ROWS.name} says {due} of {script}: {told}")
+    return count < due
+
+
+class Tally:
+    """What became of the rows; each that is wrong is printed as it comes."""
+
+    def __init__(self):
+        self.passed = self.failed = 0
+        self.skipped = collections.Counter()
+
+    def take(self, title, wrong):
+        if isinstance(wrong, Skipped):
+            self.skipped[str(wrong)] += 1
+        elif wrong is None:
+            self.passed += 1
+        else:
+            self.failed += 1
+            print(f"{title}: {wrong}", flush=True)
+
+    def rows(self):
+        return self.passed + self.failed + self.skipped.total()
+
+    def tell(self):
+        """Prints why rows were skipped, and last how many rows passed, failed and were skipped."""
+        for reason, count in self.skipped.items():
+            print(f"skipped {count} rows: {reason}")
+        skipped = f", {self.skipped.total()} skipped" if self.skipped else ""
+        print(f"{self.passed} passed, {self.failed} failed{skipped}")
+
+
 def main(rows_of, count=None, jobs=None, program=PROGRAM):
     """
-    Judges the rows that `rows_of` gives, of so many random trials where it takes a count; prints each row that is wrong, and how many
-    passed and failed; and ends with status 1 where one failed or there was none.
+    Judges the rows that `rows_of` gives, of so many random trials where it takes a count; prints each row that is wrong, why rows were
+    skipped, and how many there were; and ends with status 1 where one failed, there was none, or there are fewer than rows.txt says.
     """
     processors = len(os.sched_getaffinity(0))
     options = read_options(count, min(jobs or processors, processors), program)
@@ -437,12 +518,12 @@ def main(rows_of, count=None, jobs=None, program=PROGRAM):
             sys.exit(1)
     rows = rows_of() if count is None else rows_of(options.count)
     PICKED.extend((program, *row) for row in rows if options.k in row[0])
-    passed = failed = 0
+    tally = Tally()
     with multiprocessing.get_context("fork").Pool(options.jobs) as pool:
         for title, wrong in itertools.chain.from_iterable(pool.imap(judge_number, range(len(PICKED)))):
-            passed += wrong is None
-            failed += wrong is not None
-            if wrong is not None:
-                print(f"{title}: {wrong}", flush=True)
-    print(f"{passed} passed, {failed} failed")
-    sys.exit(1 if failed or not passed else 0)
+            tally.take(title, wrong)
+    # of some rows alone, or of more trials than the gate's, there is no number
+    is_whole = not options.k and (count is None or options.count == count)
+    tally.failed += is_whole and judge_count(pathlib.Path(sys.argv[0]).stem, tally.rows())
+    tally.tell()
+    sys.exit(1 if tally.failed or not tally.rows() else 0)

@@ -3,9 +3,10 @@
 
     tests/no_memory.py [PROGRAM]
 
-It wants a C compiler, `cc`, for the library that refuses (refuse_memory.c). Where the store is asked, an allocation for a path, for a
-folder's entries or of the system's own library may end as a store fault instead. Afterwards whole objects stand, the first ones that are
-due, and no half of one, but that a copy into shards, or an update of some, may leave one file whose name ends in .part.
+It wants a C compiler, `cc`, for the library that refuses (refuse_memory.c); without one the rows are skipped. Where the store is asked,
+an allocation for a path, for a folder's entries or of the system's own library may end as a store fault instead. Afterwards whole objects
+stand, the first ones that are due, and no half of one, but that a copy into shards, or an update of some, may leave one file whose name
+ends in .part.
 """
 import collections
 import contextlib
@@ -15,7 +16,7 @@ import subprocess
 import time
 
 from disturbed import FULL_ROW, RUNS, in_store, want_front_of
-from harness import LIMIT, Wrong, built, main, want, want_true, words_in
+from harness import LIMIT, Wrong, built, find_tool, main, want, want_true, words_in
 from model import DOOR, MEMORY, OK, STORE, USAGE, Sharding, Volume, cutout, infos_of
 from model.chance import some_chunks
 from model.replies import SILENCE
@@ -35,7 +36,7 @@ FETCHED = [Volume([2 * count, 1, count], [2, 1, 1], channels=2, sharding=shardin
 def build_library(trial):
     library = trial.folder / "refuse_memory.so"
     source = pathlib.Path(__file__).with_name("refuse_memory.c")
-    command = ["cc", "-O1", "-fno-builtin", "-shared", "-fPIC", "-o", library, source]
+    command = [find_tool("cc"), "-O1", "-fno-builtin", "-shared", "-fPIC", "-o", library, source]
     want(subprocess.run(command, timeout=LIMIT).returncode, 0, "the library that refuses")
     return str(library)
 

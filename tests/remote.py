@@ -4,7 +4,7 @@
     tests/remote.py [PROGRAM [COUNT]]
 
 PROGRAM is vol_tool; vol_fetch is crates/vol_fetch/out/vol_fetch, or what the variable VOL_FETCH names, and vol_serve likewise. There are
-COUNT scales, of every form in turn, some damaged, each served by vol_tool, vol_serve, Python, and nginx where it is there; and 50 replies
+COUNT scales, of every form in turn, some damaged, each served by vol_tool, vol_serve, Python and nginx; and 50 replies
 at random for each, against a plain model (model/fitting.py). Servers of the tests' own reply in odd ways, or in ways that fit nothing: then
 it tells a store fault behind a front of the cutout.
 """
@@ -30,7 +30,7 @@ from model.infos import scale_in
 from model.odd import pick_info, pick_reply, pick_reply_pieces
 from model.replies import MOST_HEAD, PAUSE, SILENCE
 from servers import (
-    CLOSE, HOLD, HOST, KEEP, RESET, Breaking, Closing, fetch_words, find_nginx, free_port, nginx, own, python, read_file, telling,
+    CLOSE, HOLD, HOST, KEEP, RESET, Breaking, Closing, fetch_words, free_port, nginx, own, python, read_file, telling,
 )
 
 OTHER_HOST = "127.0.0.2"
@@ -226,8 +226,7 @@ class Fetching(Trial):
         yield "Python's server", python(folder)
         yield "one that closes", python(folder, Closing)
         yield "one without ranges", python(folder, knows_ranges=False)
-        if find_nginx():
-            yield "nginx", nginx(folder, self.folder / "nginx")
+        yield "nginx", nginx(folder, self.folder / "nginx")
 
     def store_form(self, title):
         """A scale of a form, and its cutout."""
@@ -260,6 +259,18 @@ def want_fault_or_cut(row, volume, box, chance):
     (want_front if given else want_ending)(found, ending, f"{kind} from request {at} on, {spell(box)}")
 
 
+def want_faults_or_cuts(row, volume, boxes, chance):
+    for box in boxes:
+        want_fault_or_cut(row, volume, box, chance)
+
+
+def cuts_from(row, server, volume, boxes):
+    """What comes from a server is what is cut out of the folder."""
+    with server as port:
+        for box in boxes:
+            row.want_as_cut(port, volume, box, "a server")
+
+
 def cuts_scale(trial, seed):
     """A scale of which some files may be damaged, and whose chunk size may be the first of two."""
     row, chance = Fetching.of(trial), random.Random(f"remote {seed}")
@@ -272,11 +283,8 @@ def cuts_scale(trial, seed):
         trial.lay_out(damage_some(chance, volume, files))
     boxes = [volume.whole, pick_box(chance, volume), pick_box(chance, volume)]
     for title, server in row.servers():
-        with server as port:
-            for box in boxes:
-                row.want_as_cut(port, volume, box, title)
-    for box in boxes:
-        want_fault_or_cut(row, volume, box, chance)
+        yield f"a scale {seed}, {title}", wrong_with(cuts_from, row, server, volume, boxes)
+    yield f"a scale {seed}, replies that don't fit", wrong_with(want_faults_or_cuts, row, volume, boxes, chance)
 
 
 def refuses_infos(trial, seed):
@@ -522,8 +530,11 @@ class Cases(Fetching):
         (self.folder / "d/s/0-11_0-1_0-1").unlink()
         self.write(volume, [(volume.whole, values)])
         for title, server in self.servers():
-            with server as port:
-                self.want_fetched(printed(values), port, volume, what=title)
+            yield f"large objects, {title}", wrong_with(self._fetch_all, server, volume, values)
+
+    def _fetch_all(self, server, volume, values):
+        with server as port:
+            self.want_fetched(printed(values), port, volume)
 
     def a_slow_reader(self):
         """The output waits for its reader longer than the server keeps a connection that idles: another one is dialled."""

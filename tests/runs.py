@@ -8,7 +8,7 @@ import pathlib
 import tempfile
 import time
 
-from harness import FOLDER, contents, leaves, objects_in, open_closed_pipe, open_full, standing, want_files, want_front, wrong_with
+from harness import FOLDER, contents, leaves, objects_in, open_closed_pipe, open_full, standing, want_files, want_front, want_true, wrong_with
 from model import answer, copy_of, cutout, generated, infos_of, refused, spell, stored, stream_of, sum_of, update_of, verdict
 from model.pyramids import reduction_of
 
@@ -157,19 +157,27 @@ def is_killed(trial, run, path, delay, judge):
 
 def is_killed_often(trial, run, pick, kills, most=None, judge=lambda own: None):
     """
-    A run that isn't killed, and so many kills, and more, up to the most that there may be, until one came between the first file and the
+    A run that isn't killed, and so many kills; and where there may be more of them, so many until one came between the first file and the
     last. `pick` gives for the number of a kill which file is awaited, or None, and how many seconds behind it the kill comes; `judge` is
     given what stands then.
     """
     counts = []
-    yield "a run that isn't killed", wrong_with(leaves, apart(trial, "whole"), run.before, run.words, run.ending, run.put, run.stream)
+
+    def kill(number):
+        counts.append(is_killed(trial, run, *pick(number), judge))
 
     def is_between():
         return any(0 < count < len(run.put) for count in counts)
 
-    for number in range(most or kills):
-        if number >= kills and is_between():
-            break
-        yield f"kill {number}", wrong_with(lambda: counts.append(is_killed(trial, run, *pick(number), judge)))
+    def kill_between():
+        for number in range(kills, most):
+            if is_between():
+                return
+            kill(number)
+        want_true(is_between(), f"there was none: {counts}")
+
+    yield "a run that isn't killed", wrong_with(leaves, apart(trial, "whole"), run.before, run.words, run.ending, run.put, run.stream)
+    for number in range(kills):
+        yield f"kill {number}", wrong_with(kill, number)
     if most is not None:
-        yield "a kill between the first file and the last", None if is_between() else f"there was none: {counts}"
+        yield "a kill between the first file and the last", wrong_with(kill_between)

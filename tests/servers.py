@@ -1,20 +1,19 @@
 """
 Servers that give the files of a folder by ranges: the proved ones; Python's, as it keeps connections, closes them, or knows no ranges;
-nginx, where it is there; and one of which a test says each reply.
+nginx; and one of which a test says each reply.
 """
 import contextlib
 import dataclasses
 import http.server
 import os
 import re
-import shutil
 import socket
 import socketserver
 import subprocess
 import threading
 import time
 
-from harness import LIMIT, Wrong
+from harness import LIMIT, Wrong, find_tool
 from model import spell
 from peers import connect, reset
 
@@ -122,10 +121,6 @@ http {{
 """
 
 
-def find_nginx():
-    return shutil.which("nginx") or shutil.which("nginx", path="/usr/sbin:/usr/local/sbin")
-
-
 def free_port():
     with socket.create_server((HOST, 0)) as door:
         return door.getsockname()[1]
@@ -143,11 +138,13 @@ def wait_for(port, child):
 
 @contextlib.contextmanager
 def nginx(folder, own):
+    """nginx's server of a folder, with a folder of its own, by its port; a row without nginx is skipped."""
+    program = find_tool("nginx")
     own.mkdir()
     port = free_port()
     (own / "conf").write_text(NGINX.format(own=own, port=port, folder=folder))
     os.chmod(own, 0o777)
-    command = [find_nginx(), "-p", str(own), "-e", str(own / "errors"), "-c", str(own / "conf")]
+    command = [program, "-p", str(own), "-e", str(own / "errors"), "-c", str(own / "conf")]
     with subprocess.Popen(command, stdin=subprocess.DEVNULL, stdout=subprocess.DEVNULL, stderr=subprocess.DEVNULL) as child:
         try:
             wait_for(port, child)

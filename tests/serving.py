@@ -6,7 +6,6 @@
 import contextlib
 import http.client
 import os
-import shutil
 import signal
 import struct
 import subprocess
@@ -14,7 +13,7 @@ import threading
 import time
 from concurrent.futures import ThreadPoolExecutor
 
-from harness import LIMIT, Wrong, call, main, methods_of, open_full, want, within
+from harness import LIMIT, Wrong, call, find_tool, main, methods_of, open_full, want, within
 from model import along, info_of, refused, stored, stream_of
 from model.replies import (
     ABSENT, BAD, MOST_HEAD, MOST_NAME, MOST_REQUESTS, NOT_ALLOWED, PAUSE, SILENCE, ask, closing, head_of, no_part_of, part_of,
@@ -271,9 +270,7 @@ class Cases(Doors):
                 want(part(32 + begin, 32 + begin + length), value, f"the chunk of minishard {minishard}")
 
     def serves_curl(self):
-        curl = shutil.which("curl")
-        if curl is None:
-            return
+        curl = find_tool("curl")
         with self.serving(9) as port:
             url = f"http://127.0.0.1:{port}/s/x"
             found = call([curl, "-sS", "-r", "2-4", url, "--next", "-sS", url], self.folder)

@@ -3,7 +3,7 @@
 
     tests/system_calls.py [PROGRAM]
 
-It wants `strace`, which makes the calls fail, and is passed over with a word where that isn't installed or isn't allowed. Of each call to
+It wants `strace`, which makes the calls fail; the rows are skipped where that isn't installed or isn't allowed. Of each call to
 files, folders and streams that a plain run makes, the first, the second and so on fails: with an error of the device, with a full disk,
 and with a signal, which is tried again or is a fault; and the call fails from then on, as on a device that is lost. Afterwards whole
 objects stand, the first ones that are due, and no half of one, but that a device that is lost, a copy or a next scale into shards, and an
@@ -13,12 +13,10 @@ import collections
 import functools
 import itertools
 import re
-import shutil
 import subprocess
-import sys
 
 from disturbed import DEEP_RUNS, FULL_ROW, RUNS, SIZES_RUNS, in_store, want_front_of
-from harness import LIMIT, Wrong, main, want, want_true, words_in, wrong_with
+from harness import LIMIT, Skipped, Wrong, find_tool, main, want, want_true, words_in, wrong_with
 from model import DOOR, FEED, OK, OUTPUT, STORE, Sharding, Volume, along
 from peers import PEERS, SERVE, WHOLE, failed_of, fronts_of, is_answered, serve_peers
 from runs import cutout_run
@@ -63,6 +61,16 @@ FAULTS = {STORE: b"store fault\n", FEED: b"feed fault\n", OUTPUT: b"output fault
 SERVED_LINES = {OK: b"", OUTPUT: b"output fault\n", DOOR: b"door fault\n"}
 
 
+@functools.cache
+def find_strace():
+    """Where strace is, which may make a call fail."""
+    strace = find_tool("strace")
+    command = [strace, "-qq", "-o", "/dev/null", "-e", "inject=close:error=EIO:when=1000", "true"]
+    if subprocess.run(command, capture_output=True, check=False).returncode != 0:
+        raise Skipped("strace may not trace here")
+    return strace
+
+
 def traced(trial, files, options, run_in):
     """
     What a run over files leaves under strace, its files last; and what strace told, by lines. `run_in` is given the folder and the first
@@ -70,7 +78,7 @@ def traced(trial, files, options, run_in):
     """
 
     def run_noted(folder, note):
-        return run_in(folder, ["strace", "-f", "-qq", "-o", note, *options, trial.program])
+        return run_in(folder, [find_strace(), "-f", "-qq", "-o", note, *options, trial.program])
 
     found, told = in_store(trial, files, run_noted)
     return found, told.splitlines()
@@ -190,12 +198,6 @@ def reads_once(trial, run, count):
     want(sum(int(length) for path, length in calls if not path.endswith("/info")), count, "how many bytes are read")
 
 
-def may_trace():
-    """Whether strace is there, and may make a call fail."""
-    command = ["strace", "-qq", "-o", "/dev/null", "-e", "inject=close:error=EIO:when=1000", "true"]
-    return shutil.which("strace") is not None and subprocess.run(command, capture_output=True).returncode == 0
-
-
 def rows():
     for title, case in READ.items():
         yield f"what is read by {title}", reads_once, *case
@@ -205,8 +207,4 @@ def rows():
 
 
 if __name__ == "__main__":
-    if not may_trace():
-        print("strace isn't installed, or may not trace: passed over")
-        print("0 passed, 0 failed")
-        sys.exit()
     main(rows)

@@ -4,14 +4,13 @@
     [PICTURES=FOLDER] tests/viewing.py [PROGRAM]
 
 Scales of every form are written by the program (those of float32, which it refuses, by the model), and each picture of the page is
-compared, pixel by pixel, with one that is made here from the same values. In FOLDER the browser's screenshots are left. Where no
-Chromium is installed the page isn't tried, and without numpy no arrays of numpy; a line says so.
+compared, pixel by pixel, with one that is made here from the same values. In FOLDER the browser's screenshots are left. Without Chromium
+the rows of the page are skipped, and without numpy the one of its arrays.
 """
 import collections
 import contextlib
 import dataclasses
 import http.client
-import importlib.util
 import itertools
 import json
 import math
@@ -27,8 +26,8 @@ import time
 import urllib.parse
 
 from arrays import SCRIPT, load, save, variables
-from browser import Browser, fetch_parts, find_browser
-from harness import LIMIT, Trial, Wrong, call, main, methods_of, want, want_true
+from browser import Browser, fetch_parts
+from harness import LIMIT, Trial, Wrong, call, find_python, main, methods_of, want, want_true
 from model import Sharding, Volume, infos_of, stored, stream_of
 from model.chance import with_numbers
 from model.murmur import finish
@@ -370,8 +369,12 @@ for values, text in [
 """
 
 
-def run_script(trial, script):
-    want(call([sys.executable, "-c", script], trial.folder, **variables(trial.program)), (0, "", ""), "the script")
+def run_script(trial, script, python=sys.executable):
+    want(call([python, "-c", script], trial.folder, **variables(trial.program)), (0, "", ""), "the script")
+
+
+def moves_arrays(trial):
+    run_script(trial, WITH_NUMPY, find_python("numpy"))
 
 
 def moves_files(trial):
@@ -393,7 +396,7 @@ class Page(Browser):
     scale = view = None
 
     def __init__(self):
-        super().__init__(find_browser(), WINDOW)
+        super().__init__(WINDOW)
 
     def on(self, name, script):
         """The value of an expression about an `element` of the page."""
@@ -759,19 +762,13 @@ def on_page(trial, judge, *arguments):
 
 def rows():
     yield "the module without numpy", moves_files
-    if importlib.util.find_spec("numpy"):
-        yield "the module with numpy", run_script, WITH_NUMPY
-    else:
-        print("numpy isn't installed: the module isn't tried with it")
+    yield "the module with numpy", moves_arrays
     yield "what a view answers", replies
     yield "a view whose server ends", serves_on
     yield "views that are refused", refuses
-    if find_browser() is None:
-        print("no Chromium is installed: the page isn't tried")
-        return
     for title, *form in FORMS:
         yield f"the page: {title}", on_page, shows_form, title, *form
-    for title, _, _, judge in methods_of(OnPage, Trial):
+    for title, judge in methods_of(OnPage, Trial):
         yield f"the page: {title}", on_page, judge
 
 
