@@ -1,5 +1,5 @@
 #!/usr/bin/env python3
-"""Checks that every clause, law, edit and name that a page has stands in the code, and that every link leads somewhere.
+"""Checks that every clause, law, edit and name that a page has stands in the code, that links lead somewhere, and that edits apply.
 
     tests/clauses.py
 
@@ -20,6 +20,9 @@ NAMES = r"`\w+`(?:(?:,| and|, and) `\w+`)*"
 
 # members of requests, and tools
 NOT_OURS = {"rayon", "fsync"}
+
+# where the wrong programs stand: those that the gate tries, and those that more_edits.py tries
+EDITS = ("must-fail", "more-edits")
 
 
 class Code:
@@ -92,7 +95,7 @@ def judge_layers(code):
                 known = code.of(owner, crates)
                 wrong += [f"there is no {owner} in {', '.join(crates)}"] if known is None else code.lacking(names, [owner], known)
         edits = (edit for names in re.findall(r"Edits: (.*?)\.(?: |$)", part) for edit in names_in(names))
-        paths = {edit: [CRATES / crate / "must-fail" / f"{edit}.edit" for crate in crates] for edit in edits}
+        paths = {edit: [CRATES / crate / folder / f"{edit}.edit" for crate in crates for folder in EDITS] for edit in edits}
         wrong += [f"there is no edit {edit}" for edit, places in paths.items() if not any(place.exists() for place in places)]
         yield f"docs/layers.md: {', '.join(crates)}", wrong
     for crate in sorted({path.name for path in CRATES.iterdir() if path.is_dir()} | set(listed)):
@@ -146,10 +149,52 @@ def judge_words(code, page, text):
         yield f"{page}: {names}", code.lacking(names_in(names), [call] if call else [], None if call else code.all)
 
 
+def edits_in(*folders):
+    return [path for folder in folders for path in sorted(CRATES.glob(f"*/{folder}/*.edit"))]
+
+
+def wrong_in_edit(path):
+    """Each old text has to stand once in its file, as the pairs in front of it leave that."""
+    texts, name, old = {}, None, None
+    for line in path.read_text().splitlines():
+        kind, _, rest = line.partition(": ")
+        if kind == "file":
+            name = rest
+            texts.setdefault(name, (path.parent.parent / name).read_text())
+        elif kind == "old":
+            old = rest
+        elif kind == "new" and name and old:
+            if texts[name].count(old) != 1:
+                return [f"{old.strip()} stands in {name} {texts[name].count(old)} times"]
+            texts[name], old = texts[name].replace(old, rest), None
+        else:
+            return [f"{line} is out of place"]
+    return [] if texts and old is None else ["it changes nothing"]
+
+
+def judge_edits():
+    """Each edit applies, and stands in one of the folders alone; and two pages say how many there are in each."""
+    paths = edits_in(*EDITS)
+    named = collections.Counter((path.parent.parent, path.name) for path in paths)
+    for path in paths:
+        twice = ["it stands in both folders"] if named[path.parent.parent, path.name] > 1 else []
+        yield f"{path.relative_to(ROOT)}", wrong_in_edit(path) + twice
+    for line in (ROOT / "docs/theorem.md").read_text().split("| Wrong program |")[-1].split("\n\n")[0].splitlines()[2:]:
+        parts = (part.partition(": ") for part in cells_of(line)[1].split("; "))
+        named = [(crate, name) for crates, _, names in parts for crate in crates.split(", ") for name in names_in(names)]
+        wrong = [f"there is no {name} in {crate}" for crate, name in named if not (CRATES / crate / EDITS[0] / f"{name}.edit").exists()]
+        yield f"docs/theorem.md: {cells_of(line)[0]}", wrong
+    for page in ("README.md", "docs/theorem.md"):
+        text = " ".join((ROOT / page).read_text().split())
+        for folder in EDITS:
+            told, count = re.findall(rf"(\d+)(?: \w+)* in `crates/\*/{folder}`", text), len(edits_in(folder))
+            yield f"{page}: {folder}", [] if told == [str(count)] else [f"it tells {', '.join(told) or 'nothing'}, and there are {count}"]
+
+
 def words_of_code():
     """The words of the crates and of the scripts, and what crates, edits and scripts are called."""
     paths = [path for kind in ("src/**/*.rt", "specs/*.antt", "proofs/*.antt") for path in CRATES.glob(f"*/{kind}")]
-    found = {path.name for path in CRATES.iterdir()} | {path.stem for path in CRATES.glob("*/must-fail/*.edit")}
+    found = {path.name for path in CRATES.iterdir()} | {path.stem for path in edits_in(*EDITS)}
     for folder in ("tests", "tests/model", "bin", "examples"):
         scripts = [path for path in (ROOT / folder).iterdir() if path.is_file() and path.suffix != ".md"]
         found |= {path.name for path in scripts}
@@ -180,13 +225,14 @@ def judge_links(page, path, text):
 def judge_all():
     code = Code()
     yield from judge_layers(code)
-    for path in [ROOT / "README.md", *sorted((ROOT / "docs").glob("*.md")), *sorted((ROOT / "tests").glob("*.md"))]:
+    for path in [path for folder in (ROOT, ROOT / "docs", ROOT / "tests") for path in sorted(folder.glob("*.md"))]:
         page, text = path.relative_to(ROOT), path.read_text()
         yield from judge_tables(code, page, text.splitlines())
         yield from judge_words(code, page, " ".join(text.split()))
         yield from judge_links(page, path, text)
     yield from judge_theorem(code)
     yield from judge_names()
+    yield from judge_edits()
 
 
 if __name__ == "__main__":

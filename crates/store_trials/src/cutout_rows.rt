@@ -2,6 +2,8 @@
 ghost use Rattle.std.specs.Prelude.{◌≡◌, ◌≤◌, length, IfOk};
 ghost use Rattle.vol_spec.specs.Raw.{raw_len};
 
+mod known;
+
 use chunk_grid::{byte_len, grid, inside};
 use cutout::{CutFault, Found, Reader, StreamFault};
 use memory_rows::{outlet_of, put};

@@ -1,5 +1,5 @@
-//! Rows of servers, and of what is read from them. They stand here and not in their crates since
-//! `rt ci` proves a crate once more for its tests.
+//! Rows of servers, and of what is read from them. They stand here and not in their crates since `rt ci` proves a crate once more for
+//! its tests.
 #![tactic(auto)]
 
 #[cfg(test)]
@@ -8,8 +8,6 @@ mod hall_rows;
 mod local_store;
 #[cfg(test)]
 mod peer_dial_rows;
-#[cfg(test)]
-mod random;
 #[cfg(test)]
 mod range_server_rows;
 #[cfg(test)]

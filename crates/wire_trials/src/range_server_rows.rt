@@ -2,16 +2,18 @@
 ghost use Rattle.std.specs.Prelude.{◌≡◌, IfOk, None};
 ghost use Rattle.vol_base.specs.Peers.{IsFresh};
 
+mod cuts;
+mod known;
 mod receives;
 
 use memory_rows::{name_of, store_of};
 use range_server::{
     DoorRefusal, Ending, RangeAnswer, ServeFault, range_of, serve_ends, serve_to_end,
 };
-use std::alloc::{AllocError, Global};
+use std::alloc::Global;
 use std::process::Abort;
 use std::test::Fail;
-use vol_base::{Door, MemoryDoor, MemoryLink};
+use vol_base::{Door, Link, MemoryDoor, MemoryLink};
 
 const OBJECTS: &[(&str, &[u8])] = &[("d/s/x", b"0123456789")];
 
@@ -21,9 +23,6 @@ const PART: &[u8] = b"GET /s/x HTTP/1.1\r\nHost: a\r\nRange: bytes=2-4\r\n\r\n";
 
 const PART_REPLY: &[u8] =
     b"HTTP/1.1 206 Partial Content\r\nContent-Length: 3\r\nContent-Type: application/octet-stream\r\nAccept-Ranges: bytes\r\nAccess-Control-Allow-Origin: *\r\nContent-Range: bytes 2-4/10\r\n\r\n234";
-
-const BAD_REPLY: &[u8] =
-    b"HTTP/1.1 400 Bad Request\r\nContent-Length: 0\r\nContent-Type: application/octet-stream\r\nAccept-Ranges: bytes\r\nAccess-Control-Allow-Origin: *\r\nConnection: close\r\n\r\n";
 
 const FAILED_REPLY: &[u8] =
     b"HTTP/1.1 500 Internal Server Error\r\nContent-Length: 0\r\nContent-Type: application/octet-stream\r\nAccept-Ranges: bytes\r\nAccess-Control-Allow-Origin: *\r\nConnection: close\r\n\r\n";
@@ -41,7 +40,7 @@ fn link_of(alloc: Global, bytes: &[u8], piece: usize, failing: &[u64]) -> Result
 }
 
 // How serving a link ends, while calls of the store fail.
-fn serve_link(alloc: Global, link: &mut MemoryLink, failing: &[u64]) -> Result<Ended, Fail> {
+fn serve_link<L: Link>(alloc: Global, link: &mut L, failing: &[u64]) -> Result<Ended, Fail> {
     let mut store = store_of(alloc, OBJECTS, failing)?;
     let dataset = name_of("d")?;
     Ok(serve_to_end(alloc, link, &mut store, &dataset).ended)
@@ -58,16 +57,6 @@ fn serve(
     let mut link = link_of(alloc, bytes, piece, link_failing)?;
     let served = serve_link(alloc, &mut link, store_failing)?;
     Ok((Vec::from_slice(alloc, link.sent())?, served))
-}
-
-// In pieces of every size the replies are these.
-fn replies_are(rt: &impl Abort, alloc: Global, request: &[u8], replies: &[u8]) -> Result<(), Fail> {
-    for piece in 1..request.len().min(5000).saturating_add(1) {
-        let (sent, served) = serve(alloc, request, piece, &[], &[])?;
-        assert_eq!(rt; served, Ok(Ending::Whole));
-        assert_eq!(rt; sent.as_slice(), replies, "in pieces of {piece}");
-    }
-    Ok(())
 }
 
 // A value of the field Range, and what it asks of an object.
@@ -110,73 +99,6 @@ fn check_ranges(rt: &impl Abort, size: u64, rows: &[Asked]) {
 fn answers_ranges(rt: HostRuntime) {
     check_ranges(&rt, 10, RANGES);
     check_ranges(&rt, 0, &[(b"bytes=-5", RangeAnswer::Whole)]);
-}
-
-// Requests, and the replies to them.
-type Exchange = (&'static [u8], &'static [u8]);
-
-const EXCHANGES: &[Exchange] = &[
-    (PART, PART_REPLY),
-    (
-        b"HEAD /s/x HTTP/1.1\r\nHost: a\r\n\r\n",
-        b"HTTP/1.1 200 OK\r\nContent-Length: 10\r\nContent-Type: application/octet-stream\r\nAccept-Ranges: bytes\r\nAccess-Control-Allow-Origin: *\r\n\r\n",
-    ),
-    (
-        b"GET /s/y HTTP/1.1\r\nHost: a\r\n\r\n",
-        b"HTTP/1.1 404 Not Found\r\nContent-Length: 0\r\nContent-Type: application/octet-stream\r\nAccept-Ranges: bytes\r\nAccess-Control-Allow-Origin: *\r\n\r\n",
-    ),
-    (
-        b"POST /s/x HTTP/1.1\r\nHost: a\r\n\r\n",
-        b"HTTP/1.1 405 Method Not Allowed\r\nContent-Length: 0\r\nContent-Type: application/octet-stream\r\nAccept-Ranges: bytes\r\nAccess-Control-Allow-Origin: *\r\nAllow: GET, HEAD\r\n\r\n",
-    ),
-    (
-        b"POST /s/x HTTP/1.1\r\nHost: a\r\nContent-Length: 5\r\n\r\n12345",
-        BAD_REPLY,
-    ),
-    (
-        b"GET /s/x HTTP/1.0\r\nHost: a\r\n\r\n",
-        b"HTTP/1.1 200 OK\r\nContent-Length: 10\r\nContent-Type: application/octet-stream\r\nAccept-Ranges: bytes\r\nAccess-Control-Allow-Origin: *\r\nConnection: close\r\n\r\n0123456789",
-    ),
-    (
-        b"GET /s/x HTTP/1.1\r\nRange: bytes=10-\r\n\r\n",
-        b"HTTP/1.1 416 Range Not Satisfiable\r\nContent-Length: 0\r\nContent-Type: application/octet-stream\r\nAccept-Ranges: bytes\r\nAccess-Control-Allow-Origin: *\r\nContent-Range: bytes */10\r\n\r\n",
-    ),
-    (b"\x00", BAD_REPLY),
-    (b"GET /s/x HTTP/1.1\r\nHost", BAD_REPLY),
-    (b"", b""),
-];
-
-fn check_exchanges(rt: &impl Abort, alloc: Global, rows: &[Exchange]) -> Result<(), Fail> {
-    for (request, replies) in rows {
-        replies_are(rt, alloc, request, replies)?;
-    }
-    Ok(())
-}
-
-#[test]
-fn serves_in_every_piece(rt: HostRuntime) -> Result<(), Fail> {
-    check_exchanges(&rt, rt.alloc(), EXCHANGES)
-}
-
-// Two streams, one behind the other.
-fn joined(alloc: Global, first: &[u8], second: &[u8]) -> Result<Vec<u8>, AllocError> {
-    let mut bytes = Vec::from_slice(alloc, first)?;
-    bytes.extend_from_slice(second)?;
-    Ok(bytes)
-}
-
-const CLOSING: &[u8] =
-    b"GET /s/x HTTP/1.1\r\nRange: bytes=2-4\r\nConnection: Keep-Alive, CLOSE\r\n\r\n";
-
-const CLOSING_REPLY: &[u8] =
-    b"HTTP/1.1 206 Partial Content\r\nContent-Length: 3\r\nContent-Type: application/octet-stream\r\nAccept-Ranges: bytes\r\nAccess-Control-Allow-Origin: *\r\nContent-Range: bytes 2-4/10\r\nConnection: close\r\n\r\n234";
-
-#[test]
-fn answers_piped_requests(rt: HostRuntime) -> Result<(), Fail> {
-    let alloc = rt.alloc();
-    let twice = joined(alloc, PART, PART)?;
-    replies_are(&rt, alloc, &twice, &joined(alloc, PART_REPLY, PART_REPLY)?)?;
-    replies_are(&rt, alloc, &joined(alloc, CLOSING, PART)?, CLOSING_REPLY)
 }
 
 // Where this call of the link fails, a front of the reply is sent.

@@ -1,10 +1,12 @@
 //! What a store answers, by the reply to its request. Each answer was worked out by hand.
 
+mod pieced;
+mod pieces;
 mod random;
 
 use crate::local_store::local_store;
 use memory_rows::name_of;
-use remote_store::{Remote, ScriptDial};
+use remote_store::{Dial, Remote, ScriptDial};
 use std::alloc::Global;
 use std::process::Abort;
 use std::test::Fail;
@@ -98,7 +100,10 @@ fn store_of(alloc: Global, reply: &[u8]) -> Result<Remote<ScriptDial>, Fail> {
 }
 
 // A read from the third byte on: how many bytes came, or that there is no object, where it didn't fail.
-fn read(store: &mut Remote<ScriptDial>, buffer: &mut [u8; 3]) -> Result<Option<Got>, Fail> {
+fn read<D: Dial + Drop>(
+    store: &mut Remote<D>,
+    buffer: &mut [u8; 3],
+) -> Result<Option<Got>, Fail> {
     let name = name_of("d/s/x")?;
     Ok(store.read_at(&name, 2, buffer).ok())
 }
@@ -154,7 +159,10 @@ const SIZES: &[Size] = &[
 ];
 
 // The length of an object, or that there is none, where the call doesn't fail.
-fn size_of(store: &mut Remote<ScriptDial>, name: &str) -> Result<Option<Option<u64>>, Fail> {
+fn size_of<D: Dial + Drop>(
+    store: &mut Remote<D>,
+    name: &str,
+) -> Result<Option<Option<u64>>, Fail> {
     let name = name_of(name)?;
     Ok(store.size(&name).ok())
 }

@@ -2,11 +2,30 @@
 ghost use Rattle.std.specs.Prelude.{◌<◌};
 
 use super::{read, store_of};
-use crate::random::Random;
 use std::alloc::{AllocError, Global};
 use std::process::Abort;
 use std::test::Fail;
 use vol_base::Got;
+
+// Numbers by a linear congruence.
+#[derive(Drop)]
+struct Random {
+    state: u64,
+}
+
+impl Random {
+    // A number below another.
+    fn below(&mut self, bound: u64) -> u64
+        requires { 0 < bound }
+        ensures { result < bound }
+    {
+        self.state = self
+            .state
+            .wrapping_mul(6364136223846793005)
+            .wrapping_add(1442695040888963407);
+        (self.state >> 33) % bound
+    }
+}
 
 // A text, and whether a reply that fits may have it.
 type Choice = (&'static str, bool);
@@ -278,18 +297,38 @@ fn compare(rt: &impl Abort, alloc: Global, draws: &mut Draws) -> Result<bool, Fa
     Ok(true)
 }
 
-#[test]
-fn takes_what_fits(rt: HostRuntime) -> Result<(), Fail> {
+// 500 replies at random, of which some 250 fit.
+fn compare_many(rt: &impl Abort, alloc: Global, state: u64) -> Result<(), Fail> {
     let mut draws = Draws {
-        random: Random { state: 1 },
+        random: Random { state },
         fits: true,
     };
     let mut fitting = 0u64;
-    for _ in 0..2000 {
-        if compare(&rt, rt.alloc(), &mut draws)? {
+    for _ in 0..500 {
+        if compare(rt, alloc, &mut draws)? {
             fitting = fitting.saturating_add(1);
         }
     }
-    assert!(rt; 600 < fitting && fitting < 1400, "{fitting} replies fit");
+    assert!(rt; 150 < fitting && fitting < 350, "{fitting} replies fit");
     Ok(())
+}
+
+#[test]
+fn takes_what_fits(rt: HostRuntime) -> Result<(), Fail> {
+    compare_many(&rt, rt.alloc(), 1)
+}
+
+#[test]
+fn takes_what_fits_next(rt: HostRuntime) -> Result<(), Fail> {
+    compare_many(&rt, rt.alloc(), 2)
+}
+
+#[test]
+fn takes_what_fits_then(rt: HostRuntime) -> Result<(), Fail> {
+    compare_many(&rt, rt.alloc(), 3)
+}
+
+#[test]
+fn takes_what_fits_last(rt: HostRuntime) -> Result<(), Fail> {
+    compare_many(&rt, rt.alloc(), 4)
 }
