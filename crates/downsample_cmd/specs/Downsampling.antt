@@ -14,7 +14,7 @@ use Rattle.vol_spec.specs.declared.scale.Scale.{Scale}
 use Rattle.chunk_laws.specs.Told.{HasNoFault}
 use Rattle.coarse_laws.specs.Coarse.{HasReduced, reduced_in}
 use Rattle.copier.specs.Held.{cells_of}
-use Rattle.reduce_laws.specs.Reduced.{IsNext, reduced_cells, reduced_chunks, source_box}
+use Rattle.reduce_laws.specs.Reduced.{reduced_cells, reduced_chunks, source_box}
 use Rattle.reduce_laws.specs.declared.method.Method.{Method}
 use Rattle.reducer.specs.Works.{Reduction}
 use Rattle.shard_writer.specs.Writing.{BeginsNext, Drops, PutsFront, joint_len}

@@ -1,5 +1,5 @@
 -- What makes a reduction a way of making (this project's).
-use Rattle.std.proofs.Common.{◌≡◌, ℕ, List, Some, refl, arith}
+use Rattle.std.proofs.Common.{ℕ, List, Some, refl, arith}
 use Rattle.vol_base.specs.Outside.{Objects}
 use Rattle.vol_spec.specs.declared.scale.Scale.{Scale}
 use Rattle.reduce_laws.specs.declared.method.Method.{Method}

@@ -1,6 +1,6 @@
 -- What making a scale of another one answers, from what its parts answer.
 use Rattle.std.proofs.Common.{◌≡◌, ◌⊎◌, ℕ, ◌≤◌, ◌^◌, Bool, Option, Some, None, IfSome, Result, Ok, Err, true, false, nat_lt, refl, sym, subst, inl, inr, arith}
-use Rattle.std.specs.Prelude.{IfErr, IfOk, OnErr, OnOk, ⊤, length, if◌then◌else◌}
+use Rattle.std.specs.Prelude.{IfOk, OnErr, OnOk, ⊤, length, if◌then◌else◌}
 use Rattle.std.proofs.lemmas.Bool.Decides.{nat_tests}
 use Rattle.vol_base.specs.Outside.{Draft, Objects, OnlyReads, any_under}
 use Rattle.vol_base.specs.declared.outside.StoreRefusal.{StoreRefusal}

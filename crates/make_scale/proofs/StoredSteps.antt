@@ -3,9 +3,8 @@ use Rattle.std.proofs.Common.{◌≡◌, ◌⊎◌, ◌<◌, [], ◌∷◌, leng
 use Rattle.std.specs.Prelude.{All, IfErr, IsOkAnd}
 use Rattle.std.specs.List.{range_with_len}
 use Rattle.std.proofs.lemmas.List.Elements.{All-cons, All-nil}
-use Rattle.vol_base.specs.Outside.{Objects, any_under}
+use Rattle.vol_base.specs.Outside.{Objects}
 use Rattle.vol_base.specs.declared.faults.Fault.{Fault}
-use Rattle.vol_spec.specs.CellNames.{folder_of}
 use Rattle.vol_spec.specs.Types.{Cell, Name}
 use Rattle.vol_spec.specs.Views.{view}
 use Rattle.vol_spec.specs.Writable.{IsWritable, padded}
@@ -20,7 +19,7 @@ use Rattle.command_base.specs.Scales.{IsWritableAlone, ReadsScale, stored_scale}
 use Rattle.command_base.specs.declared.refusal.NoScale.{NoScale as NoScaleType}
 use Rattle.command_base.specs.declared.refusal.ScaleRefusal.{ScaleRefusal}
 use Rattle.command_base.specs.declared.refusal.ScaleRefusal.TheVariants as unread
-use Rattle.make_scale.specs.Judging.{DiffersAt, JudgesAs, too_many}
+use Rattle.make_scale.specs.Judging.{DiffersAt, JudgesAs}
 use Rattle.make_scale.proofs.AnswerSteps.{begun_read}
 use Rattle.make_scale.specs.Making.{KeepsStore, Makes, Said}
 use Rattle.command_base.proofs.Choices.{ok_and}

@@ -1,5 +1,5 @@
 -- What making a stored scale of another one answers (this project's profile).
-use Rattle.std.specs.Prelude.{◌≡◌, ◌⊎◌, ◌<◌, true, false, length, All, Option, Some, None, Result, Ok as Done, Err, IfOk, IsOkAnd}
+use Rattle.std.specs.Prelude.{◌≡◌, ◌⊎◌, ◌<◌, true, length, All, Option, Some, None, Result, Ok as Done, Err, IfOk, IsOkAnd}
 use Rattle.vol_base.specs.Outside.{Objects, any_under}
 use Rattle.vol_base.specs.declared.faults.Fault.{Fault}
 use Rattle.vol_spec.specs.CellNames.{folder_of}

@@ -2,7 +2,6 @@
 use Rattle.std.proofs.Common.{◌≡◌, ◌∙◌, ℕ, ◌≤◌, ◌^◌, List, length, map, Option, Some, None, IfSome, false, refl, ap, sym, subst, arith}
 use Rattle.std.specs.Prelude.{IfOk, Result, Ok, Err}
 use Rattle.vol_base.specs.Outside.{HaveBytes, Objects, any_under}
-use Rattle.vol_base.specs.declared.faults.Fault.{Fault}
 use Rattle.vol_spec.specs.BoxValues.{first_some}
 use Rattle.vol_spec.specs.CellNames.{folder_of}
 use Rattle.vol_spec.specs.Copies.{AreOfOneVolume, copied_cells, copied_raw, copy, is_copied}
@@ -27,7 +26,7 @@ use Rattle.shard_writer.specs.declared.written.WriteFault.TheVariants as writes
 use Rattle.write_plan.specs.Pairs.{cell_count}
 use Rattle.make_scale.specs.Making.{Puts, Wrote}
 use Rattle.vol_base.specs.declared.outside.StoreRefusal.{StoreRefusal}
-use Rattle.reshard_cmd.specs.Resharding.{HasCopyJobs, IsCopied, said_copy, PutsCopyFront, SparesFaulty, copy_fault, copy_list}
+use Rattle.reshard_cmd.specs.Resharding.{HasCopyJobs, said_copy, PutsCopyFront, SparesFaulty, copy_fault, copy_list}
 use Rattle.reshard_cmd.proofs.FaultSteps.{first_is, none_is}
 use Rattle.reshard_cmd.proofs.JobSteps.{as_many_jobs, job_by_job, objects_by_job, spared_by_job}
 

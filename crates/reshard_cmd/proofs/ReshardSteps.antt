@@ -1,26 +1,21 @@
 -- What `reshard` answers, by what the copy of a scale answers.
-use Rattle.std.proofs.Common.{◌≡◌, ◌∙◌, Option, Some, None, IfSome, Result, Ok, Err, false, sym, subst, ap, inl, inr, ⊎_elim}
-use Rattle.std.specs.Prelude.{IsOkAnd}
-use Rattle.vol_base.specs.Outside.{Draft, Objects, OnlyReads}
+use Rattle.std.proofs.Common.{◌≡◌, ◌∙◌, Option, Some, None, IfSome, Result, Ok, Err, subst, ap, inl, inr, ⊎_elim}
+use Rattle.vol_base.specs.Outside.{Objects}
 use Rattle.vol_spec.proofs.Told.{in_told}
 use Rattle.vol_spec.specs.Copies.{AreOfOneVolume, copy}
 use Rattle.vol_spec.specs.Types.{Name}
 use Rattle.vol_spec.specs.declared.scale.Scale.{Scale}
 use Rattle.chunk_laws.specs.Told.{HasNoFault}
-use Rattle.shard_writer.specs.Writing.{Drops}
 use Rattle.shard_writer.specs.declared.written.Written.{Written}
-use Rattle.command_base.proofs.Choices.{ok_and}
 use Rattle.command_base.specs.Ending.{EndsWell, Refuses}
 use Rattle.command_base.specs.Outlets.{Outlets, Tells}
-use Rattle.command_base.specs.Scales.{IsWritableAlone, stored_scale}
-use Rattle.command_base.specs.Statuses.{puts, Reports}
-use Rattle.command_base.specs.declared.refusal.NoScale.{NoScale as NoScaleType}
+use Rattle.command_base.specs.Scales.{stored_scale}
+use Rattle.command_base.specs.Statuses.{Reports}
 use Rattle.command_base.specs.declared.status.Status.{Status}
 use Rattle.reshard_cmd.proofs.CopySteps.{all_read, scales_kept}
 use Rattle.make_scale.proofs.StoredSteps.{both_and, no_difference, refused_ready, retold}
 use Rattle.make_scale.specs.Stored.{MakesStored, told_making}
 use Rattle.reshard_cmd.specs.Copying.{AllReadAsSource, CanReshard, CopiedBack, CopiesStored, CountsCopy, HasCopied, IsReadyCopy, IsRightCopy, named_in, refusal_line, told_copy}
-use Rattle.make_scale.specs.Making.{KeepsStore}
 use Rattle.reshard_cmd.specs.Judging.{DiffersFirst}
 use Rattle.make_scale.specs.Refusals.{refusal_line as make_line, refusal_status}
 use Rattle.reshard_cmd.specs.Resharding.{IsCopied, said_copy}

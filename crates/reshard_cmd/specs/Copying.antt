@@ -1,22 +1,19 @@
 -- What `reshard` answers (this project's profile).
-use Rattle.std.specs.Prelude.{◌≡◌, ◌⊎◌, ◌<◌, length, All, Option, Some, None, Result, Ok as Done, Err, IfOk, IfSome, IsOkAnd, IsSomeAnd}
+use Rattle.std.specs.Prelude.{◌≡◌, ◌⊎◌, length, Option, Some, Result, Ok as Done, IfSome, IsSomeAnd}
 use Rattle.vol_base.specs.Outside.{Draft, Objects}
 use Rattle.vol_base.specs.declared.boxes.Box3.{Box3}
 use Rattle.vol_spec.specs.Copies.{AreOfOneVolume, copied_cells}
 use Rattle.vol_spec.specs.Grid.{Inside}
 use Rattle.vol_spec.specs.Types.{Bytes, Name}
-use Rattle.vol_spec.specs.Writable.{IsWritable}
 use Rattle.vol_spec.specs.declared.scale.Scale.{Scale}
 use Rattle.chunk_laws.specs.Told.{HasNoFault}
 use Rattle.copy_laws.specs.Copied.{copied_in, KeepsValues, ReadsAsSource}
-use Rattle.size_laws.specs.Further.{all_views}
 use Rattle.shard_writer.specs.Writing.{BeginsNext, Drops}
 use Rattle.shard_writer.specs.declared.written.Written.{Written}
-use Rattle.view_writer.specs.Views.{first_wide}
 use Rattle.command_base.specs.Ending.{Ends}
 use Rattle.command_base.specs.Lines.{written_line}
 use Rattle.command_base.specs.Outlets.{Outlets}
-use Rattle.command_base.specs.Scales.{IsWritableAlone, stored_scale}
+use Rattle.command_base.specs.Scales.{stored_scale}
 use Rattle.command_base.specs.declared.refusal.NoScale.{NoScale}
 use Rattle.command_base.specs.declared.status.Status.{Status}
 use Rattle.reshard_cmd.specs.Judging.{DiffersFirst}

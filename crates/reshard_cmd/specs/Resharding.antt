@@ -1,11 +1,11 @@
 -- What copying a scale into another layout answers, and what stands after it (this project's).
 use Rattle.std.specs.Prelude.{◌≡◌, ◌≢◌, ◌⊎◌, map, length, Option, Some, None, Result, Contains, IfSome}
 use Rattle.std.specs.FinMap as fin
-use Rattle.vol_base.specs.Outside.{Draft, Objects, OnlyReads}
+use Rattle.vol_base.specs.Outside.{Draft, Objects}
 use Rattle.vol_base.specs.declared.faults.Fault.{Fault}
 use Rattle.vol_spec.specs.BoxValues.{first_some}
 use Rattle.vol_spec.specs.Chunks.{fault_in}
-use Rattle.vol_spec.specs.Copies.{AreOfOneVolume, copied_cells, copy}
+use Rattle.vol_spec.specs.Copies.{copied_cells, copy}
 use Rattle.vol_spec.specs.Cut.{first_fault}
 use Rattle.vol_spec.specs.Grid.{IsCell, cell_box}
 use Rattle.vol_spec.specs.StoredBytes.{object_of}

@@ -37,7 +37,7 @@ use Rattle.update_laws.proofs.ReadSteps.{updated_sound, updated_value}
 use Rattle.update_laws.proofs.UpdateSteps.{AreInOrder-after}
 use Rattle.updater.specs.Updates as updater
 use Rattle.updater.specs.Updates.{IsApart, work_of}
-use Rattle.update_cmd.specs.Updating.{HasUpdateJobs, IsUpdated, PutsUpdateFront, SparesFaulty, Updates, unwritten, update_fault, update_list}
+use Rattle.update_cmd.specs.Updating.{HasUpdateJobs, PutsUpdateFront, SparesFaulty, Updates, unwritten, update_fault, update_list}
 use Rattle.update_cmd.specs.declared.fault.UpdateFault.{UpdateFault}
 use Rattle.told_writer.specs.Told.{Wrote}
 

@@ -1,8 +1,7 @@
 use Rattle.std.proofs.Common.{◌≡◌, false}
 use Rattle.vol_base.specs.Outside.{HaveBytes, any_under}
 use Rattle.vol_spec.specs.CellNames.{folder_of}
-use Rattle.shard_writer.specs.Writing.{BeginsNext}
-use Rattle.make_scale.proofs.AnswerSteps.{begun_read, few_cells, folder_judged, folder_kept, folder_told, scales_judged, scales_kept, scales_told, told_in}
+use Rattle.make_scale.proofs.AnswerSteps.{few_cells, folder_judged, folder_kept, folder_told, scales_judged, scales_kept, scales_told, told_in}
 use Rattle.make_scale.proofs.scale.make_scale.Goals as goal
 
 pub returns-in-Err-clause-judges : goal.returns-in-Err-clause-judges
