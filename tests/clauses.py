@@ -173,12 +173,14 @@ def wrong_in_edit(path):
 
 
 def judge_edits():
-    """Each edit applies, and stands in one of the folders alone; and two pages say how many there are in each."""
-    paths = edits_in(*EDITS)
-    named = collections.Counter((path.parent.parent, path.name) for path in paths)
-    for path in paths:
-        twice = ["it stands in both folders"] if named[path.parent.parent, path.name] > 1 else []
-        yield f"{path.relative_to(ROOT)}", wrong_in_edit(path) + twice
+    """The edits of a crate apply, and each stands in one of the folders alone; and two pages say how many there are in each."""
+    crates = collections.defaultdict(list)
+    for path in edits_in(*EDITS):
+        crates[path.parent.parent.name].append(path)
+    for crate, paths in sorted(crates.items()):
+        wrong = [f"{path.stem}: {one}" for path in paths for one in wrong_in_edit(path)]
+        twice = collections.Counter(path.stem for path in paths)
+        yield f"crates/{crate}: edits", wrong + [f"{name} stands in both folders" for name, count in twice.items() if count > 1]
     for line in (ROOT / "docs/theorem.md").read_text().split("| Wrong program |")[-1].split("\n\n")[0].splitlines()[2:]:
         parts = (part.partition(": ") for part in cells_of(line)[1].split("; "))
         named = [(crate, name) for crates, _, names in parts for crate in crates.split(", ") for name in names_in(names)]
