@@ -193,6 +193,15 @@ def judge_edits():
             yield f"{page}: {folder}", [] if told == [str(count)] else [f"it tells {', '.join(told) or 'nothing'}, and there are {count}"]
 
 
+def judge_crates():
+    """No line of crates.txt names a crate of a later one."""
+    rows = [line.partition("#")[0].replace(":", " ").split() for line in (ROOT / "crates.txt").read_text().splitlines()]
+    rows = [row for row in rows if row]
+    names = [row[0] for row in rows]
+    wrong = [f"{row[0]} names {name} of a later line" for k, row in enumerate(rows) for name in row[1:] if name in names[k:]]
+    yield "crates.txt: order", wrong
+
+
 def words_of_code():
     """The words of the crates and of the scripts, and what crates, edits and scripts are called."""
     paths = [path for kind in ("src/**/*.rt", "specs/*.antt", "proofs/*.antt") for path in CRATES.glob(f"*/{kind}")]
@@ -235,6 +244,7 @@ def judge_all():
     yield from judge_theorem(code)
     yield from judge_names()
     yield from judge_edits()
+    yield from judge_crates()
 
 
 if __name__ == "__main__":
