@@ -22,6 +22,7 @@ import socket
 import struct
 import subprocess
 import sys
+import threading
 import time
 import urllib.parse
 
@@ -32,7 +33,7 @@ from model import Sharding, Volume, infos_of, stored, stream_of
 from model.chance import with_numbers
 from model.murmur import finish
 from model.segments import bytes_of
-from servers import Handler, own, read_file, running
+from servers import Handler, Plain, own, read_file, running
 
 PAGE = SCRIPT.parent / "slices.html"
 WINDOW = (1000, 720)
@@ -477,6 +478,7 @@ class Page(Browser):
         """In each slice one line of pixels across and one down differ, which meet in the voxel at the cross."""
         for name, (across, down, _) in PANES.items():
             other, columns, rows = self.differences(name)
+            want_true(other, f"{name} has no cross")
             column, row = (collections.Counter(places).most_common(1)[0][0] for places in list(zip(*other))[:2])
             strays = [place for place in other if place[0] != column and place[1] != row]
             want((strays, columns[column], rows[row]), ([], self.view.at[across], self.view.at[down]), f"the cross of {name}")
@@ -571,6 +573,23 @@ class Failing(Handler):
         content = content if status == 200 else b""
         sent = content[: len(content) // 2] if name == self.server.broken else content
         self.reply(status, sent, len(content), **{"Access-Control-Allow-Origin": "*"})
+
+
+class Slow(Plain):
+    """Answers a page of another origin after a while, and notes how many requests are there at once."""
+
+    def do_GET(self):  # pylint: disable=invalid-name
+        with self.server.lock:
+            self.server.now += 1
+            self.server.most = max(self.server.most, self.server.now)
+        time.sleep(0.1)
+        # before the reply, behind which the next request may come
+        with self.server.lock:
+            self.server.now -= 1
+        super().do_GET()
+
+    def reply(self, status, body, length=None, **fields):
+        super().reply(status, body, length, Access_Control_Allow_Origin="*", **fields)
 
 
 class OnPage(Trial):
@@ -734,8 +753,17 @@ class OnPage(Trial):
         for address, told in (source, "the server can't be reached"), ("", "name the volume"):
             page.want_told(PAGE.as_uri(), f"source={address}", told)
 
+    def requests_at_once(self, page):
+        """A page that is a file has one at a time to a server of this machine, or as many as its address says."""
+        scale, view = image(8, (70, 45, 33), (32, 16, 16)), View((30, 20, 10), 4, 0, (0, 255))
+        store(self, scale)
+        for more, least, most in ("", 1, 1), ("&connections=3", 2, 3):
+            with running(Slow, folder=self.folder / "d", knows_ranges=True, lock=threading.Lock(), now=0, most=0) as server:
+                with page.shows(self, scale, view, f"http://127.0.0.1:{server.server_port}{more}"):
+                    want_true(least <= server.most <= most, f"{server.most} requests at once, {more}")
+
     def what_vol_tool_serve_serves(self, page):
-        """A page that is a file shows it, over one connection at a time."""
+        """A page that is a file shows it."""
         scale = image(16, (61, 50, 40), (16, 16, 16), sharding=Sharding(2, False, 2, 3))
         store(self, scale)
         with own(self) as port, page.shows(self, scale, View((30, 25, 20), 5, 0, (1000, 50000)), f"http://localhost:{port}"):
