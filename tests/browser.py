@@ -158,11 +158,17 @@ FETCH = """
 """
 
 
-def fetch_parts(browser, port, content, most):
-    """A page of another origin asks for all pieces of /s/large at once, and gets them within so many milliseconds."""
+def fetch_parts(port, content, most):
+    """
+    A page of another origin asks for all pieces of /s/large at once, and gets them within so many milliseconds. The machine may be busy with
+    other rows, so there are three tries, each by a new browser; a server that waits for connections that are kept is late in each.
+    """
     pieces = [content[begin : begin + PIECE] for begin in range(0, len(content), PIECE)]
-    with running(Page) as other:
-        browser.open(f"http://127.0.0.1:{other.server_port}/", "document.readyState === 'complete'")
-        spent, found = browser.run(FETCH % (f"http://127.0.0.1:{port}/s/large", len(pieces)))
-    want(found, [[206, PIECE, list(hashlib.sha256(piece).digest())] for piece in pieces], "the pieces")
-    want_true(spent < most, f"{len(pieces)} pieces took {spent:.0f} ms")
+    due, spent = [[206, PIECE, list(hashlib.sha256(piece).digest())] for piece in pieces], []
+    while len(spent) < 3 and (not spent or spent[-1] >= most):
+        with running(Page) as other, Browser((300, 200)) as browser:
+            browser.open(f"http://127.0.0.1:{other.server_port}/", "document.readyState === 'complete'")
+            milliseconds, found = browser.run(FETCH % (f"http://127.0.0.1:{port}/s/large", len(pieces)))
+        want(found, due, "the pieces")
+        spent.append(round(milliseconds))
+    want_true(spent[-1] < most, f"{len(pieces)} pieces took {spent} ms")

@@ -18,7 +18,7 @@ import subprocess
 import threading
 import time
 
-from browser import Browser, fetch_parts
+from browser import fetch_parts
 from harness import HALL_PROGRAM, LIMIT, NO_OUTPUTS, answers, main, methods_of, want, want_true, within
 from model import refused
 from model.replies import BAD, SILENCE, ask, closing, part_of, whole_of
@@ -143,8 +143,7 @@ class Cases(Hall):
         """It gets 40 ranges of another origin in under 3 seconds, though it keeps its connections."""
         with self.start("d --port=0 --connections=1000 --workers=8", stdout=subprocess.PIPE) as child:
             try:
-                with Browser((300, 200)) as browser:
-                    fetch_parts(browser, int(child.stdout.readline().split()[1]), LARGE[: 40 << 16], 3000)
+                fetch_parts(int(child.stdout.readline().split()[1]), LARGE[: 40 << 16], 3000)
             finally:
                 child.send_signal(signal.SIGTERM)
                 want(child.wait(LIMIT), -signal.SIGTERM, "the status")

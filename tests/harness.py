@@ -8,6 +8,7 @@ import argparse
 import collections
 import contextlib
 import dataclasses
+import importlib.util
 import itertools
 import multiprocessing
 import os
@@ -380,7 +381,8 @@ def find_python(*modules):
     script = "import importlib.util, sys; sys.exit(None in map(importlib.util.find_spec, sys.argv[1:]))"
     pythons = [path for path in (sys.executable, "/usr/bin/python3") if os.access(path, os.X_OK)]
     found = (path for path in pythons if subprocess.run([path, "-c", script, *modules], check=False).returncode == 0)
-    return needed(next(found, None), " and ".join(modules))
+    missing = [module for module in modules if importlib.util.find_spec(module) is None]
+    return needed(next(found, None), " or ".join(missing))
 
 
 # Pages

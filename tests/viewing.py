@@ -593,7 +593,7 @@ class Slow(Plain):
 
 
 class OnPage(Trial):
-    """The rows that have a browser of their own."""
+    """The rows that are given a browser with the page."""
 
     def shardings_of_every_kind(self, page):
         for number, sharding in enumerate(SHARDINGS):
@@ -769,18 +769,18 @@ class OnPage(Trial):
         with own(self) as port, page.shows(self, scale, View((30, 25, 20), 5, 0, (1000, 50000)), f"http://localhost:{port}"):
             pass
 
-    def pieces_of_vol_tool_serve_at_once(self, page):
-        """A page of another origin asks for 40, over as many connections as the browser likes."""
-        content = random.Random(0).randbytes(40 << 16)
-        self.lay_out({"d/s/large": content})
-        with own(self) as port:
-            fetch_parts(page, port, content, 8000)
-
-
 def shows_form(trial, page, title, scale, view):
     store(trial, scale)
     with page.shows(trial, scale, view):
         page.keep(title)
+
+
+def fetches_pieces(trial):
+    """A page of another origin asks `vol_tool serve` for 40 pieces at once, over as many connections as the browser likes."""
+    content = random.Random(0).randbytes(40 << 16)
+    trial.lay_out({"d/s/large": content})
+    with own(trial) as port:
+        fetch_parts(port, content, 8000)
 
 
 def on_page(trial, judge, *arguments):
@@ -794,6 +794,7 @@ def rows():
     yield "what a view answers", replies
     yield "a view whose server ends", serves_on
     yield "views that are refused", refuses
+    yield "pieces of vol_tool serve at once", fetches_pieces
     for title, *form in FORMS:
         yield f"the page: {title}", on_page, shows_form, title, *form
     for title, judge in methods_of(OnPage, Trial):
