@@ -100,10 +100,7 @@ fn store_of(alloc: Global, reply: &[u8]) -> Result<Remote<ScriptDial>, Fail> {
 }
 
 // A read from the third byte on: how many bytes came, or that there is no object, where it didn't fail.
-fn read<D: Dial + Drop>(
-    store: &mut Remote<D>,
-    buffer: &mut [u8; 3],
-) -> Result<Option<Got>, Fail> {
+fn read<D: Dial + Drop>(store: &mut Remote<D>, buffer: &mut [u8; 3]) -> Result<Option<Got>, Fail> {
     let name = name_of("d/s/x")?;
     Ok(store.read_at(&name, 2, buffer).ok())
 }
@@ -159,10 +156,7 @@ const SIZES: &[Size] = &[
 ];
 
 // The length of an object, or that there is none, where the call doesn't fail.
-fn size_of<D: Dial + Drop>(
-    store: &mut Remote<D>,
-    name: &str,
-) -> Result<Option<Option<u64>>, Fail> {
+fn size_of<D: Dial + Drop>(store: &mut Remote<D>, name: &str) -> Result<Option<Option<u64>>, Fail> {
     let name = name_of(name)?;
     Ok(store.size(&name).ok())
 }

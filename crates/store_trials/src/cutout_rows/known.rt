@@ -136,10 +136,7 @@ const TWICE: [u8; 66] = [
 
 const BAD_ID: Fault = Fault::Index(IndexFault::BadId { row: 1 });
 
-const SINGLE: &[Row] = &[
-    (0, Ok(&[10]), 16 + 48 + 1),
-    (1, Err(BAD_ID), 16 + 48),
-];
+const SINGLE: &[Row] = &[(0, Ok(&[10]), 16 + 48 + 1), (1, Err(BAD_ID), 16 + 48)];
 
 // An empty minishard, and one with the chunk of the second cell.
 const SECOND: [u8; 57] = [

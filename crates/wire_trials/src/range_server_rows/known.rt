@@ -1,10 +1,10 @@
-//! Streams whose replies are known, in pieces of every size, in every cut into two, and with each call failing in turn.
+//! Streams whose replies are known, in pieces of every size, in every cut into two, and byte by byte with each call failing in turn.
 
 use super::cuts::CutLink;
 use super::{Ended, link_of, serve_link};
 use memory_rows::{name_of, put, store_of};
 use range_server::{Ending, ServeFault, serve_to_end};
-use std::alloc::Global;
+use std::alloc::{AllocError, Global};
 use std::process::Abort;
 use std::test::Fail;
 use vol_base::MemoryLink;
@@ -95,9 +95,15 @@ fn serve(alloc: Global, peer: &Peer<'_>, faults: &Faults<'_>) -> Result<(Vec<u8>
     Ok((Vec::from_slice(alloc, link.sent())?, served))
 }
 
-// A peer whose calls don't fail is sent these.
-fn is_sent(rt: &impl Abort, alloc: Global, peer: &Peer<'_>, wanted: &[u8]) -> Result<(), Fail> {
-    let (sent, served) = serve(alloc, peer, &NO_FAULTS)?;
+// A stream that comes in these sizes has these replies, where no call fails.
+fn comes_in(
+    rt: &impl Abort,
+    alloc: Global,
+    stream: &[u8],
+    sizes: &[usize],
+    wanted: &[u8],
+) -> Result<(), Fail> {
+    let (sent, served) = serve(alloc, &Peer { stream, sizes }, &NO_FAULTS)?;
     assert_eq!(rt; served, Ok(Ending::Whole));
     assert_eq!(rt; sent.as_slice(), wanted);
     Ok(())
@@ -165,32 +171,37 @@ fn calls_fail(rt: &impl Abort, alloc: Global, peer: &Peer<'_>, wanted: &[u8]) ->
     Ok(())
 }
 
-// A stream that comes in these sizes has these replies, which calls that fail cut short.
-fn comes_in(
+// So it has where it comes so, and calls that fail cut them short.
+fn breaks_in(
     rt: &impl Abort,
     alloc: Global,
     stream: &[u8],
     sizes: &[usize],
     wanted: &[u8],
 ) -> Result<(), Fail> {
-    let peer = Peer { stream, sizes };
-    is_sent(rt, alloc, &peer, wanted)?;
-    calls_fail(rt, alloc, &peer, wanted)
+    comes_in(rt, alloc, stream, sizes, wanted)?;
+    calls_fail(rt, alloc, &Peer { stream, sizes }, wanted)
 }
 
-// A stream has these replies, in every cut into two pieces, byte by byte, and in pieces of every other size.
-fn answers(rt: &impl Abort, alloc: Global, stream: &[u8], wanted: &[u8]) -> Result<(), Fail> {
-    for cut in 1..stream.len().max(2) {
+// A stream has these replies in every cut into two pieces.
+fn answers_cuts(rt: &impl Abort, alloc: Global, stream: &[u8], wanted: &[u8]) -> Result<(), Fail> {
+    for cut in 1..stream.len() {
         comes_in(rt, alloc, stream, &[cut, usize::MAX], wanted)?;
     }
-    comes_in(rt, alloc, stream, &[1], wanted)?;
+    Ok(())
+}
+
+// So it has at once and byte by byte, where each call fails in turn too, and in pieces of every other size.
+fn answers_pieces(
+    rt: &impl Abort,
+    alloc: Global,
+    stream: &[u8],
+    wanted: &[u8],
+) -> Result<(), Fail> {
+    breaks_in(rt, alloc, stream, &[], wanted)?;
+    breaks_in(rt, alloc, stream, &[1], wanted)?;
     for size in 2..stream.len() {
-        let sizes = [size];
-        let peer = Peer {
-            stream,
-            sizes: &sizes,
-        };
-        is_sent(rt, alloc, &peer, wanted)?;
+        comes_in(rt, alloc, stream, &[size], wanted)?;
     }
     Ok(())
 }
@@ -201,7 +212,17 @@ const CLOSING: &str =
 // Two parts of a stream, and the replies to it in two parts.
 type Known = ([&'static str; 2], [&'static str; 2]);
 
-const KNOWN: &[Known] = &[
+fn check_known(rt: &impl Abort, alloc: Global, rows: &[Known]) -> Result<(), Fail> {
+    for ([first, second], [reply, next_reply]) in rows {
+        let stream = format!(in alloc; "{first}{second}")?;
+        let replies = format!(in alloc; "{reply}{next_reply}")?;
+        answers_cuts(rt, alloc, stream.as_bytes(), replies.as_bytes())?;
+        answers_pieces(rt, alloc, stream.as_bytes(), replies.as_bytes())?;
+    }
+    Ok(())
+}
+
+const SINGLE: &[Known] = &[
     (["", ""], ["", ""]),
     ([PART, ""], [PART_REPLY, ""]),
     (
@@ -209,17 +230,51 @@ const KNOWN: &[Known] = &[
         [HEAD_REPLY, ""],
     ),
     (
-        ["GET /s/x HTTP/1.0\r\nHost: a\r\n\r\n", PART],
-        [LAST_WHOLE_REPLY, ""],
-    ),
-    (
         ["GET /s/y HTTP/1.1\r\nHost: a\r\n\r\n", ""],
         [MISSING_REPLY, ""],
+    ),
+    (
+        ["GET /s/x HTTP/1.1\r\nRange: bytes=10-\r\n\r\n", ""],
+        [NO_PART_REPLY, ""],
+    ),
+    (
+        ["GET /s/x HTTP/1.0\r\nHost: a\r\n\r\n", ""],
+        [LAST_WHOLE_REPLY, ""],
+    ),
+];
+
+#[test]
+fn answers_a_request(rt: HostRuntime) -> Result<(), Fail> {
+    check_known(&rt, rt.alloc(), SINGLE)
+}
+
+const PIPED: &[Known] = &[
+    ([PART, PART], [PART_REPLY, PART_REPLY]),
+    ([CLOSING, PART], [LAST_PART_REPLY, ""]),
+];
+
+#[test]
+fn answers_piped_requests(rt: HostRuntime) -> Result<(), Fail> {
+    check_known(&rt, rt.alloc(), PIPED)
+}
+
+const OLD_OR_ABOVE: &[Known] = &[
+    (
+        ["GET /s/x HTTP/1.0\r\nHost: a\r\n\r\n", PART],
+        [LAST_WHOLE_REPLY, ""],
     ),
     (
         ["GET /../x HTTP/1.1\r\nHost: a\r\n\r\n", PART],
         [MISSING_REPLY, PART_REPLY],
     ),
+];
+
+#[test]
+fn answers_an_old_version_and_a_folder_above(rt: HostRuntime) -> Result<(), Fail> {
+    check_known(&rt, rt.alloc(), OLD_OR_ABOVE)
+}
+
+const POSTED: &[Known] = &[
     (
         ["POST /s/x HTTP/1.1\r\nHost: a\r\n\r\n", ""],
         [METHOD_REPLY, ""],
@@ -231,57 +286,60 @@ const KNOWN: &[Known] = &[
         ],
         [BAD_REPLY, ""],
     ),
-    (
-        ["GET /s/x HTTP/1.1\r\nRange: bytes=10-\r\n\r\n", ""],
-        [NO_PART_REPLY, ""],
-    ),
+];
+
+#[test]
+fn answers_another_method(rt: HostRuntime) -> Result<(), Fail> {
+    check_known(&rt, rt.alloc(), POSTED)
+}
+
+const BAD: &[Known] = &[
     (["GET /s/x HTTP/1.1\r\n", ""], [BAD_REPLY, ""]),
     (["GET /s/x HTTP/1.1\r\nHost", ""], [BAD_REPLY, ""]),
     (["\0", ""], [BAD_REPLY, ""]),
     (["\0", PART], [BAD_REPLY, ""]),
     ([PART, "\0"], [PART_REPLY, BAD_REPLY]),
-    ([PART, PART], [PART_REPLY, PART_REPLY]),
-    ([CLOSING, PART], [LAST_PART_REPLY, ""]),
 ];
 
-fn check_known(rt: &impl Abort, alloc: Global, rows: &[Known]) -> Result<(), Fail> {
-    for ([first, second], [reply, next_reply]) in rows {
-        let stream = format!(in alloc; "{first}{second}")?;
-        let replies = format!(in alloc; "{reply}{next_reply}")?;
-        answers(rt, alloc, stream.as_bytes(), replies.as_bytes())?;
-    }
-    Ok(())
+#[test]
+fn answers_what_is_no_head(rt: HostRuntime) -> Result<(), Fail> {
+    check_known(&rt, rt.alloc(), BAD)
 }
 
-#[test]
-fn answers_known_streams(rt: HostRuntime) -> Result<(), Fail> {
-    check_known(&rt, rt.alloc(), KNOWN)
-}
-
-#[test]
-fn answers_a_number_of_400_digits(rt: HostRuntime) -> Result<(), Fail> {
+// A range from a number of 400 digits on.
+fn long_number(alloc: Global) -> Result<String, AllocError> {
     let front = "GET /s/x HTTP/1.1\r\nHost: a\r\nRange: bytes=";
-    let stream = format!(in rt.alloc(); "{front}{:9>400}-\r\n\r\n", "")?;
-    answers(&rt, rt.alloc(), stream.as_bytes(), NO_PART_REPLY.as_bytes())
+    format!(in alloc; "{front}{:9>400}-\r\n\r\n", "")
 }
 
-// In every cut into two pieces, and byte by byte.
+#[test]
+fn answers_400_digits_in_two_pieces(rt: HostRuntime) -> Result<(), Fail> {
+    let stream = long_number(rt.alloc())?;
+    answers_cuts(&rt, rt.alloc(), stream.as_bytes(), NO_PART_REPLY.as_bytes())
+}
+
+#[test]
+fn answers_400_digits_in_pieces(rt: HostRuntime) -> Result<(), Fail> {
+    let stream = long_number(rt.alloc())?;
+    answers_pieces(&rt, rt.alloc(), stream.as_bytes(), NO_PART_REPLY.as_bytes())
+}
+
+// 8,192 bytes that are no head, and a request behind them: byte by byte, in halves, where each call fails in turn too, and in every
+// 64th cut and the last 200, since the bytes are all the same one.
 #[test]
 fn answers_8192_bytes_that_are_no_head(rt: HostRuntime) -> Result<(), Fail> {
     let alloc = rt.alloc();
     let stream = format!(in alloc; "{:a>8192}{PART}", "")?;
     let stream = stream.as_bytes();
     let wanted = BAD_REPLY.as_bytes();
+    breaks_in(&rt, alloc, stream, &[4096, usize::MAX], wanted)?;
+    comes_in(&rt, alloc, stream, &[1], wanted)?;
     for cut in 1..stream.len() {
-        let sizes = [cut, usize::MAX];
-        let peer = Peer {
-            stream,
-            sizes: &sizes,
-        };
-        is_sent(&rt, alloc, &peer, wanted)?;
+        if cut % 64 == 0 || stream.len() - cut <= 200 {
+            comes_in(&rt, alloc, stream, &[cut, usize::MAX], wanted)?;
+        }
     }
-    is_sent(&rt, alloc, &Peer { stream, sizes: &[1] }, wanted)?;
-    comes_in(&rt, alloc, stream, &[4096, usize::MAX], wanted)
+    Ok(())
 }
 
 // An object that is longer than what is sent at once.

@@ -101,10 +101,7 @@ const SIZES: &[Size] = &[
         "HTTP/1.1 200 OK\r\nContent-Length: 18446744073709551616\r\n\r\n",
         None,
     ),
-    (
-        "HTTP/1.1 404 OK\r\nContent-Length: 2\r\n\r\n",
-        Some(None),
-    ),
+    ("HTTP/1.1 404 OK\r\nContent-Length: 2\r\n\r\n", Some(None)),
     (
         "HTTP/1.1 206 OK\r\nContent-Length: 3\r\nContent-Range: bytes 2-4/10\r\n\r\n",
         None,
