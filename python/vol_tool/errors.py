@@ -36,6 +36,10 @@ class OutsideScale(VolToolError, IndexError):
     """A box, or an index, that isn't inside the scale."""
 
 
+class BadIndex(VolToolError, IndexError):
+    """An index of another kind than numbers, slices, `...` and None, or one with too many parts."""
+
+
 class TooLarge(VolToolError, ValueError):
     """More bytes, cells or padded voxels than one run of the program takes."""
 
