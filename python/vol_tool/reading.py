@@ -1,0 +1,131 @@
+"""Boxes of scales as numpy arrays: the programs' output is read into the array's own memory."""
+from __future__ import annotations
+
+import dataclasses
+import math
+from typing import Any, NamedTuple, Sequence
+
+import numpy
+
+from .boxes import Box, Three, count_voxels, cut_box
+from .errors import StoreFault
+from .infos import MOST_BYTES, ScaleInfo
+from .stores import AnyStore
+
+# How many bytes are read at once where the values can't be read to where they belong.
+MOST_SCRATCH = 1 << 28
+
+# How many bytes of channels that aren't wanted are read at once.
+PIECE = 1 << 20
+
+Positions = Sequence[range]
+
+
+class Part(NamedTuple):
+    """A part of what is read: the positions on z, y and x, ascending, and where their values go in the array."""
+
+    positions: tuple[range, ...]
+    target: tuple[slice, ...]
+
+    def bounds(self) -> Box:
+        """The box that has all positions, from the scale's first voxel on."""
+        z, y, x = ((axis[0], axis[-1] + 1) for axis in self.positions)
+        return x, y, z
+
+
+def _within(positions: range, begin: int, end: int) -> slice:
+    """Which of some ascending positions are in a span."""
+    first = max(0, -(-(begin - positions.start) // positions.step))
+    last = min(len(positions), -(-(end - positions.start) // positions.step))
+    return slice(first, max(first, last))
+
+
+def _part_of(positions: Positions, box: Box) -> Part | None:
+    """The positions that are in a box, or None where there are none."""
+    target = tuple(_within(axis, *span) for axis, span in zip(positions, reversed(box)))
+    found = tuple(axis[where] for axis, where in zip(positions, target))
+    return Part(found, target) if all(len(axis) for axis in found) else None
+
+
+def whole_part(places: Positions) -> Part:
+    """All positions on z, y and x, as one part."""
+    return Part(tuple(places), tuple(slice(None) for _ in places))
+
+
+def parts_of(places: Positions, chunk: Three, most: int) -> list[Part]:
+    """The positions on z, y and x in parts whose boxes end at borders of chunks, and have at most so many voxels, or a chunk."""
+    boxes = cut_box(whole_part(places).bounds(), (0, 0, 0), chunk, most)
+    return [part for part in (_part_of(places, box) for box in boxes) if part is not None]
+
+
+def _fill(pipe: Any, values: numpy.ndarray | bytearray) -> None:
+    """Reads from a pipe until an array is full; raises EOFError where it ends before."""
+    rest = memoryview(values).cast("B")
+    while rest:
+        count = pipe.readinto(rest)
+        if not count:
+            raise EOFError
+        rest = rest[count:]
+
+
+def _skip(pipe: Any, count: int) -> None:
+    """Reads so many bytes that aren't wanted."""
+    room = memoryview(bytearray(min(count, PIECE)))
+    while count:
+        _fill(pipe, room[:count])
+        count -= min(count, len(room))
+
+
+@dataclasses.dataclass
+class Reader:
+    """Reads a scale of a store. Arrays have the axes channel, z, y, x here, and positions are counted from the scale's first voxel."""
+
+    store: AnyStore
+    scale: ScaleInfo
+    channels: int
+    dtype: numpy.dtype
+
+    def read(self, positions: Positions) -> numpy.ndarray:
+        """The values at some positions, ascending on each of the axes channel, z, y and x, none of them empty."""
+        values = numpy.empty([len(axis) for axis in positions], self.dtype)
+        self.read_into(values, positions)
+        return values
+
+    def read_into(self, values: numpy.ndarray, positions: Positions) -> None:
+        """Puts the values at some positions into an array: by one run of a program, or by several where that is more than it cuts out."""
+        wanted, *places = positions
+        for part in self._parts(values, places):
+            self._read_part(values[(slice(None), *part.target)], wanted, part)
+
+    def _parts(self, values: numpy.ndarray, places: Positions) -> list[Part]:
+        whole, each = whole_part(places), self.channels * self.dtype.itemsize
+        if count_voxels(whole.bounds()) * each <= MOST_BYTES:
+            return [whole]
+        is_direct = values[0].flags.c_contiguous and all(axis.step == 1 for axis in places)
+        return parts_of(places, self.scale.chunk, (MOST_BYTES if is_direct else MOST_SCRATCH) // each)
+
+    def _read_part(self, target: numpy.ndarray, wanted: range, part: Part) -> None:
+        box = part.bounds()
+        x, y, z = ((begin + first, end + first) for (begin, end), first in zip(box, self.scale.offset))
+        with self.store.cut(self.scale.key, (x, y, z)) as run:
+            try:
+                self._take(run.tool.stdout, target, wanted, part, box)
+            except EOFError:
+                run.end()
+                raise StoreFault(f"the program gave fewer values of {self.scale.key} than its box has") from None
+            run.end()
+
+    def _take(self, pipe: Any, target: numpy.ndarray, wanted: range, part: Part, box: Box) -> None:
+        """Reads the channels one after the other, those that are wanted into the array."""
+        sides = [end - begin for begin, end in reversed(box)]
+        is_direct = target[0].flags.c_contiguous and all(axis.step == 1 or len(axis) == 1 for axis in part.positions)
+        scratch = None if is_direct else numpy.empty(sides, self.dtype)
+        steps = tuple(slice(None, None, axis.step) for axis in part.positions)
+        for channel in range(self.channels):
+            if channel not in wanted:
+                _skip(pipe, math.prod(sides) * self.dtype.itemsize)
+            elif scratch is None:
+                _fill(pipe, target[wanted.index(channel)])
+            else:
+                _fill(pipe, scratch)
+                target[wanted.index(channel)] = scratch[steps]
