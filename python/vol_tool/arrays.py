@@ -1,4 +1,4 @@
-"""Volumes as mappings of keys to scales, and scales as arrays that stay where they are: what is indexed is read, what is assigned stored."""
+"""Volumes as mappings of keys to scales, and scales as arrays that stay where they are: what is indexed is read, and assigned stored."""
 from __future__ import annotations
 
 import functools
@@ -10,7 +10,6 @@ import numpy
 
 from .axes import axes_of_scale, check_axes, from_stored
 from .boxes import Three
-from .errors import UsageError
 from .indexing import Picked, pick
 from .infos import Info, Numbers, ScaleInfo
 from .programs import PathText, check_key
@@ -237,5 +236,3 @@ def read(dataset: PathText, key: str, box: Any = "all", out: PathText | None = N
     Raises what open_volume, Volume and Scale.read raise.
     """
     return open_scale(dataset, key, axes).read(box, out)
-
-

@@ -10,12 +10,13 @@ from .arrays import Scale
 from .axes import to_stored
 from .boxes import Three
 from .errors import UsageError
+from .folders import is_empty
 from .indexing import Picked
 from .programs import Place
 from .reading import MOST_SCRATCH, Part, parts_of
 from .slabs import Values, most_of_slab
 from .values import fit
-from .writing import MEMORY, Job, Target, is_empty
+from .writing import MEMORY, Job, Target
 
 
 def _place_of(scale: Scale) -> Place:
@@ -35,7 +36,7 @@ def _spread(picked: Picked, values: numpy.ndarray) -> numpy.ndarray:
         values = numpy.broadcast_to(values, shape)
     except ValueError:
         raise UsageError(f"could not broadcast input array from shape {given} into shape {shape}") from None
-    # What the rest of the index does to positions is undone: an axis that it drops comes back, one that it adds goes, one it turns is turned.
+    # What the rest of the index does is undone: an axis that it drops comes back, one that it adds goes, one that it turns is turned.
     back = {type(None): 0, int: None}
     return values[tuple(back.get(type(part), part) for part in picked.rest if part is not Ellipsis)]
 

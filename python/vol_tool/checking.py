@@ -3,12 +3,15 @@ from __future__ import annotations
 
 import os
 import re
-from typing import Any, NamedTuple
+from typing import Any, Iterator, NamedTuple
 
 from . import programs
 from .boxes import box_of, box_text
-from .errors import StreamFault
-from .programs import PathText
+from .errors import BadInfo, Damaged, StreamFault, TooLarge
+from .folders import files_in
+from .infos import ENCODINGS, WIDTHS, Info, ScaleInfo
+from .programs import PathText, Place, check_key
+from .stores import store_of
 
 
 class Cells(NamedTuple):
@@ -43,8 +46,6 @@ class Files(NamedTuple):
 
 def files_of(folder: PathText) -> Files:
     """The files below a folder that are objects."""
-    from .writing import files_in
-
     sizes = [os.stat(path).st_size for path in files_in(folder)]
     return Files(len(sizes), sum(sizes))
 
@@ -57,3 +58,73 @@ def size_in_words(count: int) -> str:
             return f"{size:.0f} {unit}" if unit == "B" else f"{size:.1f} {unit}"
         size /= 1024
     return f"{size:.1f} TiB"
+
+
+# What is told of a volume
+
+INNER = ("data_encoding", "minishard_index_encoding")
+MOST_CHUNK_SIZES = 8
+
+
+def unread_members(info: Info, scale: ScaleInfo) -> Iterator[tuple[str, Any]]:
+    """The members for which a scale is refused, with their values."""
+    sharding = scale.member.get("sharding")
+    if info.data_type not in WIDTHS:
+        yield "data_type", info.data_type
+    if len(scale.chunk_sizes) > (1 if sharding else MOST_CHUNK_SIZES):
+        yield "chunk_sizes", scale.member["chunk_sizes"]
+    if scale.encoding not in ENCODINGS:
+        yield "encoding", scale.encoding
+    for member in INNER:
+        inner = sharding.get(member, "raw") if isinstance(sharding, dict) else "raw"
+        if inner != "raw":
+            yield member, inner
+
+
+def describe(info: Info) -> Iterator[str]:
+    """A line on each scale: what it is, and whether it can be read, as far as its info tells."""
+    for key in info.keys:
+        try:
+            scale = info.scale(key)
+        except BadInfo as why:
+            yield f"{key}: not read: {why}"
+            continue
+        unread = ", ".join(f"{member} {value}" for member, value in unread_members(info, scale))
+        words = [key, "x".join(map(str, scale.size)), info.data_type, scale.encoding, *(["in shards"] if scale.is_sharded else [])]
+        yield f"{' '.join(words)}: {f'not read: {unread}' if unread else 'can be read'}"
+
+
+def _layout_text(scale: ScaleInfo) -> str:
+    chunks = ", ".join("x".join(map(str, chunk)) for chunk in scale.chunk_sizes)
+    return f"{scale.encoding}, chunks {chunks}{' in shards' if scale.is_sharded else ''}"
+
+
+def _tell_stored(place: Place, key: str) -> tuple[str, int]:
+    """What is stored of a scale of a folder, by verify; and the status of what is wrong with it."""
+    files = files_of(place.path / key)
+    what = f"{files.count} files of {size_in_words(files.bytes)}"
+    try:
+        found = verify(place.path, key)
+    except (Damaged, TooLarge) as why:
+        return f"{what}; {why.line}", why.status if isinstance(why, Damaged) else 0
+    return f"{found.stored} of {found.cells} cells stored, {what}", 0
+
+
+def tell_all(dataset: PathText, key: str | None, is_quick: bool) -> Iterator[tuple[str, int]]:
+    """
+    Lines on a volume and its scales, or one of them, each with the status of what is wrong with it, or 0.
+
+    Of a folder they say what is stored, and how much, unless they are to be quick; of a link whether a scale can be read.
+    """
+    store = store_of(dataset)
+    info = store.info()
+    if store.place is None:
+        yield from ((line, 0) for line in describe(info) if key in (None, line.split(" ")[0]))
+        return
+    yield f"{store.name}: {info.kind} of {info.data_type}, {info.channels} channel{'s' if info.channels > 1 else ''}", 0
+    for one in info.keys if key is None else [check_key(key)]:
+        scale = info.scale(one)
+        sides = "x".join(map(str, scale.size))
+        text = f"{one}: {sides} from {','.join(map(str, scale.offset))}, {','.join(map(str, scale.resolution))} nm, {_layout_text(scale)}"
+        stored, status = ("", 0) if is_quick else _tell_stored(store.place, one)
+        yield f"{text}{'; ' if stored else ''}{stored}", status

@@ -9,12 +9,8 @@ import operator
 import pathlib
 from typing import Any, Iterator, Sequence, Tuple, Union
 
-from .boxes import Box, Span, Three, cells_in, chunk_name
+from .boxes import Box, Span, Three, cells_in
 from .errors import BadInfo, NoScale, TooLarge, UnsupportedType, UsageError
-
-__all__ = ["Info", "ScaleInfo", "Sharding", "Three", "Box", "Span", "chunk_name", "put_whole"]
-
-Document = dict
 
 # The types of values that are stored, and how many bytes one has.
 WIDTHS = {"uint8": 1, "uint16": 2, "uint32": 4, "uint64": 8}
@@ -33,14 +29,6 @@ MOST_OFFSET = 1 << 40
 
 Number = Union[int, float]
 Numbers = Tuple[Number, Number, Number]
-
-
-def put_whole(path: pathlib.Path, content: bytes) -> None:
-    """Puts a file in one step: whoever reads it gets the old bytes or the new ones."""
-    path.parent.mkdir(parents=True, exist_ok=True)
-    part = path.with_name(f"{path.name}.part")
-    part.write_bytes(content)
-    part.replace(path)
 
 
 # Numbers that are given

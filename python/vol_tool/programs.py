@@ -16,6 +16,7 @@ from .errors import MissingProgram, UsageError, error_of
 PathText = Union[str, "os.PathLike[str]"]
 
 MOST_NAME = 200
+MOST_WORKERS = 16
 _SEGMENT = r"(?!\.\.?(?:/|$))[A-Za-z0-9_.-]+"
 _NAME = re.compile(rf"(?!-){_SEGMENT}(?:/{_SEGMENT})*")
 
@@ -48,6 +49,13 @@ def check_key(key: str) -> str:
     return key
 
 
+def check_workers(workers: Any) -> int:
+    """A number of workers; raises UsageError where it is none."""
+    if isinstance(workers, int) and 1 <= workers <= MOST_WORKERS:
+        return workers
+    raise UsageError(f"workers is a number from 1 to {MOST_WORKERS}, and not {workers}")
+
+
 def place_of(dataset: PathText) -> Place:
     """Where a data set is; raises UsageError where its last folder isn't named as the programs take a name."""
     text = os.fspath(dataset)
@@ -59,20 +67,19 @@ def place_of(dataset: PathText) -> Place:
     return Place(folder, name)
 
 
-def _build(script: pathlib.Path) -> None:
-    """Lets a checkout build a program where a source is newer; what the build says goes to standard error."""
-    if subprocess.run([script, "--build"], stdin=subprocess.DEVNULL, stdout=subprocess.DEVNULL, check=False).returncode != 0:
-        raise MissingProgram(f"{script} can't build the program", 125)
-
-
 def _in_root(root: pathlib.Path, name: str) -> str | None:
-    """A program below the folder of a checkout, or of what ./install puts down."""
-    installed, script = root / "libexec" / name, root / "bin" / name
-    if os.access(installed, os.X_OK):
-        return str(installed)
+    """
+    A program below the folder of a checkout, or of what ./install puts down.
+
+    Raises MissingProgram in a checkout where it isn't built: that takes so long that nobody is surprised with it.
+    """
+    installed, built = root / "libexec" / name, root / "crates" / name / "out" / name
+    for path in (installed, built):
+        if os.access(path, os.X_OK):
+            return str(path)
     if (root / "bin" / "programs.sh").is_file() and (root / "crates" / name).is_dir():
-        _build(script)
-        return str(root / "crates" / name / "out" / name)
+        text = f"{root / 'bin' / name} --build does, which takes half an hour or more the first time"
+        raise MissingProgram(f"the program {name} isn't built yet: {text}")
     return None
 
 

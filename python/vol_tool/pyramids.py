@@ -11,11 +11,11 @@ from typing import Any, Callable
 
 from .boxes import Three
 from .errors import BrokenOff, NotEmpty, SeveralChunkSizes, UsageError
-from .infos import Info, Layout, ScaleInfo, put_whole, read_scale, three_lengths
-from .programs import PathText, Place, Run, check_key, place_of
+from .folders import files_in, is_empty, put_whole
+from .infos import Info, Layout, ScaleInfo, read_scale, three_lengths
+from .programs import PathText, Place, Run, check_key, check_workers, place_of
 from .progress import Bar, bar
 from .streams import Stored, read_stored
-from .writing import check_workers, files_in, is_empty
 
 METHODS = ("mode", "mean")
 MOST_LEVELS = 40

@@ -4,13 +4,14 @@ from __future__ import annotations
 import re
 import struct
 import subprocess
-from typing import Any, Iterable, NamedTuple
-
-import numpy
+from typing import TYPE_CHECKING, Any, Iterable, NamedTuple
 
 from .boxes import Box, sides_of
 from .errors import StreamFault
 from .programs import Place, Run
+
+if TYPE_CHECKING:
+    import numpy
 
 MAGIC = b"PVW1"
 

@@ -13,8 +13,9 @@ import numpy
 from .arrays import Scale, open_scale
 from .boxes import Box, Three, count_voxels, is_inside
 from .errors import BrokenOff, NoScale, OutsideScale, SeveralChunkSizes, TooLarge, UnlikeScales, UsageError, VolToolError
-from .infos import MOST_BYTES, MOST_OFFSET, Info, Layout, ScaleInfo, new_info, put_whole, read_scale, scale_member, three_between, three_lengths
-from .programs import PathText, Place, check_key, place_of
+from .folders import put_whole
+from .infos import MOST_BYTES, MOST_OFFSET, Info, Layout, ScaleInfo, new_info, read_scale, scale_member, three_between, three_lengths
+from .programs import PathText, Place, check_key, check_workers, place_of
 from .progress import Bar, bar
 from .slabs import Values, most_of_slab, pieces_of, slabs_of
 from .streams import Stored, send
@@ -22,29 +23,9 @@ from .values import check_type
 
 MEMORY = 400 << 20
 LEAST_MEMORY = 64 << 20
-MOST_WORKERS = 16
 
 # Statuses after which nothing is stored: the program's refusals, and that of a checkout where the program can't be built.
 REFUSALS = (1, 2, 3, 125)
-
-
-def files_in(folder: PathText) -> Iterator[str]:
-    """The paths of the files that are objects, in a scale's folder or deeper."""
-    try:
-        entries = os.scandir(folder)
-    except (FileNotFoundError, NotADirectoryError):
-        return
-    with entries:
-        for entry in entries:
-            if entry.is_dir():
-                yield from files_in(entry.path)
-            elif not entry.name.endswith(".part"):
-                yield entry.path
-
-
-def is_empty(folder: PathText) -> bool:
-    """Whether no object stands below a scale's folder."""
-    return next(files_in(folder), None) is None
 
 
 # The info of a data set that is written
@@ -250,13 +231,6 @@ def _job_of(values: Values, target: Target, at: Any, workers: int, memory: int, 
         job = Job(values, target, begin, workers, most_of_slab(memory), None, stands=True)
     job.begin_at(resume)
     return job
-
-
-def check_workers(workers: Any) -> int:
-    """A number of workers; raises UsageError where it is none."""
-    if isinstance(workers, int) and 1 <= workers <= MOST_WORKERS:
-        return workers
-    raise UsageError(f"workers is a number from 1 to {MOST_WORKERS}, and not {workers}")
 
 
 def _check_memory(memory: int) -> int:

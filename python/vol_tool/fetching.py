@@ -1,0 +1,51 @@
+"""Copies of parts of volumes that web servers have, in folders of one's own."""
+from __future__ import annotations
+
+import contextlib
+import os
+import pathlib
+from typing import Any, NamedTuple
+
+from .boxes import box_of
+from .infos import Info
+from .programs import PathText, check_key
+from .progress import bar
+
+
+class Copied(NamedTuple):
+    """How many files were copied, how many the server hasn't, and how many were there already."""
+
+    copied: int
+    absent: int
+    kept: int
+
+
+def fetch_info(link: str, dataset: PathText) -> Info:
+    """Copies the info of a volume into the folder of a data set; raises FetchFault and BadInfo."""
+    from .links import copy_info
+
+    return Info.parse(copy_info(link, dataset), f"{os.fspath(dataset)}/info")
+
+
+def fetch(link: str, dataset: PathText, key: str, box: Any = "all", *, progress: bool | None = None) -> Copied:
+    """
+    Copies the chunks of a scale that a box meets into the folder of a data set, and the info where there is none.
+
+    `box` is a text `[x0:x1,y0:y1,z0:z1]`, or `all`, or three pairs, of x, y and z, in voxels of the scale. Files that are there stay,
+    so a copy that was broken off goes on. `progress` is as for vol_tool.progress.bar. Raises FetchFault, BadInfo, NoScale, OutsideScale.
+    """
+    from .links import copy
+
+    path = os.path.join(os.fspath(dataset), "info")
+    info = Info.read(pathlib.Path(path)) if os.path.exists(path) else fetch_info(link, dataset)
+    scale = info.scale(check_key(key))
+    wanted = scale.box if isinstance(box, str) and box == "all" else box_of(box)
+    told = 0
+    with contextlib.closing(bar(key, sum(1 for _ in scale.cells(wanted)), unit=" chunks", progress=progress)) as shown:
+
+        def tell(done: int, _total: int) -> None:
+            nonlocal told
+            shown.update(done - told)
+            told = done
+
+        return Copied(*copy(link, dataset, key, wanted, tell=tell))
