@@ -9,7 +9,7 @@ import pathlib
 import re
 import shutil
 import subprocess
-from typing import Any, NamedTuple, Sequence, Union
+from typing import Any, Callable, NamedTuple, Sequence, Union
 
 from .errors import MissingProgram, UsageError, error_of
 
@@ -118,8 +118,10 @@ class Run:
     """
     A run of a program, of which the last line on its error output is kept. As a context it is ended where what is done in it raises.
 
-    `stdin` and `stdout` are as for subprocess.Popen; pipes aren't buffered.
+    `stdin` and `stdout` are as for subprocess.Popen; pipes aren't buffered. Where it has ended well `at_end` is called.
     """
+
+    at_end: Callable[[], object] | None = None
 
     def __init__(self, name: str, words: Sequence[str], folder: str | None = None, **streams: Any) -> None:
         quiet = {"stdin": subprocess.DEVNULL, "stdout": subprocess.DEVNULL}
@@ -158,6 +160,8 @@ class Run:
         status = self.tool.wait()
         if status != 0:
             raise error_of(status, self._line())
+        if self.at_end is not None:
+            self.at_end()
 
 
 def run(name: str, words: Sequence[str], folder: str | None = None, **streams: Any) -> str:

@@ -134,8 +134,10 @@ class Linked:
         return Info.parse(self.link.info, f"{self.name}/info")
 
     def cut(self, key: str, box: Box) -> Run:
-        self.link.ensure(key, box)
-        return _cutout(place_of(self.link.local), key, box)
+        held = self.link.ensure(key, box)
+        run = _cutout(place_of(self.link.local), key, box)
+        run.at_end = held.check
+        return run
 
 
 AnyStore = Union[Local, Served, Linked]
