@@ -36,7 +36,10 @@ def test_numbers_past_an_axis(index):
     assert str(found.value) == str(wanted.value)
 
 
-@pytest.mark.parametrize("index", [(0, 0, 0, 0), (Ellipsis, Ellipsis), 1.0, "a", [0, 1], numpy.array([0, 1]), True, numpy.True_, slice(0, 4, 0)])
+OTHERS = [(0, 0, 0, 0), (Ellipsis, Ellipsis), 1.0, "a", [0, 1], numpy.array([0, 1]), True, numpy.True_, slice(0, 4, 0)]
+
+
+@pytest.mark.parametrize("index", OTHERS)
 def test_other_indices(index):
     with pytest.raises(BadIndex):
         pick(index, (4, 5, 6))

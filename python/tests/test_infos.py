@@ -52,7 +52,10 @@ def test_members():
         info.scale("t")
 
 
-@pytest.mark.parametrize("content", [b"{", b"[]", b"{}", json.dumps({**INFO, "num_channels": 0}), json.dumps({**INFO, "scales": 1}), b"\xff"])
+BROKEN = [b"{", b"[]", b"{}", json.dumps({**INFO, "num_channels": 0}), json.dumps({**INFO, "scales": 1}), b"\xff"]
+
+
+@pytest.mark.parametrize("content", BROKEN)
 def test_no_infos(content):
     with pytest.raises(BadInfo):
         Info.parse(content, "d/info")
@@ -76,7 +79,10 @@ def test_other_types():
         info.width
 
 
-@pytest.mark.parametrize("given", ["1,identity,2", "1,sha,2,3", (1, "murmur", 2), (65, "murmur", 0, 0), (0, "murmur", 25, 0), "a,murmur,1,1", 5])
+NO_SHARDINGS = ["1,identity,2", "1,sha,2,3", (1, "murmur", 2), (65, "murmur", 0, 0), (0, "murmur", 25, 0), "a,murmur,1,1", 5]
+
+
+@pytest.mark.parametrize("given", NO_SHARDINGS)
 def test_no_shardings(given):
     with pytest.raises(UsageError):
         Sharding.of(given)

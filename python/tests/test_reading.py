@@ -162,8 +162,9 @@ def test_a_program_that_says_less(vol_tool, folder, monkeypatch):
     stored_scale(3, True, False)
     scale = vol_tool.open("d")["s"]
     for text, kind, status in [
-        ("exit 0", errors.StoreFault, None), ("echo store fault >&2; exit 5", errors.StoreFault, 5), ("kill -9 $$", errors.VolToolError, -9),
-    ]:
+        ("exit 0", errors.StoreFault, None), ("echo store fault >&2; exit 5", errors.StoreFault, 5),
+        ("kill -9 $$", errors.VolToolError, -9),
+    ]:  # fmt: skip
         program = folder / "program"
         program.write_text(f"#!/bin/sh\n{text}\n")
         program.chmod(0o755)

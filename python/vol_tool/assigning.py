@@ -35,7 +35,8 @@ def _spread(picked: Picked, values: numpy.ndarray) -> numpy.ndarray:
     try:
         values = numpy.broadcast_to(values, shape)
     except ValueError:
-        raise UsageError(f"could not broadcast input array from shape {given} into shape {shape}") from None
+        found, wanted = (str(one).replace(" ", "") for one in (given, shape))  # as numpy tells them
+        raise UsageError(f"could not broadcast input array from shape {found} into shape {wanted}") from None
     # What the rest of the index does is undone: an axis that it drops comes back, one that it adds goes, one that it turns is turned.
     back = {type(None): 0, int: None}
     return values[tuple(back.get(type(part), part) for part in picked.rest if part is not Ellipsis)]

@@ -121,10 +121,10 @@ def tell_all(dataset: PathText, key: str | None, is_quick: bool) -> Iterator[tup
     if store.place is None:
         yield from ((line, 0) for line in describe(info) if key in (None, line.split(" ")[0]))
         return
+    scales = [info.scale(one) for one in (info.keys if key is None else [check_key(key)])]
     yield f"{store.name}: {info.kind} of {info.data_type}, {info.channels} channel{'s' if info.channels > 1 else ''}", 0
-    for one in info.keys if key is None else [check_key(key)]:
-        scale = info.scale(one)
+    for scale in scales:
         sides = "x".join(map(str, scale.size))
-        text = f"{one}: {sides} from {','.join(map(str, scale.offset))}, {','.join(map(str, scale.resolution))} nm, {_layout_text(scale)}"
-        stored, status = ("", 0) if is_quick else _tell_stored(store.place, one)
-        yield f"{text}{'; ' if stored else ''}{stored}", status
+        lengths = f"{sides} from {','.join(map(str, scale.offset))}, {','.join(map(str, scale.resolution))} nm"
+        stored, status = ("", 0) if is_quick else _tell_stored(store.place, scale.key)
+        yield f"{scale.key}: {lengths}, {_layout_text(scale)}{'; ' if stored else ''}{stored}", status

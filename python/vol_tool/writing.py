@@ -12,7 +12,7 @@ import numpy
 
 from .arrays import Scale, open_scale
 from .boxes import Box, Three, count_voxels, is_inside
-from .errors import BrokenOff, NoScale, OutsideScale, SeveralChunkSizes, TooLarge, UnlikeScales, UsageError, VolToolError
+from .errors import BrokenOff, MissingProgram, NoScale, OutsideScale, SeveralChunkSizes, TooLarge, UnlikeScales, UsageError, VolToolError
 from .folders import put_whole
 from .infos import MOST_BYTES, MOST_OFFSET, Info, Layout, ScaleInfo, new_info, read_scale, scale_member, three_between, three_lengths
 from .programs import PathText, Place, check_key, check_workers, place_of
@@ -66,20 +66,33 @@ class Target:
             put_whole(self.path, self.before)
 
 
+def _check_alike(info: Info, data_type: str, channels: int) -> None:
+    """Raises UnlikeScales where an array has another type, or other channels, than a volume."""
+    for member, found, wanted in ("data_type", info.data_type, data_type), ("num_channels", info.channels, channels):
+        if found != wanted:
+            raise UnlikeScales(f"{info.name} has the {member} {found}, and the array has {wanted}")
+
+
 def _info_for(place: Place, name: str, data_type: str, channels: int, encoding: str) -> Info:
     """The info of a data set for values of this type, or a new one; raises UnlikeScales where it has another type or other channels."""
     path = place.path / "info"
     if not path.exists():
         return new_info(name, data_type, channels, encoding == "compressed_segmentation")
     info = Info.read(path, name)
-    for member, found, wanted in ("data_type", info.data_type, data_type), ("num_channels", info.channels, channels):
-        if found != wanted:
-            raise UnlikeScales(f"{name} has the {member} {found}, and the array has {wanted}")
+    _check_alike(info, data_type, channels)
     return info
 
 
-def target_of(dataset: PathText, key: str, values: Values, resolution: Any, offset: Any, layout: Layout) -> Target:
-    """The scale that an array is put into: that of the info, or a new one, which wants a resolution."""
+def _known_target(dataset: PathText, key: str, values: Values) -> Target:
+    """The scale of the info that an array is put over; raises NoScale and BadInfo where there is none."""
+    place, name = place_of(dataset), f"{os.fspath(dataset)}/info"
+    info = Info.read(place.path / "info", name)
+    _check_alike(info, values.data_type, values.channels)
+    return Target(place, name, info, info.scale(check_key(key)), True)
+
+
+def _target_of(dataset: PathText, key: str, values: Values, resolution: Any, offset: Any, layout: Layout) -> Target:
+    """The scale that a whole array is put into: that of the info, or a new one, which wants a resolution."""
     place, name = place_of(dataset), f"{os.fspath(dataset)}/info"
     info = _info_for(place, name, values.data_type, values.channels, layout.encoding)
     with contextlib.suppress(NoScale):
@@ -106,8 +119,6 @@ def _check_size(target: Target, values: Values) -> None:
 def _check_place(target: Target, values: Values, at: Three) -> None:
     """Raises what can't be put over a scale's values."""
     scale = target.scale
-    if not target.is_there:
-        raise NoScale(f"{target.name} has no scale {scale.key} yet, over which the array could be put")
     if not is_inside([(begin, begin + side) for begin, side in zip(at, values.size)], scale.box):
         raise OutsideScale(f"the array doesn't lie in the scale {scale.key} of {target.name}, with its first voxel at {at}")
     if len(scale.chunk_sizes) > 1:
@@ -195,7 +206,7 @@ class Job:
             writes = self._writes(pieces, shown)
             found = send(command, self.target.place, self.target.scale.key, len(pieces), writes, self.workers)
         except VolToolError as why:
-            self.stands = not (is_new and why.status in REFUSALS)
+            self.stands = not (is_new and (why.status in REFUSALS or isinstance(why, MissingProgram)))
             raise
         self.stored = self.stored.and_more(found)
 
@@ -269,7 +280,7 @@ def put(
     if resume and at is not None:
         raise UsageError("an array that is put over a scale with `at` is put again as it is, without resume")
     values = open_values(array, axes)
-    target = target_of(dataset, key, values, resolution, offset, layout)
+    target = _known_target(dataset, key, values) if at is not None else _target_of(dataset, key, values, resolution, offset, layout)
     job = _job_of(values, target, at, check_workers(workers), _check_memory(memory), resume)
     target.write_info()
     try:
