@@ -53,6 +53,10 @@ class Peer(http.server.BaseHTTPRequestHandler):
     protocol_version = "HTTP/1.1"
     disable_nagle_algorithm = True
 
+    def setup(self):
+        super().setup()
+        self.server.peers.append(self.connection)
+
     def log_message(self, *_):
         pass
 
@@ -102,7 +106,7 @@ class Peer(http.server.BaseHTTPRequestHandler):
 def serving(**members):
     usual = {
         "files": {"/v/info": info_of(SCALE), **CHUNKS}, "codings": {}, "at_first": {}, "barrier": None, "moved": {}, "not_there": 404,
-        "knows_ranges": True, "pause": 0, "asked": [], "ports": set(), "lock": threading.Lock(),
+        "knows_ranges": True, "pause": 0, "asked": [], "ports": set(), "peers": [], "lock": threading.Lock(),
     }
     with http.server.ThreadingHTTPServer(("127.0.0.1", 0), Peer) as server:
         server.daemon_threads = True
@@ -112,6 +116,9 @@ def serving(**members):
             yield server
         finally:
             server.shutdown()
+            for peer in server.peers:
+                with contextlib.suppress(OSError):
+                    peer.shutdown(socket.SHUT_RDWR)
 
 
 @pytest.fixture
@@ -563,6 +570,8 @@ def test_scales_that_are_not_read(judge):
         told(UsageError, lambda: link.ensure("s", "all"), "all")
         assert asked_for(server) == []
         link.ensure("s", BOX)
+        link.clear()
+        assert objects_in(link) == {}
     with serving(files={"/v/info": info_of(SCALE, data_type="float32")}) as server:
         told(UnsupportedType, lambda: links.open_link(server.link).ensure("s", BOX), "float32")
 
@@ -669,6 +678,18 @@ def test_what_is_in_use_stays(judge, monkeypatch):
         link.ensure("s", ((2, 3), (2, 3), (0, 1)))
         assert objects_in(link).keys() == {THIRD, ABSENT}
         second.check()
+
+
+def test_a_cache_with_two_names(judge, tmp_path):
+    """What is in use stays, whatever the folder is called."""
+    (tmp_path / "mine").mkdir()
+    (tmp_path / "other").symlink_to("mine")
+    with serving() as server:
+        one, two = (links.open_link(server.link, cache=tmp_path / name, cache_limit=0, verify=judge) for name in ("mine", "other"))
+        held = one.ensure("s", ((0, 1), (0, 1), (0, 1)))
+        two.ensure("s", ((2, 3), (0, 1), (0, 1)))
+        held.check()
+        assert one.local == two.local
 
 
 def test_what_goes_while_it_is_in_use(server, judge):

@@ -99,8 +99,8 @@ def name_of(address: str) -> str:
 
 
 def folder_of(root: pathlib.Path, address: str) -> pathlib.Path:
-    """The folder of a link in a cache, which is made."""
-    name = name_of(address)
+    """The folder of a link in a cache, which is made. Its path has no links of the file system, so that each file has one name."""
+    root, name = root.resolve(), name_of(address)
     with new_file(root / f"{name}.link") as file:
         file.write(f"{address}\n".encode())
     (root / name).mkdir(exist_ok=True)
@@ -160,7 +160,7 @@ def trim(root: pathlib.Path, limit: int) -> int:
 
 def grew(root: pathlib.Path, limit: int, count: int) -> None:
     """Takes note of so many bytes that came into a cache, and trims it where that may be too many."""
-    where = os.path.abspath(root)
+    where = str(root)
     with _shared.lock:
         known = _shared.sizes.get(where)
         size = _shared.sizes[where] = (limit if known is None else known) + count

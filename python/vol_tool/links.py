@@ -120,18 +120,19 @@ def _box_in(scale: ScaleInfo, given: Any) -> Box:
 class _Copier:
     """Copies objects of a volume into a folder, over several connections; one that another thread copies already is waited for."""
 
-    all: weakref.WeakSet[_Copier] = weakref.WeakSet()
-
     def __init__(self, address: str, folder: pathlib.Path, web: Web, workers: int) -> None:
         self._address, self._folder, self._web, self._workers = address, folder, web, workers
-        self.begin()
-        self.all.add(self)
+        self._begin()
+        _copiers.add(self)
 
-    def begin(self) -> None:
-        """Forgets threads and connections, of which a process that was forked has none."""
+    def _begin(self) -> None:
         self._pool = concurrent.futures.ThreadPoolExecutor(self._workers, "vol_tool")
         self._lock = threading.Lock()
         self._running: dict[str, concurrent.futures.Future[int | None]] = {}
+
+    def begin_anew(self) -> None:
+        """Forgets threads and connections: a process that was forked has none of its own."""
+        self._begin()
         self._web.begin()
 
     def end(self) -> None:
@@ -169,12 +170,16 @@ class _Copier:
                 self._running.pop(name, None)
 
 
-def _begin_all() -> None:
-    for copier in list(_Copier.all):
-        copier.begin()
+# All that there are, which begin anew in a process that was forked, as those of a data loader are.
+_copiers: weakref.WeakSet[_Copier] = weakref.WeakSet()
 
 
-os.register_at_fork(after_in_child=_begin_all)
+def _begin_anew() -> None:
+    for copier in list(_copiers):
+        copier.begin_anew()
+
+
+os.register_at_fork(after_in_child=_begin_anew)
 
 
 # Links
@@ -193,9 +198,9 @@ class Link:
     objects that were fetched. What was fetched isn't asked for again, nor, by this object, what the server hadn't.
     """
 
-    def __init__(self, info: Info, local: pathlib.Path, copier: _Copier, root: pathlib.Path, limit: int, verify: Verify) -> None:
+    def __init__(self, info: Info, local: pathlib.Path, copier: _Copier, limit: int, verify: Verify) -> None:
         self.info, self.local = info.document, local
-        self._info, self._copier, self._root, self._limit, self._verify = info, copier, root, limit, verify
+        self._info, self._copier, self._limit, self._verify = info, copier, limit, verify
         self._absent: set[str] = set()
         self._judged: dict[str, set[Three]] = collections.defaultdict(set)
 
@@ -227,8 +232,8 @@ class Link:
 
     def clear(self) -> None:
         """Removes all objects that were fetched."""
-        for key in self._info.keys:
-            shutil.rmtree(self.local / check_key(key), ignore_errors=True)
+        for key in filter(programs.is_name, self._info.keys):
+            shutil.rmtree(self.local / key, ignore_errors=True)
         self._absent.clear()
         self._judged.clear()
 
@@ -246,7 +251,7 @@ class Link:
                 count += length or 0
         finally:
             if count:
-                grew(self._root, self._limit, count)
+                grew(self.local.parent, self._limit, count)
 
     def _judge(self, key: str, box: Box, objects: dict[str, list[Three]]) -> None:
         """Has the chunks of a box judged; of a damaged one the object is removed."""
@@ -294,12 +299,12 @@ def open_link(
     Raises UsageError for what is no link, FetchFault where the server doesn't give the info, and BadInfo where there is none.
     """
     address = address_of(url)
-    root = default_root() if cache is None else pathlib.Path(cache).expanduser().absolute()
+    root = default_root() if cache is None else pathlib.Path(cache).expanduser()
     web = Web(address, timeout, workers, absent)
     info = Info.parse(_read_info(web, address), f"{address}/info")
     local = folder_of(root, address)
     _renew(local, info)
-    return Link(info, local, _Copier(address, local, web, workers), root, cache_limit, verify)
+    return Link(info, local, _Copier(address, local, web, workers), cache_limit, verify)
 
 
 def _read_info(web: Web, address: str) -> bytes:
