@@ -20,7 +20,7 @@ import pytest
 
 pytest.importorskip("urllib3", reason="urllib3 isn't installed")
 
-from vol_tool import caches, links, shards, web  # noqa: E402
+from vol_tool import caches, copies, links, shards, web  # noqa: E402
 from vol_tool.errors import (  # noqa: E402
     BadInfo, Conflict, Damaged, FetchFault, MissingPackage, NoScale, OutsideScale, StoreFault, TooLarge, UnsupportedType, UsageError,
 )
@@ -109,7 +109,7 @@ def serving(**members):
         "knows_ranges": True, "pause": 0, "asked": [], "ports": set(), "peers": [], "lock": threading.Lock(),
     }
     with http.server.ThreadingHTTPServer(("127.0.0.1", 0), Peer) as server:
-        server.daemon_threads = True
+        server.daemon_threads, server.handle_error = True, lambda *_: None
         vars(server).update({**usual, **members}, link=f"http://127.0.0.1:{server.server_port}/v")
         threading.Thread(target=server.serve_forever, kwargs={"poll_interval": 0.01}, daemon=True).start()
         try:
@@ -314,7 +314,7 @@ def test_connections_are_kept(judge):
 
 
 def test_batches(judge, monkeypatch):
-    monkeypatch.setattr(links, "BATCH", 2)
+    monkeypatch.setattr(copies, "BATCH", 2)
     with serving() as server:
         link = links.open_link(server.link, verify=judge)
         link.ensure("s", BOX)
@@ -794,3 +794,51 @@ def test_by_the_program(monkeypatch):
         link = links.open_link(server.link)
         told(Damaged, lambda: link.ensure("s", BOX), "damaged")
         assert len(objects_in(link)) == 1
+
+
+LAYOUTS = {
+    "files": {}, "labels": {"encoding": "compressed_segmentation", "block": (3, 4, 5)}, "shards": {"sharding": (1, "identity", 1, 2)},
+    "labels in shards": {"encoding": "compressed_segmentation", "sharding": (0, "murmur", 2, 5)},
+    "more shards than chunks": {"sharding": (2, "murmur", 0, 19)},
+}
+
+
+@pytest.mark.skipif(not PROGRAM.exists(), reason="the program isn't built: VOL_TOOL names it")
+@pytest.mark.parametrize("layout", LAYOUTS)
+def test_scales_behind_links(monkeypatch, tmp_path, layout):
+    """All that a scale holds, and boxes of it, come through a link as they were written; what isn't there is 0."""
+    monkeypatch.setenv("VOL_TOOL", str(PROGRAM))
+    numpy = pytest.importorskip("numpy", reason="numpy isn't installed")
+    import vol_tool
+
+    values = numpy.random.default_rng(0).integers(0, 9, (21, 30, 37)).astype("uint32")
+    how = {"resolution": (8, 8, 40), "offset": (-5, 100, 0), "chunk": (8, 16, 8), **LAYOUTS[layout]}
+    vol_tool.write(str(tmp_path / "d"), "s", values, **how)
+    files = {f"/v/{name}": content for name, content in files_in(tmp_path / "d").items()}
+    with serving(files=files) as server:
+        scale = vol_tool.open(server.link)["s"]
+        box = (slice(3, 9), slice(None, 16), slice(-3, None))
+        numpy.testing.assert_array_equal(scale[box], values[box])
+        met = len(asked_for(server))
+        assert met < len(files) - 1 or "shards" in layout
+        numpy.testing.assert_array_equal(scale[...], values)
+        assert sorted(set(asked_for(server))) == sorted(set(files) - {"/v/info"})
+    with serving(files={"/v/info": files["/v/info"]}) as server:
+        assert not vol_tool.open(server.link)["s"][...].any()
+
+
+@pytest.mark.skipif(not PROGRAM.exists(), reason="the program isn't built: VOL_TOOL names it")
+def test_misplaced_rows(monkeypatch, tmp_path):
+    """A shard with the chunks of another one, which the program tells, is removed, and no other."""
+    monkeypatch.setenv("VOL_TOOL", str(PROGRAM))
+    numpy = pytest.importorskip("numpy", reason="numpy isn't installed")
+    import vol_tool
+
+    values = numpy.ones((8, 8, 128), "uint8")
+    vol_tool.write(str(tmp_path / "d"), "s", values, resolution=(1, 1, 1), chunk=(2, 2, 2), sharding=(0, "identity", 1, 5))
+    files = {f"/v/{name}": content for name, content in files_in(tmp_path / "d").items()}
+    files["/v/s/1a.shard"] = files["/v/s/0b.shard"]
+    with serving(files=files) as server:
+        link = links.open_link(server.link)
+        told(Damaged, lambda: link.ensure("s", ((0, 128), (0, 8), (0, 8))), "misplaced 26 ", f"{server.link}/s/1a.shard")
+        assert objects_in(link).keys() == files.keys() - {"/v/info", "/v/s/1a.shard"}

@@ -7,182 +7,27 @@ believed to stay as it is: an object that was fetched isn't asked for again.
 from __future__ import annotations
 
 import collections
-import concurrent.futures
-import itertools
-import math
-import os
 import pathlib
 import re
 import shutil
-import threading
-import urllib.parse
-import weakref
-from typing import Any, Callable, Collection, Iterable, Iterator, Sequence
+from typing import Any, Callable, Collection, Sequence
 
 from . import programs
-from .boxes import Box, Three, box_of, box_text, chunk_name, is_inside
+from .addresses import address_of, is_link
+from .boxes import Box, Three, box_text
 from .caches import Held, default_root, folder_of, grew
-from .checking import unread_members
-from .errors import BadInfo, Damaged, FetchFault, OutsideScale, TooLarge, UnsupportedType, UsageError
+from .copies import CONNECTIONS, NOT_THERE, PATIENCE, Copier, box_in, copy, copy_info, objects_in, read_info, scale_of
+from .errors import BadInfo, Damaged
 from .infos import Info, ScaleInfo
-from .programs import PathText, check_key
-from .shards import shard_name
-from .web import Absent, Web, new_file
+from .programs import PathText
+from .web import Web, new_file
 
-BEGINNINGS = ("https://", "http://", "gs://", "precomputed://")
-BUCKETS = "https://storage.googleapis.com/"
+__all__ = ["Link", "address_of", "copy", "copy_info", "is_link", "judge", "open_link"]
 
-# How many connections there are at once, how long a silent server is waited for, in seconds, and how many bytes a cache has.
-CONNECTIONS = 8
-PATIENCE = 30.0
+# How many bytes a cache has.
 CACHE_LIMIT = 10 << 30
 
-# What servers say of what they haven't.
-NOT_THERE = (404,)
-
-# How many cells are judged at once at most, and how many objects are under way.
-MOST_CELLS = 1 << 22
-BATCH = 1 << 10
-
 Verify = Callable[[pathlib.Path, str, Box], object]
-Tell = Callable[[int, int], None]
-
-
-# Addresses
-
-
-def is_link(text: str) -> bool:
-    """Whether a text is a link, and no folder."""
-    return text.startswith(BEGINNINGS)
-
-
-def address_of(link: str) -> str:
-    """
-    A link as an address over HTTP, without a slash or `/info` behind it. Those of a bucket are at the store's own host.
-
-    Raises UsageError where it is none.
-    """
-    text = link.removesuffix("|neuroglancer-precomputed:").removeprefix("precomputed://")
-    text = text.rstrip("/").removesuffix("/info").rstrip("/")
-    if text.startswith("gs://"):
-        text = BUCKETS + text.removeprefix("gs://")
-    try:
-        parts = urllib.parse.urlsplit(text)
-        is_fit = parts.scheme in ("http", "https") and bool(parts.hostname) and parts.port != 0
-    except ValueError:
-        is_fit = False
-    if not is_fit:
-        raise UsageError(f"{link} is no link: it begins with https://, http:// or gs://, or precomputed:// and one of these")
-    if parts.query or parts.fragment or "@" in parts.netloc:
-        raise UsageError(f"{link} has more than a volume's address: nothing behind ? or #, and no name or password, is taken")
-    return text
-
-
-# Objects
-
-
-def objects_in(scale: ScaleInfo, box: Box) -> dict[str, list[Three]]:
-    """The names, below the data set, of the objects that have the chunks of a box; of each the begins of the cells that meet the box."""
-    spans = zip(box, scale.offset, scale.chunk)
-    count = math.prod(-(-(end - first) // step) - (begin - first) // step for (begin, end), first, step in spans)
-    if count > MOST_CELLS:
-        raise TooLarge(f"too many cells {count}: a box of {scale.key} that is fetched meets at most {MOST_CELLS}")
-    found: dict[str, list[Three]] = {}
-    for cell in scale.cells(box):
-        name = shard_name(scale, cell) if scale.is_sharded else chunk_name(cell)
-        x, y, z = (begin for begin, _ in cell)
-        found.setdefault(f"{scale.key}/{name}", []).append((x, y, z))
-    return found
-
-
-def _scale_of(info: Info, key: str) -> ScaleInfo:
-    """A scale of an info that the programs read; raises NoScale, UnsupportedType and BadInfo."""
-    scale = info.scale(check_key(key))
-    unread = list(unread_members(info, scale))
-    if unread:
-        kind = UnsupportedType if unread[0][0] == "data_type" else BadInfo
-        members = ", ".join(f"{member} {value}" for member, value in unread)
-        raise kind(f"the scale {key} of {info.name} isn't read: {members}")
-    return scale
-
-
-def _box_in(scale: ScaleInfo, given: Any) -> Box:
-    """A box, which is inside a scale; raises OutsideScale and UsageError."""
-    box = box_of(given)
-    if not is_inside(box, scale.box):
-        raise OutsideScale(f"box {box_text(box)} outside {box_text(scale.box)}", 3)
-    return box
-
-
-# Copies
-
-
-class _Copier:
-    """Copies objects of a volume into a folder, over several connections; one that another thread copies already is waited for."""
-
-    def __init__(self, address: str, folder: pathlib.Path, web: Web, workers: int) -> None:
-        self._address, self._folder, self._web, self._workers = address, folder, web, workers
-        self._begin()
-        _copiers.add(self)
-
-    def _begin(self) -> None:
-        self._pool = concurrent.futures.ThreadPoolExecutor(self._workers, "vol_tool")
-        self._lock = threading.Lock()
-        self._running: dict[str, concurrent.futures.Future[int | None]] = {}
-
-    def begin_anew(self) -> None:
-        """Forgets threads and connections: a process that was forked has none of its own."""
-        self._begin()
-        self._web.begin()
-
-    def end(self) -> None:
-        self._pool.shutdown(cancel_futures=True)
-        self._web.end()
-
-    def copy(self, names: Iterable[str], in_pieces: bool) -> Iterator[tuple[str, int | None]]:
-        """Copies objects; gives of each, in any order, the name and how many bytes it has, or None where the server hasn't any."""
-        left = iter(names)
-        while batch := list(itertools.islice(left, BATCH)):
-            jobs = {self._begin_one(name, in_pieces): name for name in batch}
-            try:
-                for job in concurrent.futures.as_completed(jobs):
-                    yield jobs[job], job.result()
-            except concurrent.futures.CancelledError:
-                raise FetchFault(f"{self._address}: broken off, as another object couldn't be fetched") from None
-            finally:
-                for job in jobs:
-                    job.cancel()
-
-    def _begin_one(self, name: str, in_pieces: bool) -> concurrent.futures.Future[int | None]:
-        with self._lock:
-            job = self._running.get(name)
-            if job is None or job.cancelled():
-                job = self._running[name] = self._pool.submit(self._copy_one, name, in_pieces)
-        return job
-
-    def _copy_one(self, name: str, in_pieces: bool) -> int | None:
-        try:
-            return self._web.save(f"{self._address}/{name}", self._folder / name, in_pieces)
-        except Absent:
-            return None
-        finally:
-            with self._lock:
-                self._running.pop(name, None)
-
-
-# All that there are, which begin anew in a process that was forked, as those of a data loader are.
-_copiers: weakref.WeakSet[_Copier] = weakref.WeakSet()
-
-
-def _begin_anew() -> None:
-    for copier in list(_copiers):
-        copier.begin_anew()
-
-
-os.register_at_fork(after_in_child=_begin_anew)
-
-
-# Links
 
 
 def judge(dataset: pathlib.Path, key: str, box: Box) -> object:
@@ -198,7 +43,7 @@ class Link:
     objects that were fetched. What was fetched isn't asked for again, nor, by this object, what the server hadn't.
     """
 
-    def __init__(self, info: Info, local: pathlib.Path, copier: _Copier, limit: int, verify: Verify) -> None:
+    def __init__(self, info: Info, local: pathlib.Path, copier: Copier, limit: int, verify: Verify) -> None:
         self.info, self.local = info.document, local
         self._info, self._copier, self._limit, self._verify = info, copier, limit, verify
         self._absent: set[str] = set()
@@ -218,8 +63,8 @@ class Link:
         with the address, where the server doesn't give an object; Damaged for one with which something is wrong, and which is removed
         here; StoreFault where a file can't be written.
         """
-        scale = _scale_of(self._info, key)
-        box = _box_in(scale, box)
+        scale = scale_of(self._info, key)
+        box = box_in(scale, box)
         objects = objects_in(scale, box)
         held = Held(self.local, objects)
         self._fetch(objects.keys() - held.take() - self._absent, scale.is_sharded)
@@ -258,7 +103,7 @@ class Link:
         try:
             self._verify(self.local, key, box)
         except Damaged as why:
-            names = _damaged_in(why.line, _scale_of(self._info, key), objects)
+            names = _damaged_in(why.line, scale_of(self._info, key), objects)
             for name in names:
                 (self.local / name).unlink(missing_ok=True)
             what = f"{self._info.name.removesuffix('info')}{names[0]}" if len(names) == 1 else f"what was fetched of {key}"
@@ -301,17 +146,10 @@ def open_link(
     address = address_of(url)
     root = default_root() if cache is None else pathlib.Path(cache).expanduser()
     web = Web(address, timeout, workers, absent)
-    info = Info.parse(_read_info(web, address), f"{address}/info")
+    info = Info.parse(read_info(web, address), f"{address}/info")
     local = folder_of(root, address)
     _renew(local, info)
-    return Link(info, local, _Copier(address, local, web, workers), cache_limit, verify)
-
-
-def _read_info(web: Web, address: str) -> bytes:
-    try:
-        return web.read(f"{address}/info")
-    except Absent:
-        raise BadInfo(f"there is no {address}/info, or not for everyone") from None
+    return Link(info, local, Copier(address, local, web, workers), cache_limit, verify)
 
 
 def _renew(local: pathlib.Path, info: Info) -> None:
@@ -342,50 +180,3 @@ def _with_first_sizes(info: Info) -> Info:
 def _with_first_size(scale: dict[str, Any]) -> dict[str, Any]:
     sizes = scale.get("chunk_sizes")
     return {**scale, "chunk_sizes": sizes[:1]} if isinstance(sizes, list) else scale
-
-
-# Copies in folders of one's own
-
-
-def copy_info(url: str, dataset: PathText, *, timeout: float = PATIENCE, absent: Sequence[int] = NOT_THERE) -> dict[str, Any]:
-    """Copies the info of a volume into the folder of a data set, as it is, and gives what it says. Raises as open_link, and StoreFault."""
-    address = address_of(url)
-    content = _read_info(Web(address, timeout, 1, absent), address)
-    document = Info.parse(content, f"{address}/info").document
-    with new_file(pathlib.Path(dataset).expanduser() / "info") as file:
-        file.write(content)
-    return document
-
-
-def copy(
-    url: str,
-    dataset: PathText,
-    key: str,
-    box: Any,
-    *,
-    timeout: float = PATIENCE,
-    workers: int = CONNECTIONS,
-    absent: Sequence[int] = NOT_THERE,
-    tell: Tell | None = None,
-) -> tuple[int, int, int]:
-    """
-    Copies the objects that a box of a scale meets into the folder of a data set, where the info is already: of an unsharded scale the
-    chunks in its first chunk size, and of one in shards the whole shards. It judges none of them.
-
-    Gives how many were copied, how many the server hasn't, and how many files were there, which stay. `tell` is called with how many
-    objects are done, and of how many. Raises as Link.ensure, but for Damaged.
-    """
-    address, folder = address_of(url), pathlib.Path(dataset).expanduser()
-    scale = _scale_of(Info.read(folder / "info"), key)
-    names = list(objects_in(scale, _box_in(scale, box)))
-    left = [name for name in names if not (folder / name).exists()]
-    copier = _Copier(address, folder, Web(address, timeout, workers, absent), workers)
-    missing, kept = 0, len(names) - len(left)
-    try:
-        for done, (_, length) in enumerate(copier.copy(left, scale.is_sharded), kept + 1):
-            missing += length is None
-            if tell is not None:
-                tell(done, len(names))
-    finally:
-        copier.end()
-    return len(left) - missing, missing, kept

@@ -77,6 +77,7 @@ class Source:
         return self.shape[0]
 
     def __getitem__(self, index: Any) -> Any:
+        """A part, as an array of numpy's, or one value."""
         picked = pick(index, self.shape)
         if picked.is_empty:
             return numpy.empty(picked.shape, self.dtype)[picked.rest]
