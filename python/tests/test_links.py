@@ -708,6 +708,56 @@ def test_what_goes_while_it_is_in_use(server, judge):
     held.check()
 
 
+def test_what_goes_while_it_is_fetched(server, judge, monkeypatch):
+    """Another process may remove what comes before it is used: it is fetched again, or that is told."""
+    link, real, wanted = links.open_link(server.link, verify=judge), caches.Held.take, ((0, 4), (0, 2), (0, 1))
+
+    def take(held):
+        takes.append(len(takes))
+        if takes[-1] in lost:
+            (link.local / FIRST[3:]).unlink(missing_ok=True)
+        return real(held)
+
+    monkeypatch.setattr(caches.Held, "take", take)
+    for lost, count in ({1, 2}, 3), ({2}, 1):
+        takes = []
+        link.clear()
+        server.asked.clear()
+        link.ensure("s", wanted).check()
+        assert (asked_for(server).count(FIRST), asked_for(server).count(SECOND)) == (count, 1)
+    lost, takes = set(range(99)), []
+    link.clear()
+    told(FetchFault, lambda: link.ensure("s", wanted), str(link.local))
+    assert len(takes) == links.MOST_TRIES
+
+
+def test_what_another_process_put_anew(server, judge):
+    """It is judged again."""
+    link = links.open_link(server.link, verify=judge)
+    link.ensure("s", BOX)
+    link.ensure("s", BOX)
+    assert len(judge.asked) == 1
+    path = link.local / FIRST[3:]
+    path.unlink()
+    path.write_bytes(b"1234")
+    link.ensure("s", ((2, 4), (0, 2), (0, 1)))
+    assert len(judge.asked) == 1
+    link.ensure("s", BOX)
+    link.ensure("s", BOX)
+    assert len(judge.asked) == 2
+
+
+def test_when_a_cache_is_looked_through(tmp_path, monkeypatch):
+    """At first, and then each time when some more has come."""
+    looked = []
+    monkeypatch.setattr(caches, "trim", lambda root, limit: looked.append((root, limit)))
+    counts = []
+    for count in (1, 5, 5, 1, 9, 3, 100):
+        caches.grew(tmp_path, 640, count)
+        counts.append(len(looked))
+    assert counts == [1, 1, 1, 2, 2, 3, 4] and set(looked) == {(tmp_path, 640)}
+
+
 def test_what_was_left_behind(server, judge):
     link = links.open_link(server.link, cache_limit=1 << 20, verify=judge)
     old, new = link.local / "old.part", link.local / "new.part"

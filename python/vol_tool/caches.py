@@ -15,15 +15,16 @@ import re
 import threading
 import time
 import weakref
-from typing import Iterable, Iterator, NamedTuple
+from typing import Iterable, Iterator, NamedTuple, Tuple
 
 from .errors import FetchFault
 from .web import new_file
 
 _logger = logging.getLogger(__name__)
 
-# The share of the limit that is made free at once.
+# The share of the limit that is made free at once, and after which share of it a cache is looked through again.
 FREED = 10
+LOOKS = 64
 
 # After how many seconds a file that wasn't finished is one that nobody writes.
 LEFT_BEHIND = 86400
@@ -40,46 +41,62 @@ class _Shared:
     def begin(self) -> None:
         self.lock = threading.Lock()
         self.held: weakref.WeakSet[Held] = weakref.WeakSet()
-        self.sizes: dict[str, int] = {}
+        self.fresh: dict[pathlib.Path, int] = {}
+
+
+# What tells a file from another one that has its name: its number in the file system, and when it was written, in nanoseconds.
+Mark = Tuple[int, int]
 
 
 class Held:
     """
     Files of a cache that are in use: while this object is there, no link of this process removes them.
 
-    Another process may, or the user. What has gone reads as zeros, so `check` is called after each use.
+    Another process may, or the user. What has gone reads as zeros, so `check` is called after each use. `marks` has the names of those
+    that are there, and which files they are.
     """
 
     def __init__(self, folder: pathlib.Path, names: Iterable[str]) -> None:
-        self._folder = folder
-        self._paths = {os.path.join(folder, name): name for name in names}
-        self._marks: dict[str, tuple[int, int]] = {}
+        self._folder = str(folder)
+        self._names = set(names)
+        self.marks: dict[str, Mark] = {}
         with _shared.lock:
             _shared.held.add(self)
 
-    def __contains__(self, path: str) -> bool:
-        return path in self._paths
+    def holds(self, folder: str, name: str) -> bool:
+        """Whether a file, below a link's folder, is one of these."""
+        return folder == self._folder and name in self._names
 
     def take(self) -> set[str]:
-        """The names of those that are there, which count as used from now on."""
+        """The names of those that aren't there. The others count as used from now on; one that has gone since stays as it was noted."""
         now = time.time_ns()
-        for path in self._paths:
-            with contextlib.suppress(OSError):
+        missing = set()
+        for name in self._names:
+            path = os.path.join(self._folder, name)
+            try:
                 found = os.stat(path)
-                self._marks[path] = found.st_ino, found.st_mtime_ns
+            except OSError:
+                missing.add(name)
+                continue
+            self.marks[name] = _mark_of(found)
+            with contextlib.suppress(OSError):
                 os.utime(path, ns=(now, found.st_mtime_ns))
-        return {self._paths[path] for path in self._marks}
+        return missing
 
     def check(self) -> None:
         """Raises FetchFault where one of those that were there has gone meanwhile, or was put anew."""
-        for path, mark in self._marks.items():
+        for name, mark in self.marks.items():
+            path = os.path.join(self._folder, name)
             try:
-                found = os.stat(path)
-                is_same = mark == (found.st_ino, found.st_mtime_ns)
+                is_same = mark == _mark_of(os.stat(path))
             except OSError:
                 is_same = False
             if not is_same:
                 raise FetchFault(f"{path} was removed while it was in use: read again, and with a larger cache_limit where it is small")
+
+
+def _mark_of(found: os.stat_result) -> Mark:
+    return found.st_ino, found.st_mtime_ns
 
 
 _shared = _Shared()
@@ -108,17 +125,18 @@ def folder_of(root: pathlib.Path, address: str) -> pathlib.Path:
 
 
 class _Object(NamedTuple):
-    """A file that may be removed: when it was used last, in nanoseconds, how many bytes it has, and its path."""
+    """A file that may be removed: when it was used last, in nanoseconds, how many bytes it has, its link's folder, and its name there."""
 
     used: int
     size: int
-    path: str
+    folder: str
+    name: str
 
 
 def _objects_in(root: pathlib.Path) -> Iterator[_Object]:
     """The files of all links but for their infos. What was left behind unfinished is removed."""
     for note in root.glob("*.link"):
-        folder = note.with_suffix("")
+        folder = str(note.with_suffix(""))
         for parent, _, names in os.walk(folder):
             for name in names:
                 path = os.path.join(parent, name)
@@ -128,43 +146,44 @@ def _objects_in(root: pathlib.Path) -> Iterator[_Object]:
                         if time.time() - found.st_mtime > LEFT_BEHIND:
                             os.unlink(path)
                     elif path != os.path.join(folder, "info"):
-                        yield _Object(found.st_atime_ns, found.st_size, path)
+                        yield _Object(found.st_atime_ns, found.st_size, folder, os.path.relpath(path, folder))
 
 
-def _remove(path: str) -> bool:
+def _remove(found: _Object) -> bool:
     """Whether a file isn't in use, and is removed."""
     with _shared.lock:
-        if any(path in held for held in _shared.held):
+        if any(held.holds(found.folder, found.name) for held in _shared.held):
             return False
         with contextlib.suppress(FileNotFoundError):
-            os.unlink(path)
+            os.unlink(os.path.join(found.folder, found.name))
     return True
 
 
-def trim(root: pathlib.Path, limit: int) -> int:
-    """Removes what was used longest ago and isn't in use where a cache has over `limit` bytes; gives how many it has then."""
+def trim(root: pathlib.Path, limit: int) -> None:
+    """Removes what was used longest ago and isn't in use where a cache has over `limit` bytes."""
     objects = sorted(_objects_in(root))
     total = before = sum(found.size for found in objects)
     count = 0
     for found in objects if before > limit else []:
         if total <= limit - limit // FREED:
             break
-        if _remove(found.path):
+        if _remove(found):
             total -= found.size
             count += 1
     if count:
         told = "the cache %s had %d bytes, over its limit of %d: %d files that were used longest ago are removed, %d bytes are left"
         _logger.info(told, root, before, limit, count, total)
-    return total
 
 
 def grew(root: pathlib.Path, limit: int, count: int) -> None:
-    """Takes note of so many bytes that came into a cache, and trims it where that may be too many."""
-    where = str(root)
+    """
+    Takes note of so many bytes that came into a cache, and trims it where that may be too many.
+
+    It is looked through for the first ones, and then each time when some have come: other processes may fill it too.
+    """
     with _shared.lock:
-        known = _shared.sizes.get(where)
-        size = _shared.sizes[where] = (limit if known is None else known) + count
-    if size > limit:
-        size = trim(root, limit)
-        with _shared.lock:
-            _shared.sizes[where] = size
+        fresh = _shared.fresh.get(root, limit) + count
+        is_due = fresh > limit // LOOKS
+        _shared.fresh[root] = 0 if is_due else fresh
+    if is_due:
+        trim(root, limit)

@@ -6,7 +6,6 @@ believed to stay as it is: an object that was fetched isn't asked for again.
 """
 from __future__ import annotations
 
-import collections
 import pathlib
 import re
 import shutil
@@ -15,9 +14,9 @@ from typing import Any, Callable, Collection, Sequence
 from . import programs
 from .addresses import address_of, is_link
 from .boxes import Box, Three, box_text
-from .caches import Held, default_root, folder_of, grew
+from .caches import Held, Mark, default_root, folder_of, grew
 from .copies import CONNECTIONS, NOT_THERE, PATIENCE, Copier, box_in, copy, copy_info, objects_in, read_info, scale_of
-from .errors import BadInfo, Damaged
+from .errors import BadInfo, Damaged, FetchFault
 from .infos import Info, ScaleInfo
 from .programs import PathText
 from .web import Web, new_file
@@ -26,6 +25,9 @@ __all__ = ["Link", "address_of", "copy", "copy_info", "is_link", "judge", "open_
 
 # How many bytes a cache has.
 CACHE_LIMIT = 10 << 30
+
+# How often it is seen whether what was fetched is still there.
+MOST_TRIES = 5
 
 Verify = Callable[[pathlib.Path, str, Box], object]
 
@@ -47,7 +49,7 @@ class Link:
         self.info, self.local = info.document, local
         self._info, self._copier, self._limit, self._verify = info, copier, limit, verify
         self._absent: set[str] = set()
-        self._judged: dict[str, set[Three]] = collections.defaultdict(set)
+        self._judged: dict[str, tuple[Mark, set[Three]]] = {}
 
     def __repr__(self) -> str:
         return f"<link {self._info.name}: {self.local}>"
@@ -67,13 +69,13 @@ class Link:
         box = box_in(scale, box)
         objects = objects_in(scale, box)
         held = Held(self.local, objects)
-        self._fetch(objects.keys() - held.take() - self._absent, scale.is_sharded)
-        there = held.take()
-        if any(not self._judged[name].issuperset(objects[name]) for name in there):
-            self._judge(key, box, objects)
-        for name in there:
-            self._judged[name].update(objects[name])
-        return held
+        for _ in range(MOST_TRIES):
+            missing = held.take() - self._absent
+            if not missing:
+                self._judge_new(scale, box, objects, held)
+                return held
+            self._fetch(missing, scale.is_sharded)
+        raise FetchFault(f"{self.local} doesn't keep what is fetched into it: another process removes it")
 
     def clear(self) -> None:
         """Removes all objects that were fetched."""
@@ -90,7 +92,6 @@ class Link:
         count = 0
         try:
             for name, length in self._copier.copy(names, in_pieces):
-                self._judged.pop(name, None)
                 if length is None:
                     self._absent.add(name)
                 count += length or 0
@@ -98,15 +99,29 @@ class Link:
             if count:
                 grew(self.local.parent, self._limit, count)
 
-    def _judge(self, key: str, box: Box, objects: dict[str, list[Three]]) -> None:
+    def _judge_new(self, scale: ScaleInfo, box: Box, objects: dict[str, list[Three]], held: Held) -> None:
+        """Has the chunks of a box judged where some of them weren't yet, by this object."""
+        left = [name for name, mark in held.marks.items() if not self._judged_cells(name, mark).issuperset(objects[name])]
+        if left:
+            self._judge(scale, box, objects)
+        for name in left:
+            self._judged_cells(name, held.marks[name]).update(objects[name])
+
+    def _judged_cells(self, name: str, mark: Mark) -> set[Three]:
+        """The begins of the cells whose chunks were judged, of an object that is this file."""
+        if self._judged.get(name, (None,))[0] != mark:
+            self._judged[name] = mark, set()
+        return self._judged[name][1]
+
+    def _judge(self, scale: ScaleInfo, box: Box, objects: dict[str, list[Three]]) -> None:
         """Has the chunks of a box judged; of a damaged one the object is removed."""
         try:
-            self._verify(self.local, key, box)
+            self._verify(self.local, scale.key, box)
         except Damaged as why:
-            names = _damaged_in(why.line, scale_of(self._info, key), objects)
+            names = _damaged_in(why.line, scale, objects)
             for name in names:
                 (self.local / name).unlink(missing_ok=True)
-            what = f"{self._info.name.removesuffix('info')}{names[0]}" if len(names) == 1 else f"what was fetched of {key}"
+            what = f"{self._info.name.removesuffix('info')}{names[0]}" if len(names) == 1 else f"what was fetched of {scale.key}"
             raise type(why)(f"{why.line} ({what}, which is removed here)", why.status) from why
 
 
