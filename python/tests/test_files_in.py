@@ -79,9 +79,8 @@ def test_open_arrays(vol_tool):
 
 
 PUT = """
-import resource, sys
+import resource
 import vol_tool
-before = resource.getrusage(resource.RUSAGE_SELF).ru_maxrss
 vol_tool.write("d", "s", "x.zarr", resolution=(8, 8, 40), memory=128 << 20)
 kib = resource.getrusage(resource.RUSAGE_SELF).ru_maxrss, resource.getrusage(resource.RUSAGE_CHILDREN).ru_maxrss
 print(*kib)
@@ -94,14 +93,12 @@ def test_memory(vol_tool):
     array = zarr.open("x.zarr", mode="w", shape=(512, 1024, 1024), chunks=(64, 64, 64), dtype="u1")
     layer = (numpy.arange(1024, dtype="u2") // 4 + numpy.arange(1024, dtype="u2")[:, None] // 8).astype("u1")
     for at in range(0, 512, 64):
-        array[at : at + 64] = numpy.broadcast_to(layer + numpy.uint8(at), (64, 1024, 1024))
+        array[at : at + 64] = numpy.broadcast_to(layer + numpy.uint8(at // 4), (64, 1024, 1024))
     environment = {**os.environ, "PYTHONPATH": str(ROOT / "python")}
     found = subprocess.run([sys.executable, "-c", PUT], capture_output=True, text=True, env=environment)
     assert found.returncode == 0, found.stderr
     own, program = map(int, found.stdout.split())
-    assert own <= 128 << 10, f"{own} KiB"
-    if "asan" not in os.environ.get("VOL_TOOL", ""):
-        assert program <= 128 << 10, f"{program} KiB"
+    assert max(own, program) <= 128 << 10, f"{own} and {program} KiB"
     scale = vol_tool.open("d")["s"]
     for at in (0, 64, 511):
-        assert same(scale[at], layer + numpy.uint8(at // 64 * 64))
+        assert same(scale[at], layer + numpy.uint8(at // 64 * 16))
