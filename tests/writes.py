@@ -10,10 +10,10 @@ import random
 import subprocess
 import tempfile
 
-from harness import FOLDER, LIMIT, answers, file_limit, leaves, main, memory_limit, want, want_ending, want_files
-from model import MEMORY, OK, Values, Volume, box_in, bytes_of, head_of, infos_of, line, refused, stored, stream_of, voxels_in
+from harness import DEVICE, FOLDER, LIMIT, LOOP, PIPE, answers, file_limit, leaves, main, memory_limit, want, want_ending, want_files
+from model import MEMORY, OK, Values, Volume, along, box_in, bytes_of, head_of, infos_of, line, refused, stored, stream_of, voxels_in
 from model.chance import pick_box
-from runs import rows_of_stops, write_run
+from runs import rows_of_stops, update_run, write_run
 
 SMALL = Volume([2, 2, 1], [2, 2, 1])
 EDGE = line(5, 4)
@@ -109,6 +109,44 @@ def cuts_in_memory(trial, room, status, length, errors):
         want((found, os.fstat(output.fileno()).st_size, told), (status, length, errors))
 
 
+# What an earlier run may have left in the place of a file that is to be written: how a link to another file is made.
+LINKS = [("symbolic", os.symlink), ("hard", os.link)]
+
+# Files that are no objects of the scale.
+OTHERS = {"foreign": b"no object", "d/t/0-1_0-1_0-1": b"another scale's"}
+
+FIRST, SECOND = (ROW.path(f"{x}-{x + 1}_0-1_0-1") for x in (0, 1))
+DRAFT = f"{SECOND}.part"
+WRITE_ROW = write_run(ROW, [ALL_THREE])
+UPDATE_ROW = update_run(ROW, ROW.files_after([ALL_THREE])[0], [(along(1, 3), bytes([7, 8]))])
+
+# title, what else stands there, whether an update makes it anew
+LEFTOVERS = [("a link to a device", DEVICE, True), ("a link to itself", LOOP, True), ("a pipe", PIPE, False), ("a folder", FOLDER, False)]
+
+
+def unlinks_leftovers(trial, run, make_link, led_to):
+    """What a link leads to stays as it is, but where the run puts it too, and no link is left."""
+    trial.lay_out({**run.before, **OTHERS})
+    draft = trial.folder / DRAFT
+    draft.parent.mkdir(exist_ok=True)
+    make_link(trial.folder / led_to, draft)
+    leaves(trial, {}, run.words, run.ending, {**run.put, DRAFT: None}, run.stream)
+    want((trial.folder / SECOND).lstat().st_nlink, 1, "how many names the object has")
+
+
+def rows_of_leftovers():
+    for (kind, make_link), led_to in itertools.product(LINKS, [*OTHERS, FIRST]):
+        # a write begins without objects: one can't be another name of what isn't there yet
+        if (kind, led_to) != ("hard", FIRST):
+            yield f"a write over a {kind} link to {led_to}", unlinks_leftovers, WRITE_ROW, make_link, led_to
+    for (kind, make_link), led_to in itertools.product(LINKS, [*OTHERS, FIRST, SECOND]):
+        yield f"an update over a {kind} link to {led_to}", unlinks_leftovers, UPDATE_ROW, make_link, led_to
+    for title, left, is_made in LEFTOVERS:
+        ending, put = (UPDATE_ROW.ending, {**UPDATE_ROW.put, DRAFT: None}) if is_made else (refused("store fault"), {})
+        files = {**UPDATE_ROW.before, DRAFT: left}
+        yield f"an update over {title}", leaves, files, UPDATE_ROW.words, ending, put, UPDATE_ROW.stream
+
+
 SEEDS = range(4)
 
 # title, scale, how many writes, options
@@ -143,7 +181,8 @@ def rows():
     in_a_byte = functools.partial(leaves, prepare=file_limit(1))
     yield "a file that can't grow", in_a_byte, infos_of(SMALL), WRITE, refused("store fault"), {}, four
     yield "a folder that can't be written", may_not_write
-    yield from rows_of_stops(write_run(ROW, [ALL_THREE]))
+    yield from rows_of_stops(WRITE_ROW)
+    yield from rows_of_leftovers()
     for length in (1, 7, 48):
         yield f"pieces of {length}", takes_pieces, length
     yield "a second write reads nothing", reads_no_further, FOUR, WRITE, last, 0, "folder not empty"
