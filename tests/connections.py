@@ -19,11 +19,11 @@ import threading
 import time
 
 from browser import fetch_parts
-from harness import HALL_PROGRAM, LIMIT, NO_OUTPUTS, answers, main, methods_of, want, want_true, within
+from harness import HALL_PROGRAM, LIMIT, NO_OUTPUTS, answers, descriptor_limit, main, methods_of, want, want_true, within
 from model import refused
-from model.replies import BAD, SILENCE, ask, closing, part_of, whole_of
+from model.replies import ABSENT, BAD, SILENCE, ask, closing, part_of, whole_of
 from model.requests import cut_at_random, pick_stream
-from peers import ASK, OBJECT, REPLY, Doors, Served, connect, receive, reset, talk, words_of
+from peers import ASK, OBJECT, OPEN_FILES, REPLY, Doors, Served, connect, receive, reset, talk, words_of
 
 WORKERS = [1, 2, 8, 16]
 
@@ -82,6 +82,14 @@ class Cases(Hall):
                 want(peer.recv(100), b"", "to the peer that drips")
             is_over.set()
             thread.join()
+
+    def silent_peers_that_hold_all_descriptors(self):
+        """They are let go before the server gives up, and the next peer gets its reply."""
+        with self.serving(5, 5, prepare=descriptor_limit(OPEN_FILES + 4)) as port, contextlib.ExitStack() as silent:
+            for _ in range(4):
+                silent.enter_context(connect(port))
+            with within(SILENCE - 2, SILENCE + 5, "the next peer's reply"):
+                want(talk(port, ASK), REPLY, "the reply")
 
     def files_that_change(self):
         """Each worker sees a file that was replaced."""
@@ -204,6 +212,21 @@ def keeps_the_last_reply(trial, workers):
         want(talk(port, ask("POST /s/x", "Content-Length: 50000") + b"x" * 50000, half_close=False), BAD, "the refusal")
 
 
+def answers_more_peers_than_descriptors(trial, silent, workers, more, request, reply):
+    """Silent peers hold all that the server may open; the others wait, and get their replies when these leave."""
+    limit = descriptor_limit(OPEN_FILES + silent)
+    with Served.of(trial).serving(silent + more, workers, prepare=limit) as port, contextlib.ExitStack() as staying:
+        for _ in range(silent):
+            staying.enter_context(connect(port))
+        with concurrent.futures.ThreadPoolExecutor(more) as peers:
+            replies = [peers.submit(talk, port, request) for _ in range(more)]
+            time.sleep(1)
+            want([got.done() for got in replies], more * [False], "who is answered beside the silent peers")
+            staying.close()
+            with within(0, 5, "the replies"):
+                want([got.result() for got in replies], more * [reply], "the replies")
+
+
 def serves_so_many(trial, connections, workers):
     """Then it ends, and nobody listens any more."""
     with Served.of(trial).serving(connections, workers) as port:
@@ -225,6 +248,10 @@ NO_COMMANDS = [
     *([ALL[0], f"--port={port}", *ALL[2:]] for port in ("65536", "-1", "00", "", "x")),
     *([*ALL[:2], f"--connections={count}", ALL[3]] for count in ("0", "65537", "01", "")),
 ]
+
+# How many silent peers there are, a descriptor for each, how many workers, how many more peers, and what each of these asks and gets.
+# What is absent takes no descriptor, and each worker that had an object keeps its file open.
+MORE_PEERS = [(8, 16, 32, ask("GET /s/none"), ABSENT), (4, 5, 2, ASK, REPLY)]
 
 # Title, what peers say in turn, with what they get, and after how many seconds at least and at most they are let go; of a reply that isn't
 # read several pieces are sent.
@@ -248,6 +275,8 @@ def rows(count):
         yield f"peers that break off, {workers} workers", breaks_off, workers
     for workers in (1, 2):
         yield f"peers that go on sending, {workers} workers", keeps_the_last_reply, workers
+    for silent, *case in MORE_PEERS:
+        yield f"more peers than the descriptors of {silent}", answers_more_peers_than_descriptors, silent, *case
     for connections, workers in ((1, 1), (1, 16), (3, 2), (20, 4)):
         yield f"{connections} connections, {workers} workers", serves_so_many, connections, workers
     for title, output in NO_OUTPUTS:

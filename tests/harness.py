@@ -229,6 +229,12 @@ def file_limit(count):
     return prepare
 
 
+def descriptor_limit(count):
+    """From now on a process may have so many files and sockets open."""
+    hard = resource.getrlimit(resource.RLIMIT_NOFILE)[1]
+    return lambda: resource.setrlimit(resource.RLIMIT_NOFILE, (count, hard))
+
+
 def call(command, folder, errors=subprocess.PIPE, **environment):
     """What a command ends with that reads nothing: its status, its output and its standard error, as texts."""
     done = subprocess.run(command, cwd=folder, stdin=subprocess.DEVNULL, stdout=subprocess.PIPE, stderr=errors, timeout=LIMIT,

@@ -2,15 +2,19 @@
 import concurrent.futures
 import contextlib
 import os
+import resource
 import signal
 import socket
 import struct
 import subprocess
 import time
 
-from harness import LIMIT, PIPE, Trial, Wrong, want, want_ending, want_true
+from harness import LIMIT, PIPE, Trial, Wrong, descriptor_limit, want, want_ending, want_true, within
 from model import printed, refused
 from model.replies import ABSENT, FAILED, ask, closing, head_of, part_of, whole_of
+
+# What a server has open that has no connection: its streams and the socket that listens.
+OPEN_FILES = 4
 
 OBJECT = b"0123456789"
 ASK = ask("GET /s/x")
@@ -57,19 +61,32 @@ def words_of(connections, workers, port=0):
 
 
 @contextlib.contextmanager
-def serving(trial, connections, workers=None, **environment):
-    """A server of the data set d, or one of several workers, by its port; it has to end with status 0 and say nothing else."""
-    child = trial.start(words_of(connections, workers), stdout=subprocess.PIPE, stderr=subprocess.PIPE, env={**os.environ, **environment})
+def started(trial, connections, workers=None, prepare=None, **environment):
+    """A server of the data set d, or one of several workers, and its port. `prepare` is called before the program begins."""
+    pipes = {"stdout": subprocess.PIPE, "stderr": subprocess.PIPE}
+    child = trial.start(words_of(connections, workers), preexec_fn=prepare, env={**os.environ, **environment}, **pipes)
     try:
         line = child.stdout.readline()
         if not line.startswith(b"listening "):
             raise Wrong(f"it says {line!r} and {child.stderr.read()!r}")
-        yield int(line.split()[1])
-        output, errors = child.communicate(timeout=LIMIT)
-        want_ending((child.returncode, output, errors), printed(b""), "at the end")
+        yield child, int(line.split()[1])
     finally:
         child.kill()
         child.communicate()
+
+
+def want_end(child, wanted=printed(b"")):
+    """A server ends so, with status 0 if nothing is said, and says nothing else."""
+    output, errors = child.communicate(timeout=LIMIT)
+    want_ending((child.returncode, output, errors), wanted, "at the end")
+
+
+@contextlib.contextmanager
+def serving(trial, connections, workers=None, **how):
+    """The same by its port alone; it has to end with status 0."""
+    with started(trial, connections, workers, **how) as (child, port):
+        yield port
+        want_end(child)
 
 
 class Served(Trial):
@@ -82,8 +99,8 @@ class Served(Trial):
         trial.lay_out({"d/s/x": OBJECT})
         return super().of(trial)
 
-    def serving(self, connections, workers=None, **environment):
-        return serving(self, connections, workers or self.WORKERS, **environment)
+    def serving(self, connections, workers=None, **how):
+        return serving(self, connections, workers or self.WORKERS, **how)
 
     def want_replies(self, rows):
         """Each stream of requests is answered so, at once and in halves; to several peers at once where there are several workers."""
@@ -128,6 +145,26 @@ class Doors(Served):
         with self.serving(1, VOL_TOOL_ADDRESS="127.0.0.2") as port:
             want(talk(port, ASK, address="127.0.0.2"), REPLY, "the reply")
         self.want(words_of(1, self.WORKERS), refused("door fault"), VOL_TOOL_ADDRESS="localhost.")
+
+    def waits_for_descriptors(self):
+        """While the system gives none for the next connection its peer waits, and gets its reply once there is one."""
+        with started(self, 2, self.WORKERS, descriptor_limit(OPEN_FILES)) as (child, port), connect(port) as peer:
+            peer.sendall(ASK)
+            peer.settimeout(1)
+            with contextlib.suppress(TimeoutError):
+                raise Wrong(f"without a descriptor it sends {peer.recv(1)!r}")
+            peer.settimeout(LIMIT)
+            resource.prlimit(child.pid, resource.RLIMIT_NOFILE, resource.getrlimit(resource.RLIMIT_NOFILE))
+            with within(0, 5, "the reply"):
+                want(receive(peer, len(REPLY)), REPLY, "the reply")
+            peer.close()
+            want(talk(port, ASK), REPLY, "the next peer's reply")
+            want_end(child)
+
+    def gives_up_without_descriptors(self):
+        """After 20 seconds in which it got none, though a peer waits."""
+        with started(self, 1, self.WORKERS, descriptor_limit(OPEN_FILES)) as (child, port), connect(port), within(18, 30, "giving up"):
+            want_end(child, refused("door fault"))
 
     def is_loopback_alone(self):
         """Another address of this machine's loopback isn't served where none is named."""

@@ -13,13 +13,13 @@ import threading
 import time
 from concurrent.futures import ThreadPoolExecutor
 
-from harness import LIMIT, Wrong, call, find_tool, main, methods_of, open_full, want, within
+from harness import LIMIT, Wrong, call, descriptor_limit, find_tool, main, methods_of, open_full, want, within
 from model import along, info_of, refused, stored, stream_of
 from model.replies import (
     ABSENT, BAD, MOST_HEAD, MOST_NAME, MOST_REQUESTS, NOT_ALLOWED, PAUSE, SILENCE, ask, closing, head_of, no_part_of, part_of,
 )
 from model.small import shards
-from peers import ASK, OBJECT, REPLY, Doors, Served, connect, in_halves, receive, reset, talk, words_of
+from peers import ASK, OBJECT, OPEN_FILES, REPLY, Doors, Served, connect, in_halves, receive, reset, talk, words_of
 
 HEAD_ALONE = head_of("200 OK", 10)
 PART = part_of(OBJECT, 2, 4)
@@ -126,6 +126,11 @@ class Cases(Doors):
             with within(0, PAUSE + 2, "the next peer's reply"):
                 want(talk(port, ASK), REPLY, "the next peer's reply")
             want(talk(port, ASK + ASK, 2 * in_halves(ASK), pause=0.6 * PAUSE), REPLY + REPLY, "a slow peer's replies")
+
+    def serves_more_peers_than_descriptors(self):
+        """Twenty come at once; beside what it always has open it may have a connection and a file."""
+        with self.serving(20, prepare=descriptor_limit(OPEN_FILES + 2)) as port, ThreadPoolExecutor(20) as peers:
+            want(list(peers.map(lambda _: talk(port, ASK), range(20))), 20 * [REPLY], "the replies")
 
     def serves_eight_that_keep_their_connections(self):
         done = threading.Barrier(8, timeout=LIMIT)
