@@ -37,25 +37,30 @@ enum Given {
 
 use Given::{Error, Stream};
 
-// A clock, and what the calls of the listener give, each so often; later ones give a stream.
+// What the calls of a listener give: these in turn, so often, and then a stream.
+#[derive(Clone, Copy)]
+struct Plan {
+    givens: &'static [Given],
+    calls: usize,
+}
+
+// A clock, and a listener's plan, with how often it was called.
 #[derive(Drop)]
 struct Course {
     now: Cell<Duration>,
-    calls: Cell<u32>,
-    plan: &'static [(u32, Given)],
+    calls: Cell<usize>,
+    plan: Plan,
 }
 
 impl Course {
     fn next(&self) -> Given {
-        let mut left = self.calls.get();
-        self.calls.set(left.saturating_add(1));
-        for (count, given) in self.plan {
-            if left < *count {
-                return *given;
-            }
-            left -= *count;
+        let call = self.calls.get();
+        self.calls.set(call.saturating_add(1));
+        let turn = call.checked_rem(self.plan.givens.len()).unwrap_or(0);
+        match self.plan.givens.get(turn) {
+            Some(given) if call < self.plan.calls => *given,
+            _ => Stream(true, true),
         }
-        Stream(true, true)
     }
 }
 
@@ -184,7 +189,7 @@ impl Env for Host<'_> {
 }
 
 // Whether a door over a listener of this plan gives an end, and how many milliseconds that takes.
-fn accepts(plan: &'static [(u32, Given)]) -> Result<(bool, Duration), Fail> {
+fn accepts(plan: Plan) -> Result<(bool, Duration), Fail> {
     let course = Course {
         now: Cell::new(Duration::ZERO),
         calls: Cell::new(0),
@@ -202,65 +207,52 @@ fn accepts(plan: &'static [(u32, Given)]) -> Result<(bool, Duration), Fail> {
     Ok((is_given, course.now.get()))
 }
 
-fn test_plans(rt: &impl Abort, rows: &[(&'static [(u32, Given)], bool, u64)]) -> Result<(), Fail> {
-    for (number, (plan, is_given, time)) in rows.iter().enumerate() {
-        let wanted = (*is_given, Duration::from_millis(*time));
-        assert_eq!(rt; accepts(plan)?, wanted, "at {number}");
+// So many calls give these in turn, and later ones a stream; whether an end is given, and how many milliseconds that takes.
+type Row = (&'static [Given], usize, bool, u64);
+
+fn test_rows(rt: &impl Abort, rows: &[Row]) -> Result<(), Fail> {
+    for (number, (givens, calls, is_given, time)) in rows.iter().enumerate() {
+        let found = accepts(Plan {
+            givens,
+            calls: *calls,
+        })?;
+        assert_eq!(rt;
+            found,
+            (*is_given, Duration::from_millis(*time)),
+            "at {number}"
+        );
     }
     Ok(())
 }
 
+const SHORTAGE: &[Given] = &[Error(ENOMEM), Error(ENFILE), Error(EMFILE), Error(ENOBUFS)];
+
+const OF_ONE_PEER: &[Given] = &[
+    Error(ECONNABORTED),
+    Error(EPROTO),
+    Error(EINTR),
+    Stream(false, true),
+    Stream(true, false),
+];
+
 // Every 100 milliseconds, for 20 seconds in a row.
 #[test]
 fn waits_for_descriptors_and_memory(rt: HostRuntime) -> Result<(), Fail> {
-    test_plans(
+    test_rows(
         &rt,
         &[
-            (
-                &[
-                    (1, Error(ENOMEM)),
-                    (1, Error(ENFILE)),
-                    (1, Error(EMFILE)),
-                    (1, Error(ENOBUFS)),
-                ],
-                true,
-                400,
-            ),
-            (&[(200, Error(EMFILE))], true, 20000),
-            (&[(201, Error(EMFILE))], false, 20000),
-            (
-                &[
-                    (150, Error(EMFILE)),
-                    (1, Error(ECONNABORTED)),
-                    (200, Error(EMFILE)),
-                ],
-                true,
-                35000,
-            ),
+            (SHORTAGE, 4, true, 400),
+            (SHORTAGE, 200, true, 20000),
+            (SHORTAGE, 201, false, 20000),
+            (&[Error(EMFILE), Error(ECONNABORTED)], 600, true, 30000),
         ],
     )
 }
 
 #[test]
 fn passes_over_what_one_peer_did(rt: HostRuntime) -> Result<(), Fail> {
-    test_plans(
+    test_rows(
         &rt,
-        &[
-            (
-                &[
-                    (3, Error(ECONNABORTED)),
-                    (3, Error(EPROTO)),
-                    (3, Error(EINTR)),
-                ],
-                true,
-                0,
-            ),
-            (
-                &[(300, Stream(false, true)), (300, Stream(true, false))],
-                true,
-                0,
-            ),
-            (&[(1, Error(EBADF))], false, 0),
-        ],
+        &[(OF_ONE_PEER, 500, true, 0), (&[Error(EBADF)], 1, false, 0)],
     )
 }

@@ -4,10 +4,11 @@ ghost use Rattle.std.specs.Prelude.{◌≡◌, None};
 use std::env::{Env, FillError};
 use std::io::{self, Read, Write};
 use std::net::{Ipv4Addr, Net, SocketAddr, TcpListener, TcpStream};
+use std::process::Abort;
 use std::test::Fail;
 use std::time::{Clock, Duration, Instant};
 use vol_base::{Door, Failed, Link};
-use vol_shell::{Limits, TcpDoor};
+use vol_shell::{Limits, TcpDoor, TcpLink};
 
 // The host's sockets and clock, and an environment where the variable has this text.
 #[derive(Clone, Copy)]
@@ -91,83 +92,90 @@ fn connect(rt: &HostRuntime, address: Ipv4Addr, port: u16) -> io::Result<TcpStre
     Ok(peer)
 }
 
+// A peer that says something, and its end.
+fn meet(
+    rt: &HostRuntime,
+    door: &mut TcpDoor<Host>,
+    said: &[u8],
+) -> Result<(TcpStream, TcpLink<Host, TcpStream>), Fail>
+    requires { door.old.port ≡ None }
+{
+    let Ok(port) = door.listen(0) else {
+        return Err("no port is free".into());
+    };
+    let mut peer = connect(rt, Ipv4Addr::LOCALHOST, port)?;
+    peer.write_all(said)?;
+    match door.accept() {
+        Ok(end) => Ok((peer, end)),
+        Err(Failed) => Err("no peer is there".into()),
+    }
+}
+
+fn receives<L: Link>(rt: &impl Abort, end: &mut L, wanted: &[u8; 3]) {
+    let mut got = [0; 3];
+    assert_eq!(rt; end.recv(&mut got), Ok(3));
+    assert_eq!(rt; got, *wanted);
+}
+
+fn is_silent<L: Link>(end: &mut L) -> bool {
+    end.recv(&mut [0; 3]).is_err()
+}
+
+// Sends so many pieces of 4 KiB, or until a call fails. How many bytes were sent.
+fn send_pieces<L: Link>(end: &mut L, count: usize) -> usize {
+    let mut sent = 0usize;
+    for _ in 0..count {
+        match end.send(&[b'x'; 4096]) {
+            Ok(taken) => sent = sent.saturating_add(taken),
+            Err(Failed) => return sent,
+        }
+    }
+    sent
+}
+
 // The peer sends more than is read, and gets the whole reply, which is more than it has room for, and the end.
 #[test]
 fn replies_before_it_closes(rt: HostRuntime) -> Result<(), Fail> {
     let mut door = door_of(rt, None, LONG);
-    let Ok(port) = door.listen(0) else {
-        return Err("no port is free".into());
-    };
-    let mut peer = connect(&rt, Ipv4Addr::LOCALHOST, port)?;
-    peer.write_all(b"abc and more than is read")?;
-    let Ok(mut end) = door.accept() else {
-        return Err("no peer is there".into());
-    };
-    let mut got = [0; 3];
-    assert_eq!(rt; end.recv(&mut got), Ok(3));
-    assert_eq!(rt; got, *b"abc");
-    for _ in 0..64 {
-        assert_eq!(rt; end.send(&[b'x'; 4096]), Ok(4096));
-    }
+    let (mut peer, mut end) = meet(&rt, &mut door, b"abc and more than is read")?;
+    receives(&rt, &mut end, b"abc");
+    assert_eq!(rt; send_pieces(&mut end, 64), 64 * 4096);
     door.close(end);
     let mut reply = Vec::new(rt.alloc());
     assert_eq!(rt; peer.read_to_end(&mut reply)?, 64 * 4096);
     Ok(())
 }
 
-// Sends until a call fails, and for 256 MiB at most. Whether one failed.
-fn send_on<L: Link>(link: &mut L) -> bool {
-    for _ in 0..65536 {
-        if link.send(&[b'x'; 4096]).is_err() {
-            return true;
-        }
-    }
-    false
-}
-
+// Neither for what it says nor until it reads.
 #[test]
 fn waits_no_longer_for_a_silent_peer(rt: HostRuntime) -> Result<(), Fail> {
     let mut door = door_of(rt, None, SHORT);
-    let Ok(port) = door.listen(0) else {
-        return Err("no port is free".into());
-    };
-    let _peer = connect(&rt, Ipv4Addr::LOCALHOST, port)?;
-    let Ok(mut end) = door.accept() else {
-        return Err("no peer is there".into());
-    };
-    let mut got = [0; 3];
-    assert_eq!(rt; end.recv(&mut got), Err(Failed));
-    assert_eq!(rt; end.faults, 1);
-    assert!(rt; send_on(&mut end));
-    assert_eq!(rt; end.faults, 2);
+    let (_peer, mut end) = meet(&rt, &mut door, b"")?;
+    assert!(rt; is_silent(&mut end));
+    assert!(rt; send_pieces(&mut end, 65536) < 65536 * 4096);
     Ok(())
 }
-
-// What may be moved into another thread.
-fn can_move<T: Send>(_value: &T) {}
 
 // A peer that was sent something and is silent is let go long before one that was sent nothing.
 #[test]
 fn waits_no_longer_for_an_idle_peer(rt: HostRuntime) -> Result<(), Fail> {
     let mut door = door_of(rt, None, LONG);
-    let Ok(port) = door.listen(0) else {
-        return Err("no port is free".into());
-    };
-    let mut peer = connect(&rt, Ipv4Addr::LOCALHOST, port)?;
-    peer.write_all(b"abc")?;
-    let Ok(mut end) = door.accept() else {
-        return Err("no peer is there".into());
-    };
-    let mut got = [0; 3];
-    assert_eq!(rt; end.recv(&mut got), Ok(3));
-    assert_eq!(rt; end.send(b"x"), Ok(1));
+    let (_peer, mut end) = meet(&rt, &mut door, b"abc")?;
+    receives(&rt, &mut end, b"abc");
+    assert_eq!(rt; send_pieces(&mut end, 1), 4096);
     let begin = Instant::now(&rt)?;
-    assert_eq!(rt; end.recv(&mut got), Err(Failed));
+    assert!(rt; is_silent(&mut end));
     assert!(rt; begin.elapsed(&rt)? < Duration::from_secs(5));
-    can_move(&end);
-    can_move(&door);
-    assert_eq!(rt; end.faults, 1);
     Ok(())
+}
+
+// What may be moved into another thread.
+fn can_move<T: Send>() {}
+
+#[test]
+fn goes_into_threads(_rt: HostRuntime) {
+    can_move::<TcpDoor<Host>>();
+    can_move::<TcpLink<Host, TcpStream>>();
 }
 
 // A second address has the same port, so the door was bound to its own address alone.
