@@ -1,11 +1,11 @@
 #!/usr/bin/env python3
-"""Tries examples/volume.py as a module and its command `view`, and the page examples/slices.html in a headless browser.
+"""Tries `bin/volume view`, the page python/vol_tool/data/slices.html in a headless browser, and arrays that are views by the package.
 
     [PICTURES=FOLDER] tests/viewing.py [PROGRAM]
 
 Scales of every form are written by the program (those of float32, which it refuses, by the model), and each picture of the page is
 compared, pixel by pixel, with one that is made here from the same values. In FOLDER the browser's screenshots are left. Without Chromium
-the rows of the page are skipped, and without numpy the one of its arrays.
+the rows of the page are skipped, and without numpy the one of arrays.
 """
 import collections
 import contextlib
@@ -18,7 +18,6 @@ import os
 import pathlib
 import random
 import signal
-import socket
 import struct
 import subprocess
 import sys
@@ -26,16 +25,16 @@ import threading
 import time
 import urllib.parse
 
-from arrays import SCRIPT, load, save, variables
+from arrays import SCRIPT, variables
 from browser import Browser, fetch_parts
-from harness import LIMIT, Trial, Wrong, call, find_python, main, methods_of, want, want_true
+from harness import LIMIT, ROOT, Trial, Wrong, call, find_python, main, methods_of, want, want_true
 from model import Sharding, Volume, infos_of, stored, stream_of
 from model.chance import with_numbers
 from model.murmur import finish
 from model.segments import bytes_of
 from servers import Handler, Plain, own, read_file, running
 
-PAGE = SCRIPT.parent / "slices.html"
+PAGE = ROOT / "python" / "vol_tool" / "data" / "slices.html"
 WINDOW = (1000, 720)
 CODES = {1: "B", 2: "H", 4: "I", 8: "Q"}
 
@@ -236,12 +235,12 @@ def viewing(trial, *words, by=signal.SIGINT):
             child.communicate()
 
 
-def ask(link, target, method="GET", **fields):
-    """The status, a field and the body of a reply."""
+def ask(link, target):
+    """The status and the body of a reply."""
     with contextlib.closing(http.client.HTTPConnection(urllib.parse.urlsplit(link).netloc, timeout=LIMIT)) as client:
-        client.request(method, target, headers=fields)
+        client.request("GET", target)
         reply = client.getresponse()
-        return reply.status, reply.getheader("Content-Range"), reply.read()
+        return reply.status, reply.read()
 
 
 def make_bytes(trial):
@@ -249,143 +248,40 @@ def make_bytes(trial):
     return "/s/0-4_0-3_0-2", bytes(range(24))
 
 
-def replies(trial):
-    """The page and the objects come from one address, to which six peers that say nothing are no hindrance."""
+def begins(trial):
+    """Words and a signal of the command. What its page answers, and whom it refuses, is tried in python/tests."""
     target, chunk = make_bytes(trial)
-    page, info = PAGE.read_bytes(), (trial.folder / "d/info").read_bytes()
-    with viewing(trial, "d") as (link, _), contextlib.ExitStack() as silent:
-        where = urllib.parse.urlsplit(link)
-        for _ in range(6):
-            silent.enter_context(socket.create_connection((where.hostname, where.port)))
-        for what, how, status, told, body in [
-            ("/", {}, 200, None, page),
-            ("/?scale=s&at=1,2,3", {}, 200, None, page),
-            ("/info", {}, 200, None, info),
-            (target, {}, 200, None, chunk),
-            (target, {"Range": "bytes=3-5"}, 206, "bytes 3-5/24", chunk[3:6]),
-            (target, {"Range": "bytes=24-25"}, 416, "bytes */24", b""),
-            (target, {"method": "HEAD"}, 200, None, b""),
-            ("/s/none", {}, 404, None, b""),
-            (target, {"Host": "localhost:1"}, 200, None, chunk),
-        ]:
-            want(ask(link, what, **how), (status, told, body), f"{what} {how}")
-        for other in ("/../d/info", "/%69nfo", "/s/"):
-            want(ask(link, other)[0], 404, other)
-        want(ask(link, target, Host="volumes.example:80")[0], 403, "another name of this machine")
+    for words, query, number in ([], "", signal.SIGINT), (["s"], "scale=s", signal.SIGTERM), (["s", "--port=0"], "scale=s", signal.SIGHUP):
+        with viewing(trial, "d", *words, by=number) as (link, pid):
+            want((link.partition("?")[2], len(servers_of(pid))), (query, 1), "the query, and how many servers there are")
+            for what, body in ("/", PAGE.read_bytes()), (target, chunk):
+                want(ask(link, what), (200, body), what)
 
 
-def serves_on(trial):
-    """A server that ended, and a connection that was silent for too long, are begun anew."""
-    target, chunk = make_bytes(trial)
-    with viewing(trial, "d", "s", by=signal.SIGTERM) as (link, pid):
-        want(link.partition("?")[2], "scale=s", "the query")
-        want(ask(link, target), (200, None, chunk), "at first")
-        for server in servers_of(pid):
-            os.kill(server, signal.SIGKILL)
-        want(ask(link, target), (200, None, chunk), "after the server was killed")
-        time.sleep(1.5)
-        want(ask(link, target), (200, None, chunk), "after a pause")
+# The package
 
-
-def refuses(trial):
-    make_bytes(trial)
-    with socket.create_server(("127.0.0.1", 0)) as taken:
-        for words in (["e"], ["d", "t"], ["./d"], ["d", "s", "--port", str(taken.getsockname()[1])], ["d", "--port", "65536"]):
-            status, out, errors = call([sys.executable, SCRIPT, "view", *words], trial.folder, **variables(trial.program))
-            is_told = status in (1, 2) and not out and "volume.py" in errors and "Traceback" not in errors
-            want_true(is_told, f"{words}: {status} {out!r} {errors!r}")
-
-
-# The script as a module
-
-WITHOUT_NUMPY = """
-import sys
-sys.modules["numpy"] = None
-import volume
-
-volume.write("d", "s", "in.npy", resolution=(8, 8, 40.5), chunk=(2, 2, 2), offset=(-1, 0, 5), sharding="0,murmur,1,1")
-assert volume.read("d", "s", out="all.npy") is None
-volume.read("d", "s", "[0:2,0:1,5:6]", out="text.npy")
-volume.read("d", "s", [(0, 2), (0, 1), (5, 6)], "pairs.npy")
-one = {"resolution": (1, 1, 1)}
-for call, words, more, kind, text in [
-    (volume.read, ("d", "s"), {}, volume.Refused, "numpy"),
-    (volume.write, ("d", "t", [[[1]]]), {}, volume.Refused, "numpy"),
-    (volume.write, ("d", "s", "in.npy"), {}, volume.Ended, "folder not empty"),
-    (volume.read, ("d", "s", "[0:9,0:1,0:1]", "no.npy"), {}, volume.Ended, "outside"),
-    (volume.read, ("d", "none"), {"out": "no.npy"}, volume.Refused, "none"),
-    (volume.write, ("d", "t", "in.npy"), {}, volume.Refused, "--resolution"),
-    (volume.write, ("d", "t", "in.npy"), {"resolution": (1, 1)}, ValueError, "three"),
-    (volume.write, ("d", "t", "in.npy"), {**one, "chunk": (1, 0, 1)}, ValueError, "three"),
-    (volume.write, ("d", "t", "in.npy"), {**one, "encoding": "jpeg"}, ValueError, "jpeg"),
-    (volume.write, ("d", "t", "in.npy"), {**one, "sharding": "0,crc,1,1"}, ValueError, "crc"),
-    (volume.read, ("d", "s"), {"axes": "zyxcx"}, ValueError, "zyxcx"),
-]:
-    try:
-        call(*words, **more)
-    except Exception as found:
-        assert type(found) is kind and text in str(found), (type(found), found)
-        assert kind is not volume.Ended or found.status == 3, found.status
-    else:
-        raise AssertionError(text)
-"""
-
-WITH_NUMPY = """
-import itertools
+ARRAYS = """
 import numpy
-import volume
+import vol_tool
 
-chance = numpy.random.default_rng(7)
-forms = itertools.product((1, 3), ("u1", "<u2", ">u2", "<u4", ">u8"), ("czyx", "xyzc", "zyxc"), ("C", "F", "steps"))
-for number, (channels, descr, axes, order) in enumerate(forms):
-    plain = chance.integers(0, numpy.iinfo(descr[-2:]).max, (channels, 5, 6, 7), "u8", endpoint=True).astype(descr)
-    array = {"czyx": plain, "xyzc": plain.T, "zyxc": plain.transpose(1, 2, 3, 0)}[axes]
-    array = array[0] if channels == 1 and axes == "czyx" else array[..., 0] if channels == 1 else array
-    array = numpy.repeat(array, 2, axis=0)[::2] if order == "steps" else array.copy(order)
+values = numpy.arange(2 * 10 * 12 * 14, dtype="u4").reshape(2, 10, 12, 14) * 1000003
+views = {"steps": values[:, ::2, 1::3, ::-2], "turned": values[0].transpose(2, 0, 1), "few": values[0, :1, :1, ::7]}
+for name, array in views.items():
     before = array.copy()
-    volume.write(f"d{number}", "s", array, axes=axes, resolution=(1, 1, 1), chunk=(4, 4, 4), offset=(-3, 0, 2))
-    assert (array == before).all()
-    found = volume.read(f"d{number}", "s", axes=axes)
-    assert found.shape == array.shape and (found == array).all() and found.dtype == numpy.dtype(descr).newbyteorder("<"), number
-    box = volume.read(f"d{number}", "s", ((numpy.int64(-2), 1), (3, 5), (2, 4)))
-    assert (box == (plain if channels > 1 else plain[0])[..., 0:2, 3:5, 1:4]).all(), number
+    array.setflags(write=False)
+    axes = "czyx" if array.ndim == 4 else "zyx"
+    scale = vol_tool.write(name, "s", array, axes=axes, resolution=(1, 1, 1), chunk=(4, 4, 4), offset=(-3, 0, 2))
+    assert (array == before).all() and (scale[...] == array).all(), name
+    found = vol_tool.open(name, axes=axes)["s"][...]
     found[...] = 0
-
-array.setflags(write=False)
-volume.write("read_only", "s", array, axes="zyxc", resolution=(1, 1, 1))
-labels = numpy.zeros((5, 6, 7), "u4")
-labels[2:, 3:] = 70000
-volume.write("labels", "s", labels, resolution=(8, 8, 40), encoding="compressed_segmentation", block=(4, 4, 4), workers=2)
-assert (volume.read("labels", "s") == labels).all()
-for values, text in [
-    (labels.astype("f4"), "<f4"), (labels.astype("i4"), "<i4"), (labels > 0, "|b1"), (labels[0], "shape"), (labels[:0], "shape"),
-    (numpy.zeros((9, 9, 9, 3), "u1"), "--axes"), (numpy.array([[[None]]]), "|O"),
-]:
-    try:
-        volume.write("refused", "s", values, resolution=(1, 1, 1))
-    except volume.Refused as found:
-        assert text in str(found), found
-    else:
-        raise AssertionError(text)
+    box = vol_tool.read(name, "s", ((numpy.int64(-3), numpy.int32(-1)), (0, 1), (2, numpy.uint8(3))), axes=axes)
+    assert (box == before[..., :1, :1, :2]).all() and box.flags.writeable, name
 """
 
 
-def run_script(trial, script, python=sys.executable):
-    want(call([python, "-c", script], trial.folder, **variables(trial.program)), (0, "", ""), "the script")
-
-
-def moves_arrays(trial):
-    run_script(trial, WITH_NUMPY, find_python("numpy"))
-
-
-def moves_files(trial):
-    content = random.Random(3).randbytes(2 * 5 * 6 * 7)
-    save(trial.folder / "in.npy", "<u2", (5, 6, 7), content)
-    run_script(trial, WITHOUT_NUMPY)
-    for name, wanted in ("all.npy", content), ("text.npy", content[2:6]), ("pairs.npy", content[2:6]):
-        want(load(trial.folder / name)[-1], wanted, name)
-    want(json.loads((trial.folder / "d/info").read_text())["scales"][0]["resolution"], [8, 8, 40.5], "the lengths of a voxel")
-    want([path.name for path in trial.folder.glob("no.npy*")], [], "what is left")
+def stores_views(trial):
+    """Arrays that are views of others and may only be read; boxes of numpy's numbers; what is read may be changed."""
+    want(call([find_python("numpy"), "-c", ARRAYS], trial.folder, **variables(trial.program)), (0, "", ""), "the script")
 
 
 # The page
@@ -789,11 +685,8 @@ def on_page(trial, judge, *arguments):
 
 
 def rows():
-    yield "the module without numpy", moves_files
-    yield "the module with numpy", moves_arrays
-    yield "what a view answers", replies
-    yield "a view whose server ends", serves_on
-    yield "views that are refused", refuses
+    yield "arrays that are views of others", stores_views
+    yield "how a view begins and ends", begins
     yield "pieces of vol_tool serve at once", fetches_pieces
     for title, *form in FORMS:
         yield f"the page: {title}", on_page, shows_form, title, *form
