@@ -6,8 +6,9 @@
 import os
 import pathlib
 import shutil
+import struct
 
-from harness import ROOT, call, call_on_terminal, main, put_program, want, want_true
+from harness import ROOT, call, call_on_terminal, files_in, find_python, main, put_program, want, want_files, want_true
 
 # A program that tells its arguments and its folder, and ends with status 3; and one that ends with the status in the file beside it.
 TELLS = '#!/bin/sh\necho "{}:$*"\npwd\nexit 3\n'
@@ -85,13 +86,23 @@ TOLD = {
     "vol_tool": [f"vol_tool {command} " for command in "write update cutout verify reshard downsample generate serve".split()],
 }
 
+# The package in a checkout, and below the folder that it is installed in; and a script that stores by it.
+PACKAGE, INSTALLED_PACKAGE = "python/vol_tool", "share/vol_tool/python/vol_tool"
+STORES = """
+import numpy
+import vol_tool
+
+vol_tool.write("d", "s", numpy.arange(24, dtype="u2").reshape(2, 3, 4), resolution=(1, 1, 1))
+print(vol_tool.__file__)
+"""
+
 
 class Tree:
     """A checkout, with a stand-in for `rt`, the program that stands there at first, which may be old, and one that was put aside."""
 
     def __init__(self, folder, name="vol_tool", builder=FAILS, program=None, aside=None, is_old=False):
         self.folder, self.name = folder, name
-        for part in ("bin", "docs", "examples"):
+        for part in ("bin", "docs", "examples", PACKAGE):
             shutil.copytree(ROOT / part, folder / part, ignore=shutil.ignore_patterns("__pycache__"))
         for script in ("demo", "install"):
             shutil.copy2(ROOT / script, folder)
@@ -163,18 +174,48 @@ def helps_on_a_terminal(trial, name):
         want(tree.call(*words.split())[:2], (status, ""), f"{words}, without a terminal")
 
 
-def installs(trial):
+def installed(trial, own=None):
+    """
+    The folder that ./install puts all into, out of a checkout that is gone then, and what stood in the package. The programs are stand-ins,
+    but for vol_tool where one is given. What an older install and a run of Python left is no part of it.
+    """
     tree, prefix = Tree(trial.folder / "tree"), trial.folder / "prefix"
     for name in HELP:
         put_program(tree.folder / f"crates/{name}/out/{name}", TELLS.format(f"own {name}"))
-    status, out, errors = call([trial.folder / "tree/install", prefix], trial.folder)
-    want_true(status == 0 and f"{prefix}/bin isn't in PATH" in out, f"install: {status} {out!r} {errors!r}")
-    shutil.rmtree(trial.folder / "tree")
+    if own is not None:
+        shutil.copyfile(own, tree.program)
+    package = files_in(tree.folder / PACKAGE)
+    trial.lay_out({f"tree/{PACKAGE}/__pycache__/views.pyc": b"", f"prefix/{INSTALLED_PACKAGE}/older.py": b""})
+    status, out, errors = call([tree.folder / "install", prefix], trial.folder)
+    told = f"{prefix}/bin isn't in PATH", f'export PYTHONPATH="{(prefix / INSTALLED_PACKAGE).parent}:'
+    want_true(status == 0 and all(line in out for line in told), f"install: {status} {out!r} {errors!r}")
+    shutil.rmtree(tree.folder)
+    return prefix, package
+
+
+def installs(trial):
+    prefix, package = installed(trial)
     for name in HELP:
         found = call([prefix / "bin" / name, "a", "b  c"], trial.folder)
         want(found[:2], (3, f"own {name}:a b  c\n{trial.folder}\n"), f"{name}, installed")
-    for name in ("bin/volume.py", "bin/slices.html", "bin/fetch.py", "share/doc/vol_tool/guide.md"):
-        want_true((prefix / name).is_file(), f"{name} is missing")
+    names = {"bin/programs.sh", "bin/volume", *(f"{part}/{name}" for part in ("bin", "libexec") for name in HELP)}
+    names |= {f"share/doc/vol_tool/{path.name}" for path in (ROOT / "docs").glob("*.md")}
+    found = files_in(prefix)
+    others = {name: found.get(name, "a file") for name in names}
+    want_files(found, others | {f"{INSTALLED_PACKAGE}/{name}": content for name, content in package.items()})
+
+
+def uses_the_package(trial):
+    """The package, where PYTHONPATH names its folder, and the command store and read by the installed program."""
+    python = pathlib.Path(find_python("numpy"))
+    prefix, _ = installed(trial, trial.program)
+    bare = {"VOL_TOOL": "", "PYTHONPATH": "", "PATH": f"{python.parent}:{os.environ['PATH']}"}
+    package = prefix / INSTALLED_PACKAGE
+    stores = call([python, "-c", STORES], trial.folder, **bare | {"PYTHONPATH": str(package.parent)})
+    want(stores, (0, f"{package}/__init__.py\n", ""), "the package")
+    for words, out in ("verify d s", "cells 1 stored 1 absent 0\n"), ("get d s all out.npy", ""):
+        want(call([prefix / "bin" / "volume", *words.split()], trial.folder, **bare), (0, out, ""), words)
+    want((trial.folder / "out.npy").read_bytes()[-48:], struct.pack("<24H", *range(24)), "the values")
 
 
 def tells_how_far_it_is(trial):
@@ -221,7 +262,8 @@ def rows():
             yield f"{name}: {title}", calls_program, name, *case
         yield f"{name}: no words, and words that ask for help", tells_the_commands, name
         yield f"{name}: a line of help on a terminal", helps_on_a_terminal, name
-    yield "installed programs, the checkout gone", installs
+    yield "what is installed, the checkout gone", installs
+    yield "the installed package, the checkout gone", uses_the_package
     yield "a line says how far a build is", tells_how_far_it_is
     yield "whether a program is built", tells_what_is_built
     yield "the demo", runs_the_demo
