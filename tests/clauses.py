@@ -206,7 +206,7 @@ def words_of_code():
     """The words of the crates and of the scripts, and what crates, edits and scripts are called."""
     paths = [path for kind in ("src/**/*.rt", "specs/*.antt", "proofs/*.antt") for path in CRATES.glob(f"*/{kind}")]
     found = {path.name for path in CRATES.iterdir()} | {path.stem for path in edits_in(*EDITS)}
-    for folder in ("tests", "tests/model", "bin", "examples"):
+    for folder in ("tests", "tests/model", "bin", "python/vol_tool", "python/vol_tool/data"):
         scripts = [path for path in (ROOT / folder).iterdir() if path.is_file() and path.suffix != ".md"]
         found |= {path.name for path in scripts}
         paths += scripts
