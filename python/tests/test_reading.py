@@ -1,6 +1,9 @@
 """Scales as arrays: what is read, against the Python models and numpy."""
+import mmap
+import os
 import pickle
 import random
+import subprocess
 import sys
 
 import numpy
@@ -53,6 +56,25 @@ def test_boxes_of_the_programs(vol_tool, is_raw, in_shards):
     assert same(vol_tool.read("d", "s", axes="czyx"), values)
 
 
+@pytest.mark.parametrize("is_raw, in_shards", FORMS)
+def test_reads_into_mapped_memory(vol_tool, monkeypatch, is_raw, in_shards):
+    """Large boxes are in memory that is this process's alone; with a limit of a file's size they aren't."""
+    monkeypatch.setattr(reading, "LEAST_MAPPED", 1)
+    _, values = stored_scale(4, is_raw, in_shards)
+    scale = vol_tool.open("d", axes="czyx")["s"]
+    found = scale[...]
+    assert same(found, values) and isinstance(found.base.base.obj, mmap.mmap)
+    found[...] = 1
+    assert same(scale[...], values)
+    assert same(scale[:, 1:, ::2], values[:, 1:, ::2])
+    code = (
+        "import resource, vol_tool; resource.setrlimit(resource.RLIMIT_FSIZE, (0, 0)); from vol_tool import reading; "
+        "reading.LEAST_MAPPED = 1; print(int(vol_tool.open('d')['s'][...].sum(dtype='u8')))"
+    )
+    done = subprocess.run([sys.executable, "-c", code], capture_output=True, text=True, env={**os.environ, "PYTHONPATH": ":".join(sys.path)})
+    assert (done.stdout, done.stderr) == (f"{int(values.sum(dtype='u8'))}\n", "")
+
+
 @pytest.mark.parametrize("most", [1, 60, 300])
 @pytest.mark.parametrize("is_raw, in_shards", FORMS)
 def test_reads_in_parts(vol_tool, monkeypatch, most, is_raw, in_shards):
@@ -72,8 +94,8 @@ def test_reads_in_parts(vol_tool, monkeypatch, most, is_raw, in_shards):
 def test_each_read_is_one_run(vol_tool, monkeypatch):
     stored_scale(0, True, False)
     words = []
-    begin = reading.Reader._read_part
-    monkeypatch.setattr(reading.Reader, "_read_part", lambda *given: (words.append(given[3].bounds()), begin(*given)))
+    begin = reading.Reader._begin
+    monkeypatch.setattr(reading.Reader, "_begin", lambda reader, box: (words.append(box), begin(reader, box))[1])
     scale = vol_tool.open("d")["s"]
     scale[...]
     scale[0]
@@ -157,8 +179,10 @@ def test_damaged_chunks(vol_tool, folder):
     assert not list(folder.glob("out*"))
 
 
-def test_a_program_that_says_less(vol_tool, folder, monkeypatch):
-    """One that ends well with too few values, one that fails, one that is killed, and none."""
+@pytest.mark.parametrize("least", [1, 1 << 20])
+def test_a_program_that_says_less(vol_tool, folder, monkeypatch, least):
+    """One that ends well with too few values, one that fails, one that is killed, and none; mapped or through a pipe."""
+    monkeypatch.setattr(reading, "LEAST_MAPPED", least)
     stored_scale(3, True, False)
     scale = vol_tool.open("d")["s"]
     for text, kind, status in [
@@ -196,8 +220,6 @@ def test_many_readers(vol_tool):
 
 def test_import_is_light():
     """numpy and all else come when they are first needed."""
-    import subprocess
-
     code = "import sys, vol_tool; print({'numpy', 'requests', 'tqdm', 'argparse', 'subprocess'} & {*sys.modules})"
     found = subprocess.run([sys.executable, "-c", code], capture_output=True, text=True, check=True, env={"PYTHONPATH": ":".join(sys.path)})
     assert found.stdout == "set()\n"

@@ -1,15 +1,21 @@
 """Boxes of scales as numpy arrays: the programs' output is read into the array's own memory."""
 from __future__ import annotations
 
+import contextlib
 import dataclasses
 import math
+import mmap
+import os
+import resource
+import subprocess
 from typing import Any, NamedTuple, Sequence
 
 import numpy
 
-from .boxes import Box, Three, count_voxels, cut_box
+from .boxes import Box, Three, count_voxels, cut_box, sides_of
 from .errors import StoreFault
 from .infos import MOST_BYTES, ScaleInfo
+from .programs import Run
 from .stores import AnyStore
 
 # How many bytes are read at once where the values can't be read to where they belong.
@@ -17,6 +23,12 @@ MOST_SCRATCH = 1 << 28
 
 # How many bytes of channels that aren't wanted are read at once.
 PIECE = 1 << 20
+
+# From how many bytes on the program writes into a file in memory, which then is the array's memory, rather than into a pipe.
+LEAST_MAPPED = 1 << 20
+
+# Maps all pages for reading (Linux 5.14), which takes less than one after the other when they are first read.
+_POPULATE_READ = 22
 
 Positions = Sequence[range]
 
@@ -76,6 +88,20 @@ def _skip(pipe: Any, count: int) -> None:
         count -= min(count, len(room))
 
 
+def _may_be_mapped(count: int) -> bool:
+    """Whether so many bytes are worth a file in memory, and the limit of a file's size allows it."""
+    limit, _ = resource.getrlimit(resource.RLIMIT_FSIZE)
+    return count >= LEAST_MAPPED and limit in (resource.RLIM_INFINITY, -1)
+
+
+def _map(file: int, count: int) -> mmap.mmap:
+    """The bytes of an open file, as memory of this process alone: what is changed in it is changed nowhere else."""
+    found = mmap.mmap(file, count, flags=mmap.MAP_PRIVATE, prot=mmap.PROT_READ | mmap.PROT_WRITE)
+    with contextlib.suppress(OSError):
+        found.madvise(_POPULATE_READ)
+    return found
+
+
 @dataclasses.dataclass
 class Reader:
     """Reads a scale of a store. Arrays have the axes channel, z, y, x here, and positions are counted from the scale's first voxel."""
@@ -87,9 +113,31 @@ class Reader:
 
     def read(self, positions: Positions) -> numpy.ndarray:
         """The values at some positions, ascending on each of the axes channel, z, y and x, none of them empty."""
+        box, count = whole_part(positions[1:]).bounds(), math.prod(len(axis) for axis in positions) * self.dtype.itemsize
+        is_whole = count_voxels(box) * self.channels * self.dtype.itemsize == count
+        if is_whole and count <= MOST_BYTES and _may_be_mapped(count):
+            return self._read_mapped(box, count)
         values = numpy.empty([len(axis) for axis in positions], self.dtype)
         self.read_into(values, positions)
         return values
+
+    def _begin(self, box: Box, out: int = subprocess.PIPE) -> Run:
+        """A run of a program that cuts out a box, which is counted from the scale's first voxel on."""
+        x, y, z = ((begin + first, end + first) for (begin, end), first in zip(box, self.scale.offset))
+        return self.store.cut(self.scale.key, (x, y, z), out)
+
+    def _read_mapped(self, box: Box, count: int) -> numpy.ndarray:
+        """The values of a box, in the memory that a program writes them into."""
+        file = os.memfd_create(self.scale.key)
+        try:
+            with self._begin(box, file) as run:
+                run.end()
+            if os.fstat(file).st_size != count:
+                raise StoreFault(f"the program gave {os.fstat(file).st_size} bytes of {self.scale.key}, and {count} are due")
+            values = numpy.frombuffer(_map(file, count), self.dtype)
+        finally:
+            os.close(file)
+        return values.reshape([self.channels, *reversed(sides_of(box))])
 
     def read_into(self, values: numpy.ndarray, positions: Positions) -> None:
         """Puts the values at some positions into an array: by one run of a program, or by several where that is more than it cuts out."""
@@ -106,8 +154,7 @@ class Reader:
 
     def _read_part(self, target: numpy.ndarray, wanted: range, part: Part) -> None:
         box = part.bounds()
-        x, y, z = ((begin + first, end + first) for (begin, end), first in zip(box, self.scale.offset))
-        with self.store.cut(self.scale.key, (x, y, z)) as run:
+        with self._begin(box) as run:
             try:
                 self._take(run.tool.stdout, target, wanted, part, box)
             except EOFError:

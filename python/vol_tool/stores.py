@@ -32,12 +32,12 @@ class Store(Protocol):
 
     def info(self) -> Info: ...
 
-    def cut(self, key: str, box: Box) -> Run:
-        """A run of a program that writes the values of a box, in voxels of the scale, to its standard output."""
+    def cut(self, key: str, box: Box, out: int = subprocess.PIPE) -> Run:
+        """A run of a program that writes the values of a box, in voxels of the scale, to its standard output, or to an open file."""
 
 
-def _cutout(place: Place, key: str, box: Box) -> Run:
-    return Run("vol_tool", ["cutout", place.name, key, box_text(box)], place.folder, stdout=subprocess.PIPE)
+def _cutout(place: Place, key: str, box: Box, out: int) -> Run:
+    return Run("vol_tool", ["cutout", place.name, key, box_text(box)], place.folder, stdout=out)
 
 
 @dataclasses.dataclass
@@ -66,8 +66,8 @@ class Local:
             self._read = (mark, Info.read(self.path, f"{self.name}/info"))
         return self._read[1]
 
-    def cut(self, key: str, box: Box) -> Run:
-        return _cutout(self.place, key, box)
+    def cut(self, key: str, box: Box, out: int = subprocess.PIPE) -> Run:
+        return _cutout(self.place, key, box, out)
 
 
 @dataclasses.dataclass
@@ -86,8 +86,8 @@ class Served:
     def info(self) -> Info:
         return self._info
 
-    def cut(self, key: str, box: Box) -> Run:
-        return Run("vol_fetch", [self.host, str(self.port), self.host, key, box_text(box)], stdout=subprocess.PIPE)
+    def cut(self, key: str, box: Box, out: int = subprocess.PIPE) -> Run:
+        return Run("vol_fetch", [self.host, str(self.port), self.host, key, box_text(box)], stdout=out)
 
 
 def _get(host: str, port: int, target: str) -> bytes:
@@ -133,9 +133,9 @@ class Linked:
     def info(self) -> Info:
         return Info.parse(self.link.info, f"{self.name}/info")
 
-    def cut(self, key: str, box: Box) -> Run:
+    def cut(self, key: str, box: Box, out: int = subprocess.PIPE) -> Run:
         held = self.link.ensure(key, box)
-        run = _cutout(place_of(self.link.local), key, box)
+        run = _cutout(place_of(self.link.local), key, box, out)
         run.at_end = held.check
         return run
 
