@@ -116,7 +116,7 @@ MISTAKES = [
 NO_WORDS = [
     "", "cut", "put in.npy", "put in.npy d s --resolution 1,1", "put in.npy d s --resolution 0,1,1", "put in.npy d s --chunk 0,1,1",
     "put in.npy d s --workers 17", "put in.npy d s --sharding 1,sha,1,1", "put in.npy d s --encoding jpeg", "put in.npy d s --axes yxz",
-    "put in.npy d s --resume --at 0,0,0", "put in.npy d s --memory 1", "pyramid d s --levels 0", "pyramid d s --method median",
+    "put in.npy d s --resume --at 0,0,0", "put in.npy d s --memory 127", "pyramid d s --levels 0", "pyramid d s --method median",
     "view d --port 65536", "serve d --workers 0", "get d s all", "info",
 ]  # fmt: skip
 

@@ -81,14 +81,13 @@ def test_open_arrays(vol_tool):
 PUT = """
 import resource
 import vol_tool
-vol_tool.write("d", "s", "x.zarr", resolution=(8, 8, 40), memory=128 << 20)
-kib = resource.getrusage(resource.RUSAGE_SELF).ru_maxrss, resource.getrusage(resource.RUSAGE_CHILDREN).ru_maxrss
-print(*kib)
+vol_tool.write("d", "s", "x.zarr", resolution=(8, 8, 40), memory=160 << 20)
+print(sum(resource.getrusage(who).ru_maxrss for who in (resource.RUSAGE_SELF, resource.RUSAGE_CHILDREN)))
 """
 
 
 def test_memory(vol_tool):
-    """An array of 512 MiB is put in with 128 MiB: neither this process nor the program takes more."""
+    """An array of 512 MiB is put in with 160 MiB, of this process and the program together."""
     zarr = need("zarr")
     array = zarr.open("x.zarr", mode="w", shape=(512, 1024, 1024), chunks=(64, 64, 64), dtype="u1")
     layer = (numpy.arange(1024, dtype="u2") // 4 + numpy.arange(1024, dtype="u2")[:, None] // 8).astype("u1")
@@ -97,8 +96,7 @@ def test_memory(vol_tool):
     environment = {**os.environ, "PYTHONPATH": str(ROOT / "python")}
     found = subprocess.run([sys.executable, "-c", PUT], capture_output=True, text=True, env=environment)
     assert found.returncode == 0, found.stderr
-    own, program = map(int, found.stdout.split())
-    assert max(own, program) <= 128 << 10, f"{own} and {program} KiB"
+    assert int(found.stdout) <= 160 << 10
     scale = vol_tool.open("d")["s"]
     for at in (0, 64, 511):
         assert same(scale[at], layer + numpy.uint8(at // 64 * 16))

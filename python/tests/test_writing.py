@@ -34,8 +34,8 @@ def objects(folder):
 @pytest.fixture
 def small_slabs(monkeypatch):
     """A slab has at most 400 bytes, and a piece 100."""
-    monkeypatch.setattr(writing, "most_of_slab", lambda _: 400)
-    monkeypatch.setattr(assigning, "most_of_slab", lambda _: 400)
+    monkeypatch.setattr(writing, "most_of_slab", lambda *_: 400)
+    monkeypatch.setattr(assigning, "most_of_slab", lambda *_: 400)
     monkeypatch.setattr(slabs, "PIECE", 100)
 
 
@@ -137,7 +137,7 @@ def test_a_write_that_is_broken_off(vol_tool, folder, monkeypatch, small_slabs, 
     with pytest.raises(errors.BrokenOff, match="another array"):
         vol_tool.write("d", "s", numpy.asfortranarray(values), resume=True, **CHUNK)
     runs.clear()
-    monkeypatch.setattr(writing, "most_of_slab", lambda _: 1000)
+    monkeypatch.setattr(writing, "most_of_slab", lambda *_: 1000)
     scale = vol_tool.write("d", "s", values, resume=True, **CHUNK)
     assert len(runs) == 6 - number
     assert same(scale[...], values) and objects(folder / "d/s") == objects(folder / "d/at_once")

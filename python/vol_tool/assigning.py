@@ -46,7 +46,8 @@ def _put_box(scale: Scale, place: Place, values: numpy.ndarray, begin: Three) ->
     """Stores values with the axes channel, z, y, x at a place that is counted from the scale's first voxel on."""
     x, y, z = (at + first for at, first in zip(begin, scale.offset))
     target = Target(place, f"{scale.store.name}/info", scale.store.info(), scale.info, True)
-    job = Job(Values(values, "what is assigned", "czyx"), target, (x, y, z), 1, most_of_slab(MEMORY), None)
+    given = Values(values, "what is assigned", "czyx")
+    job = Job(given, target, (x, y, z), 1, most_of_slab(MEMORY, scale.info, given.voxel_bytes, 1), None)
     job.stands = not is_empty(target.folder)
     job.run(progress=False)
 

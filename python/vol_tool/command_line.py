@@ -22,7 +22,7 @@ METHODS = ("mode", "mean")
 MOST_LEVELS = 40
 MOST_CONNECTIONS = 1 << 16
 MEBIBYTE = 1 << 20
-LEAST_MEBIBYTES = 64
+LEAST_MEBIBYTES = 128
 
 Words = argparse.Namespace
 

@@ -17,8 +17,12 @@ from .values import check_type
 # How many bytes of an array are read at once, where its own chunks aren't larger.
 PIECE = 1 << 24
 
-# How much of the memory that may be used a slab's values have.
-SLAB_SHARE = 2
+# What this process and the program take beside a slab's values and what segmentations want, as it was measured; and the least memory.
+BASE_MEMORY = 112 << 20
+LEAST_MEMORY = 128 << 20
+
+# The window of encoded chunks that several workers fill: how many, and of how many bytes together.
+WINDOW_CHUNKS, WINDOW_BYTES = 256, 1 << 28
 
 
 @dataclasses.dataclass
@@ -131,9 +135,21 @@ def _shrink(steps: Three, voxels: int, most: int) -> Three:
     return found[0], found[1], found[2]
 
 
-def most_of_slab(memory: int) -> int:
-    """How many bytes of values a slab has at most, where so much memory may be used."""
-    return min(MOST_BYTES, memory // SLAB_SHARE)
+def most_of_slab(memory: int, scale: ScaleInfo, voxel_bytes: int, workers: int) -> int:
+    """
+    How many bytes of values a slab has at most, where so much memory may be used, by this process and the program together.
+
+    The program has the whole slab. Of a segmentation several workers have, besides, each two chunks' values and an encoded chunk, and
+    together a window of encoded chunks, as far as the slab has chunks.
+    """
+    voxels = math.prod(min(chunk, side) for chunk, side in zip(scale.chunk, scale.size))
+    room, values, encoded = memory - BASE_MEMORY, voxels * voxel_bytes, 0
+    if scale.block is not None and workers > 1:
+        encoded = 16 * voxels
+        room -= workers * (2 * values + encoded)
+    window = min(WINDOW_CHUNKS * encoded, WINDOW_BYTES)
+    shared = room * values // (values + encoded)
+    return min(MOST_BYTES, max(values, room - window, shared))
 
 
 def slabs_of(values: Values, scale: ScaleInfo, begin: Three, most: int) -> list[Box]:

@@ -17,12 +17,11 @@ from .folders import put_whole
 from .infos import MOST_BYTES, MOST_OFFSET, Info, Layout, ScaleInfo, new_info, read_scale, scale_member, three_between, three_lengths
 from .programs import PathText, Place, check_key, check_workers, place_of
 from .progress import Bar, bar
-from .slabs import Values, most_of_slab, pieces_of, slabs_of
+from .slabs import LEAST_MEMORY, Values, most_of_slab, pieces_of, slabs_of
 from .streams import Stored, send
 from .values import check_type
 
 MEMORY = 400 << 20
-LEAST_MEMORY = 64 << 20
 
 # Statuses after which nothing is stored: the program's refusals, and that of a checkout where the program can't be built.
 REFUSALS = (1, 2, 3, 125)
@@ -232,14 +231,15 @@ class Job:
 
 def _job_of(values: Values, target: Target, at: Any, workers: int, memory: int, resume: bool) -> Job:
     """What is left to do of an array."""
+    most = most_of_slab(memory, target.scale, values.voxel_bytes, workers)
     if at is None:
         _check_size(target, values)
         kind = {"size": list(values.size), "channels": values.channels, "type": values.data_type, "order": values.order()}
-        job = Job(values, target, target.scale.offset, workers, most_of_slab(memory), Note(target.folder / "put.part", kind))
+        job = Job(values, target, target.scale.offset, workers, most, Note(target.folder / "put.part", kind))
     else:
         begin = three_between("at", at, -MOST_OFFSET, 2 * MOST_OFFSET)
         _check_place(target, values, begin)
-        job = Job(values, target, begin, workers, most_of_slab(memory), None, stands=True)
+        job = Job(values, target, begin, workers, most, None, stands=True)
     job.begin_at(resume)
     return job
 
