@@ -101,16 +101,10 @@ def _put(words: Words) -> int:
     from .writing import put
 
     layout = Layout.of(**_layout_of(words))
-    try:
-        stored = put(
-            words.dataset, words.key, words.source, resolution=words.resolution, offset=words.offset, axes=words.axes, layout=layout,
-            workers=words.workers, resume=words.resume, at=words.at, memory=words.memory * MEBIBYTE,
-        )  # fmt: skip
-    except NotEmpty:
-        if words.at is None and sys.stderr.isatty():
-            folder = f"{words.dataset}/{words.key}"
-            print(f"{folder} holds an array: remove this folder first, or put over a part of it with --at X,Y,Z", file=sys.stderr)
-        raise
+    stored = put(
+        words.dataset, words.key, words.source, resolution=words.resolution, offset=words.offset, axes=words.axes, layout=layout,
+        workers=words.workers, resume=words.resume, at=words.at, memory=words.memory * MEBIBYTE,
+    )  # fmt: skip
     print(f"objects {stored.objects} cells {stored.cells}")
     return 0
 
@@ -369,13 +363,20 @@ def error_text(why: BaseException) -> str:
     return " ".join(str(why).split("\n")) or type(why).__name__
 
 
+def help_text(words: Words, why: BaseException) -> str:
+    """What can be done about it, or nothing; it is told on a terminal alone."""
+    if isinstance(why, NotEmpty) and words.command == "put":
+        return f"{words.dataset}/{words.key} holds an array: remove this folder first, or put over a part of it with --at X,Y,Z\n"
+    return ""
+
+
 def main(words: Sequence[str] | None = None) -> int:
     """Does what the words say, those of this process where none are given; gives the status that it ends with."""
     found = parser_of_all().parse_args(_join_numbers(sys.argv[1:] if words is None else words))
     try:
         return found.job(found)
     except (VolToolError, OSError, MemoryError, json.JSONDecodeError, KeyboardInterrupt) as why:
-        print(f"volume: {error_text(why)}", file=sys.stderr)
+        print(f"volume: {error_text(why)}\n{help_text(found, why) if sys.stderr.isatty() else ''}", end="", file=sys.stderr)
         return getattr(why, "status", None) or 1
 
 
