@@ -1,6 +1,6 @@
 #!/usr/bin/env python3
 """Runs the command lines of docs/guide.md, one after the other, on small data, and compares what they print with what stands below them.
-Those of the README's first screen have to be among them.
+Those of the README's first screen have to be among them, and its first block of Python is run and compared too.
 
     tests/guide.py [PROGRAM]
 
@@ -14,15 +14,18 @@ import re
 import subprocess
 
 from arrays import save
-from harness import HALL_PROGRAM, LIMIT, ROOT, Skipped, built, find_python, main, shorten
+from harness import HALL_PROGRAM, LIMIT, ROOT, Skipped, built, call, find_python, main, shorten, tell_difference, want
 from servers import free_port
 
 GUIDE = (ROOT / "docs" / "guide.md").read_text()
+README = (ROOT / "README.md").read_text()
 BLOCK = re.compile(r"^```(\w+)\n(.*?)^```$", re.MULTILINE | re.DOTALL)
-LINE = re.compile(r"^    ((?:vol_tool|vol_serve|volume\.py|export|mkdir) .*)$", re.MULTILINE)
+LINE = re.compile(r"^    ((?:vol_tool|vol_serve|volume|export|mkdir) .*)$", re.MULTILINE)
+IMPORT = re.compile(r"^(?:import|from) (\w+(?:, \w+)*)", re.MULTILINE)
 
-# Waits until a server answers at a port.
+# Waits until a server answers at a port, and until what it prints is there.
 WAIT = r"until (exec 9<>/dev/tcp/127.0.0.1/{} && printf 'GET / HTTP/1.0\r\n\r\n' >&9 && read -r _ <&9) 2>/dev/null; do sleep 0.1; done"
+PRINTED = """until [[ $(tail -n 1 "$GUIDE_OUT") != '-- block '* ]]; do sleep 0.1; done"""
 
 
 def save_values(path, descr, code, value_of):
@@ -42,19 +45,22 @@ def read_blocks(page):
 
 
 def python_of(text):
-    """The Python that runs a script, or that it is skipped for want of a module."""
+    """The Python that runs a script, or that it is skipped for want of a module. The checkout's own package wants numpy."""
+    modules = {module for names in IMPORT.findall(text) for module in names.split(", ")}
     try:
-        return find_python(*re.findall(r"^(?:import|from) (\w+)", text, re.MULTILINE))
+        return find_python(*sorted({"numpy" if module == "vol_tool" else module for module in modules}))
     except Skipped as skipped:
         return skipped
 
 
-def lines_of(number, language, text, scripts):
-    """The lines of bash for a block; `scripts` are all of them."""
+def lines_of(number, language, text, wanted, scripts):
+    """The lines of bash for a block, whose output is due or of no matter; `scripts` are all blocks of `sh`."""
     yield f"echo '-- block {number}'"
     if language == "sh":
         yield text
-        yield from (WAIT.format(port) for port in re.findall(r"--port=(\d+)", text))
+        for port in re.findall(r"--port=(\d+)", text):
+            yield WAIT.format(port)
+            yield PRINTED if wanted else ":"
         if number == 0:
             yield 'PATH="$GUIDE_BIN:$PATH"'
     else:
@@ -62,7 +68,7 @@ def lines_of(number, language, text, scripts):
         yield f"cat >{name} <<'END OF SCRIPT'\n{text}END OF SCRIPT"
         python = python_of(text)
         is_compiled = f"python3 {name}" in scripts or isinstance(python, Skipped)
-        yield f"python3 -m py_compile {name}" if is_compiled else f"{python} {name} >/dev/null"
+        yield f"python3 -m py_compile {name}" if is_compiled else f"{python} {name}{'' if wanted else ' >/dev/null'}"
 
 
 def run_guide(program, home, blocks):
@@ -75,23 +81,38 @@ def run_guide(program, home, blocks):
         (home / "bin" / name).symlink_to(path)
     scripts = "".join(text for language, text, _ in blocks if language == "sh")
     lines = ["set -e -o pipefail", "trap 'kill $(jobs -p) 2>/dev/null || :' EXIT"]
-    for number, (language, text, _) in enumerate(blocks):
-        lines += lines_of(number, language, text, scripts)
+    for number, (language, text, wanted) in enumerate(blocks):
+        lines += lines_of(number, language, text, wanted, scripts)
     script, out, err = home / "guide.sh", home / "out", home / "err"
     script.write_text("\n".join([*lines, f"echo '-- block {len(blocks)}'", ""]))
-    environment = {**os.environ, "HOME": str(home), "VOL_TOOL": str(program), "GUIDE_BIN": str(home / "bin")}
+    environment = {**os.environ, "HOME": str(home), "VOL_TOOL": str(program), "GUIDE_BIN": str(home / "bin"), "GUIDE_OUT": str(out)}
     command = ["timeout", str(5 * LIMIT), "bash", script]
     with out.open("w") as to_out, err.open("w") as to_err:
         done = subprocess.run(command, cwd=ROOT, env=environment, stdin=subprocess.DEVNULL, stdout=to_out, stderr=to_err)
     return done.returncode, out.read_text(), err.read_text()
 
 
-def judge_all(trial):
-    """The command lines of the README are lines of the guide, or begin some; and each block of the guide prints what is due."""
+def runs_first_python(trial):
+    """The README's first block of Python prints the block of text behind it."""
+    language, text, wanted = read_blocks(README)[0]
+    want((language, bool(wanted)), ("python", True), "the README's first block, and whether its output is told")
+    python = python_of(text)
+    if isinstance(python, Skipped):
+        raise python
+    found = call([python, "-c", text], trial.folder, PYTHONPATH=str(ROOT / "python"), VOL_TOOL=str(trial.program))
+    want(found, (0, wanted, ""), "the README's first block")
+
+
+def judge_lines(_trial):
+    """The command lines of the README are lines of the guide, or begin some."""
     known = [line for language, text in BLOCK.findall(GUIDE) if language == "sh" for line in text.splitlines()]
-    for line in LINE.findall((ROOT / "README.md").read_text()):
+    for line in LINE.findall(README):
         words = line.split("#")[0].strip()
         yield f"README: {words}", None if any(one.startswith(words) for one in known) else "it isn't in the guide"
+
+
+def judge_all(trial):
+    """Each block of the guide prints what is due."""
     free = {port: str(free_port()) for port in ("8080", "8081")}
     blocks = read_blocks(re.sub(r"\b808[01]\b", lambda port: free[port[0]], GUIDE))
     status, out, err = run_guide(trial.program, trial.folder, blocks)
@@ -103,11 +124,13 @@ def judge_all(trial):
             return
         python = python_of(text) if language == "python" else None
         is_due = not wanted or outputs[number] == wanted
-        wrong = None if is_due else f"it prints {shorten(outputs[number])} wanted {shorten(wanted)}"
+        wrong = None if is_due else f"it prints {tell_difference(outputs[number], wanted)}"
         yield title, python if isinstance(python, Skipped) else wrong
 
 
 def rows():
+    yield "README: the first block of Python", runs_first_python
+    yield "README: the command lines", judge_lines
     yield "the guide", judge_all
 
 
