@@ -73,6 +73,7 @@ class Copier:
         self._address, self._folder, self._web, self._workers = address, folder, web, workers
         self._begin()
         _copiers.add(self)
+        weakref.finalize(self, web.end)
 
     def _begin(self) -> None:
         self._pool = concurrent.futures.ThreadPoolExecutor(self._workers, "vol_tool")
@@ -142,16 +143,23 @@ os.register_at_fork(after_in_child=_begin_anew)
 
 
 def read_info(web: Web, address: str) -> bytes:
+    """The info of a volume, as it is. Raises BadInfo where there is none, and FetchFault; the connections are closed then."""
     try:
         return web.read(f"{address}/info")
     except Absent:
+        web.end()
         raise BadInfo(f"there is no {address}/info, or not for everyone") from None
+    except BaseException:
+        web.end()
+        raise
 
 
 def copy_info(url: str, dataset: PathText, *, timeout: float = PATIENCE, absent: Sequence[int] = NOT_THERE) -> dict[str, Any]:
     """Copies the info of a volume into the folder of a data set, as it is, and gives what it says. Raises as open_link, and StoreFault."""
     address = address_of(url)
-    content = read_info(Web(address, timeout, 1, absent), address)
+    web = Web(address, timeout, 1, absent)
+    content = read_info(web, address)
+    web.end()
     document = Info.parse(content, f"{address}/info").document
     with new_file(pathlib.Path(dataset).expanduser() / "info") as file:
         file.write(content)

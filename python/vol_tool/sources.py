@@ -11,6 +11,7 @@ import operator
 import os
 import pathlib
 import re
+import weakref
 from typing import Any, Callable, Iterator, Sequence, Tuple
 
 import numpy
@@ -48,12 +49,12 @@ class Source:
 
     `source[part]` gives a numpy array of a part alone, which is indexed as numpy does by whole numbers, slices and `...`; with steps all
     between is read too. An index out of range, or of another kind, is an IndexError, and what can't be read raises UnreadableSource. As a
-    context it is closed at its end.
+    context it is closed at its end, and else where it is forgotten, or by `close`.
     """
 
     def __init__(
         self, name: str, shape: Sequence[int], dtype: Any, read: Callable[[Part], Any], *, chunks: Shape | None = None,
-        strides: Shape | None = None, close: Callable[[], None] = lambda: None,
+        strides: Shape | None = None, close: Callable[[], object] = lambda: None,
     ) -> None:  # fmt: skip
         self.name = name
         self.shape = tuple(operator.index(length) for length in shape)
@@ -62,7 +63,7 @@ class Source:
         self.chunks = chunks
         self.strides = strides
         self._read = read
-        self.close = close
+        self.close = weakref.finalize(self, close)
 
     def __enter__(self) -> Source:
         return self

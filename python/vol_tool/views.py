@@ -83,6 +83,7 @@ class _Served:
         """Ends the server for good."""
         with self._life:
             self._is_over = True
+            self.drop_link()
             self._drop()
 
     def _drop(self) -> None:
