@@ -187,7 +187,7 @@ def installed(trial, own=None):
     package = files_in(tree.folder / PACKAGE)
     trial.lay_out({f"tree/{PACKAGE}/__pycache__/views.pyc": b"", f"prefix/{INSTALLED_PACKAGE}/older.py": b""})
     status, out, errors = call([tree.folder / "install", prefix], trial.folder)
-    told = f"{prefix}/bin isn't in PATH", f'export PYTHONPATH="{(prefix / INSTALLED_PACKAGE).parent}:'
+    told = f"{prefix}/bin isn't in PATH", f'export PYTHONPATH="{(prefix / INSTALLED_PACKAGE).parent}",'
     want_true(status == 0 and all(line in out for line in told), f"install: {status} {out!r} {errors!r}")
     shutil.rmtree(tree.folder)
     return prefix, package
