@@ -5,7 +5,7 @@
 
 Scales of every form are written by the program (those of float32, which it refuses, by the model), and each picture of the page is
 compared, pixel by pixel, with one that is made here from the same values. In FOLDER the browser's screenshots are left. Without Chromium
-the rows of the page are skipped, and without numpy the one of arrays.
+the rows of the page are skipped, and without numpy all but those of pages that are files.
 """
 import collections
 import contextlib
@@ -213,7 +213,8 @@ def servers_of(pid):
 
 @contextlib.contextmanager
 def viewing(trial, *words, by=signal.SIGINT):
-    """A run of `view`, by its address and its process. It ends with status 0 by a signal, and its server with it."""
+    """A run of `view`, by its address and its process. It ends with status 0 by a signal, and its server with it. It wants numpy."""
+    find_python("numpy")
     child = subprocess.Popen(
         [sys.executable, SCRIPT, "view", *words], cwd=trial.folder, env={**os.environ, **variables(trial.program)},
         stdin=subprocess.DEVNULL, stdout=subprocess.PIPE, stderr=subprocess.PIPE, text=True,
