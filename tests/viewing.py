@@ -25,7 +25,6 @@ import threading
 import time
 import urllib.parse
 
-from arrays import SCRIPT, variables
 from browser import Browser, fetch_parts
 from harness import LIMIT, ROOT, Trial, Wrong, call, find_python, main, methods_of, want, want_true
 from model import Sharding, Volume, infos_of, stored, stream_of
@@ -34,7 +33,8 @@ from model.murmur import finish
 from model.segments import bytes_of
 from servers import Handler, Plain, own, read_file, running
 
-PAGE = ROOT / "python" / "vol_tool" / "data" / "slices.html"
+VOLUME, PACKAGE = ROOT / "bin" / "volume", ROOT / "python" / "vol_tool"
+PAGE = PACKAGE / "data" / "slices.html"
 WINDOW = (1000, 720)
 CODES = {1: "B", 2: "H", 4: "I", 8: "Q"}
 
@@ -211,12 +211,17 @@ def servers_of(pid):
     return [number for number, (_, parent) in processes().items() if parent == pid]
 
 
+def variables(trial):
+    """What the environment has for the command and for scripts that import the package."""
+    return {"VOL_TOOL": str(trial.program), "PYTHONPATH": str(PACKAGE.parent), "PYTHONDONTWRITEBYTECODE": "1"}
+
+
 @contextlib.contextmanager
 def viewing(trial, *words, by=signal.SIGINT):
     """A run of `view`, by its address and its process. It ends with status 0 by a signal, and its server with it. It wants numpy."""
     find_python("numpy")
     child = subprocess.Popen(
-        [sys.executable, SCRIPT, "view", *words], cwd=trial.folder, env={**os.environ, **variables(trial.program)},
+        [sys.executable, VOLUME, "view", *words], cwd=trial.folder, env={**os.environ, **variables(trial)},
         stdin=subprocess.DEVNULL, stdout=subprocess.PIPE, stderr=subprocess.PIPE, text=True,
     )
     try:
@@ -282,7 +287,7 @@ for name, array in views.items():
 
 def stores_views(trial):
     """Arrays that are views of others and may only be read; boxes of numpy's numbers; what is read may be changed."""
-    want(call([find_python("numpy"), "-c", ARRAYS], trial.folder, **variables(trial.program)), (0, "", ""), "the script")
+    want(call([find_python("numpy"), "-c", ARRAYS], trial.folder, **variables(trial)), (0, "", ""), "the script")
 
 
 # The page
