@@ -12,7 +12,6 @@ by a kill, and goes on. Wants Debian's python3-numpy and python3-zarr, or PYTHON
 import os
 import pathlib
 import shutil
-import signal
 import statistics
 import subprocess
 import sys
@@ -20,7 +19,10 @@ import tempfile
 import time
 
 ROOT = pathlib.Path(__file__).resolve().parent.parent
-sys.path.insert(0, str(ROOT / "python"))
+sys.path[:0] = [str(ROOT / "python"), str(ROOT / "python" / "tests")]
+
+from memory import watch  # noqa: E402
+
 TRIES = 9
 PUT = """
 import sys, time
@@ -68,38 +70,6 @@ def time_reads():
     tell("scale[100]", [timed(lambda: scale[100]) for _ in range(TRIES)])
 
 
-def memory_of(process):
-    """The resident memory of a process and of those that it began, in bytes; and the most that the process had."""
-    found, most = {}, 0
-    waiting = [process]
-    while waiting:
-        one = waiting.pop()
-        try:
-            text = pathlib.Path(f"/proc/{one}/status").read_text()
-            waiting += map(int, pathlib.Path(f"/proc/{one}/task/{one}/children").read_text().split())
-        except OSError:
-            continue
-        fields = dict(line.split(":", 1) for line in text.splitlines())
-        if "VmRSS" in fields:
-            found[one] = int(fields["VmRSS"].split()[0]) << 10
-            most = max(most, int(fields["VmHWM"].split()[0]) << 10)
-    return sum(found.values()), most
-
-
-def watch(words, until=None):
-    """Runs the put; gives what it printed, and the most memory of all together and of one. It is killed after so many seconds."""
-    begin, together, alone = time.monotonic(), 0, 0
-    with subprocess.Popen([sys.executable, "-c", PUT, *words], stdout=subprocess.PIPE, text=True, start_new_session=True,
-                          env={**os.environ, "PYTHONPATH": str(ROOT / "python")}) as tool:  # fmt: skip
-        while tool.poll() is None:
-            now, most = memory_of(tool.pid)
-            together, alone = max(together, now), max(alone, most)
-            if until is not None and time.monotonic() - begin > until:
-                os.killpg(tool.pid, signal.SIGKILL)
-            time.sleep(0.005)
-        return tool.stdout.read().strip(), together, alone
-
-
 def make_zarr(gib):
     import numpy
     import zarr
@@ -113,16 +83,21 @@ def make_zarr(gib):
     return array
 
 
+def run_put(word, until=None):
+    environment = {**os.environ, "PYTHONPATH": str(ROOT / "python")}
+    return watch([sys.executable, "-c", PUT, word], until, env=environment)
+
+
 def time_put(gib):
     import vol_tool
 
     array = make_zarr(gib)
-    said, together, alone = watch(["new"])
+    said, together, alone = run_put("new")
     print(f"a zarr array of {gib} GiB put in: {said} s, at most {together >> 20} MiB together, {alone >> 20} MiB of one process", flush=True)
     shutil.rmtree("big")
-    _, together, _ = watch(["new"], float(said) / 2)
+    _, together, _ = run_put("new", float(said) / 2)
     print(f"killed after half that: at most {together >> 20} MiB together")
-    said, together, alone = watch(["resume"])
+    said, together, alone = run_put("resume")
     print(f"resumed: {said} s, at most {together >> 20} MiB together, {alone >> 20} MiB of one process", flush=True)
     scale = vol_tool.open("big")["s"]
     for at in range(0, array.shape[0], 64):

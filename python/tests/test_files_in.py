@@ -8,6 +8,7 @@ import numpy
 import pytest
 
 from conftest import ROOT
+from memory import watch
 from trials import random_array, same
 
 DEBIAN = {"h5py": "python3-h5py", "zarr": "python3-zarr", "tifffile": "python3-tifffile", "PIL": "python3-pil"}
@@ -78,12 +79,7 @@ def test_open_arrays(vol_tool):
         assert same(vol_tool.write("d", key, array, resolution=(8, 8, 40), chunk=(4, 4, 4))[...], values)
 
 
-PUT = """
-import resource
-import vol_tool
-vol_tool.write("d", "s", "x.zarr", resolution=(8, 8, 40), memory=160 << 20)
-print(sum(resource.getrusage(who).ru_maxrss for who in (resource.RUSAGE_SELF, resource.RUSAGE_CHILDREN)))
-"""
+PUT = "import vol_tool; vol_tool.write('d', 's', 'x.zarr', resolution=(8, 8, 40), memory=160 << 20); print('done')"
 
 
 def test_memory(vol_tool):
@@ -94,9 +90,8 @@ def test_memory(vol_tool):
     for at in range(0, 512, 64):
         array[at : at + 64] = numpy.broadcast_to(layer + numpy.uint8(at // 4), (64, 1024, 1024))
     environment = {**os.environ, "PYTHONPATH": str(ROOT / "python")}
-    found = subprocess.run([sys.executable, "-c", PUT], capture_output=True, text=True, env=environment)
-    assert found.returncode == 0, found.stderr
-    assert int(found.stdout) <= 160 << 10
+    said, together, _ = watch([sys.executable, "-c", PUT], env=environment)
+    assert (said, together <= 160 << 20) == ("done", True), f"{together >> 20} MiB"
     scale = vol_tool.open("d")["s"]
     for at in (0, 64, 511):
         assert same(scale[at], layer + numpy.uint8(at // 64 * 16))

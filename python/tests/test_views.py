@@ -387,9 +387,8 @@ def test_a_server_that_ended(folder):
     ends(server.url)
 
 
+@pytest.mark.parametrize("folder", ["script"], indirect=True)
 def test_a_program_that_does_not_begin_again(folder):
-    if "serve.py" not in os.environ["VOL_TOOL"]:
-        pytest.skip("the program begins")
     with views.serve_page("d", wait=False) as server:
         (folder / "refuses").touch()
         for pid in programs_of(os.getpid()):
@@ -444,9 +443,8 @@ def test_what_is_refused(folder):
     assert programs_of(os.getpid()) == []
 
 
+@pytest.mark.parametrize("folder", ["script"], indirect=True)
 def test_a_program_that_does_not_begin(folder):
-    if "serve.py" not in os.environ["VOL_TOOL"]:
-        pytest.skip("the program begins")
     (folder / "refuses").touch()
     with pytest.raises(PortFault, match="door fault") as found:
         views.serve_page("d", wait=False)
