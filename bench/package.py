@@ -93,7 +93,8 @@ def time_put(gib):
 
     array = make_zarr(gib)
     said, together, alone = run_put("new")
-    print(f"a zarr array of {gib} GiB put in: {said} s, at most {together >> 20} MiB together, {alone >> 20} MiB of one process", flush=True)
+    memory = f"at most {together >> 20} MiB together, {alone >> 20} MiB of one process"
+    print(f"a zarr array of {gib} GiB put in: {said} s, {memory}", flush=True)
     shutil.rmtree("big")
     _, together, _ = run_put("new", float(said) / 2)
     print(f"killed after half that: at most {together >> 20} MiB together")

@@ -71,7 +71,8 @@ def test_reads_into_mapped_memory(vol_tool, monkeypatch, is_raw, in_shards):
         "import resource, vol_tool; resource.setrlimit(resource.RLIMIT_FSIZE, (0, 0)); from vol_tool import reading; "
         "reading.LEAST_MAPPED = 1; print(int(vol_tool.open('d')['s'][...].sum(dtype='u8')))"
     )
-    done = subprocess.run([sys.executable, "-c", code], capture_output=True, text=True, env={**os.environ, "PYTHONPATH": ":".join(sys.path)})
+    environment = {**os.environ, "PYTHONPATH": ":".join(sys.path)}
+    done = subprocess.run([sys.executable, "-c", code], capture_output=True, text=True, env=environment)
     assert (done.stdout, done.stderr) == (f"{int(values.sum(dtype='u8'))}\n", "")
 
 
@@ -111,6 +112,7 @@ def test_scales_are_told(vol_tool):
     assert (scale.key, scale.resolution, scale.offset) == ("s", (8, 8, 40), volume.offset)
     assert scale.chunks[-3:] == tuple(min(*sides) for sides in zip(volume.chunk[::-1], volume.size[::-1]))
     assert scale.with_axes("xyzc").chunks == (*scale.chunks[:-4:-1], volume.channels)
+    assert not scale.is_labels and stored_scale(3, False, False) and vol_tool.open("d")["s"].is_labels
     assert "s of d" in repr(scale) and "Volume d: s" in repr(volumes)
 
 

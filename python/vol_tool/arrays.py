@@ -4,7 +4,7 @@ from __future__ import annotations
 import functools
 import math
 from collections.abc import Mapping
-from typing import Any, Iterator
+from typing import Any, Iterator, Sequence
 
 import numpy
 
@@ -122,6 +122,11 @@ class Scale:
         return self._scale.offset
 
     @property
+    def is_labels(self) -> bool:
+        """Whether the values are labels: the volume is a segmentation, or the scale's chunks are."""
+        return self._info.has_labels(self._scale)
+
+    @property
     def store(self) -> AnyStore:
         """Where the scale is: a folder, a server or a link."""
         return self._store
@@ -207,21 +212,23 @@ def open_volume(
     cache: PathText | None = None,
     cache_limit: int | None = None,
     timeout: float | None = None,
+    absent: Sequence[int] | None = None,
 ) -> Volume:
     """
     The volume of a folder, or behind a link.
 
     `dataset` is the folder that has a volume's `info`; or `http://HOST:PORT`, a server of byte ranges with the info at its root, where
     boxes are read in place; or another link that begins with https://, http://, gs:// or precomputed://, of which the chunks that a box
-    meets are fetched into the folder `cache` (the user's cache folder, where it is left out) of at most `cache_limit` bytes. A silent
-    server is waited for `timeout` seconds.
+    meets are fetched into the folder `cache` (the user's cache folder, where it is left out) of at most `cache_limit` bytes (10 GiB). A
+    silent server is waited for `timeout` seconds. `absent` are the statuses that say that there is no such chunk: 404; a store that lets
+    nobody list it says 403.
 
     `axes` are those of the scales' arrays: `zyx` or `xyz`, with the channels in front or behind where there are several, or `czyx`,
     `xyzc` or `zyxc`.
 
     Raises BadInfo where there is no info, or it is none; UsageError for names that can't be; FetchFault where a server isn't there.
     """
-    return Volume(store_of(dataset, cache=cache, cache_limit=cache_limit, timeout=timeout), axes)
+    return Volume(store_of(dataset, cache=cache, cache_limit=cache_limit, timeout=timeout, absent=absent), axes)
 
 
 def open_scale(dataset: PathText, key: str, axes: str = "zyx") -> Scale:

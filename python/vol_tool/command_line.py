@@ -8,6 +8,7 @@ from __future__ import annotations
 
 import argparse
 import json
+import logging
 import os
 import re
 import sys
@@ -373,6 +374,7 @@ def help_text(words: Words, why: BaseException) -> str:
 def main(words: Sequence[str] | None = None) -> int:
     """Does what the words say, those of this process where none are given; gives the status that it ends with."""
     found = parser_of_all().parse_args(_join_numbers(sys.argv[1:] if words is None else words))
+    logging.getLogger("urllib3").setLevel(logging.ERROR)  # each further try would be told
     try:
         return found.job(found)
     except (VolToolError, OSError, MemoryError, json.JSONDecodeError, KeyboardInterrupt) as why:

@@ -9,7 +9,11 @@ from typing import Any, NamedTuple
 from .boxes import box_of
 from .infos import Info
 from .programs import PathText, check_key
-from .progress import bar
+from .progress import Bar, bar
+
+
+# What servers say of what they haven't: stores that don't let everyone list them say the latter. How many are absent is told.
+NOT_THERE = (404, 403)
 
 
 class Copied(NamedTuple):
@@ -24,7 +28,7 @@ def fetch_info(link: str, dataset: PathText) -> Info:
     """Copies the info of a volume into the folder of a data set; raises FetchFault and BadInfo."""
     from .links import copy_info
 
-    return Info.parse(copy_info(link, dataset), f"{os.fspath(dataset)}/info")
+    return Info.parse(copy_info(link, dataset, absent=NOT_THERE), f"{os.fspath(dataset)}/info")
 
 
 def fetch(link: str, dataset: PathText, key: str, box: Any = "all", *, progress: bool | None = None) -> Copied:
@@ -36,16 +40,16 @@ def fetch(link: str, dataset: PathText, key: str, box: Any = "all", *, progress:
     """
     from .links import copy
 
-    path = os.path.join(os.fspath(dataset), "info")
-    info = Info.read(pathlib.Path(path)) if os.path.exists(path) else fetch_info(link, dataset)
+    path = pathlib.Path(dataset).expanduser() / "info"
+    info = Info.read(path) if path.exists() else fetch_info(link, dataset)
     scale = info.scale(check_key(key))
     wanted = scale.box if isinstance(box, str) and box == "all" else box_of(box)
-    told = 0
-    with contextlib.closing(bar(key, sum(1 for _ in scale.cells(wanted)), unit=" chunks", progress=progress)) as shown:
+    with contextlib.ExitStack() as at_end:
+        bars: list[Bar] = []
 
-        def tell(done: int, _total: int) -> None:
-            nonlocal told
-            shown.update(done - told)
-            told = done
+        def tell(done: int, total: int) -> None:
+            if not bars:
+                bars.append(at_end.enter_context(contextlib.closing(bar(key, total, done - 1, " objects", progress))))
+            bars[0].update(1)
 
-        return Copied(*copy(link, dataset, key, wanted, tell=tell))
+        return Copied(*copy(link, dataset, key, wanted, absent=NOT_THERE, tell=tell))

@@ -244,6 +244,10 @@ class Info:
         """Whether the volume is an `image` or a `segmentation`."""
         return self.document.get("type")
 
+    def has_labels(self, scale: ScaleInfo) -> bool:
+        """Whether the values of a scale are labels: the volume is a segmentation, or the scale's chunks are."""
+        return self.kind == "segmentation" or scale.encoding == "compressed_segmentation"
+
     @property
     def width(self) -> int:
         """How many bytes a value has; raises UnsupportedType for values that aren't stored."""

@@ -11,7 +11,6 @@ _DEBIAN = {
     "dask": "python3-dask",
     "h5py": "python3-h5py",
     "PIL": "python3-pil",
-    "requests": "python3-requests",
     "tifffile": "python3-tifffile",
     "tqdm": "python3-tqdm",
     "urllib3": "python3-urllib3",

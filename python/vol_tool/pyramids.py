@@ -192,8 +192,7 @@ def _method_for(info: Info, scale: ScaleInfo, method: str | None) -> str:
     """Labels want mode, and images mean; raises UsageError for a method that is none."""
     if method is not None and method not in METHODS:
         raise UsageError(f"method is one of {', '.join(METHODS)}, and not {method}")
-    is_labels = info.kind == "segmentation" or scale.encoding == "compressed_segmentation"
-    return method or ("mode" if is_labels else "mean")
+    return method or ("mode" if info.has_labels(scale) else "mean")
 
 
 def _check_levels(levels: Any) -> int | None:

@@ -159,7 +159,7 @@ def store_of(dataset: PathText, **options: Any) -> AnyStore:
     """
     The store of a folder, of the address `http://HOST:PORT` of a server of byte ranges, or of another link.
 
-    The options are those of links: `cache`, `cache_limit` and `timeout`. Raises UsageError for what is none of these.
+    The options are those of links: `cache`, `cache_limit`, `timeout` and `absent`. Raises UsageError for what is none of these.
     """
     text = os.fspath(dataset)
     if "://" not in text:
