@@ -12,7 +12,7 @@ from conftest import ROOT
 from harness import call, call_on_terminal, put_program
 from servers import Plain, free_port, running
 from trials import random_array, same
-from vol_tool import errors
+from vol_tool import errors, writing
 
 VOLUME = [sys.executable, str(ROOT / "bin/volume")]
 ONE = {"resolution": (1, 1, 1)}
@@ -188,6 +188,20 @@ def test_a_put_that_the_program_breaks_off(vol_tool):
     assert volume(f"{words} --resume") == (0, "objects 1 cells 1\n", "")
     assert volume(f"{words.replace(' s ', ' t ')} --resume") == (0, "objects 1 cells 1\n", "")
     assert files("d/s") == files("d/t") and same(vol_tool.open("d")["s"][...], values)
+
+
+LAYOUTS = [{}, {"sharding": (1, "murmur", 1, 1)}, {"encoding": "compressed_segmentation", "block": (2, 2, 2)}]
+
+
+@pytest.mark.parametrize("how", LAYOUTS)
+def test_slabs_of_the_other_order_of_bytes(vol_tool, monkeypatch, how):
+    """An array in a file, of which each value has its highest byte first, has in slabs the files of one that is put at once."""
+    values = random_array((12, 12, 12), ">u4")
+    numpy.save("in.npy", values)
+    vol_tool.write("d", "at_once", values.astype("<u4"), **ONE, **CHUNK, **how)
+    monkeypatch.setattr(writing, "most_of_slab", lambda *_: 400)
+    assert same(vol_tool.write("d", "s", "in.npy", **ONE, **CHUNK, **how)[...], values.astype("<u4"))
+    assert files("d/s") == files("d/at_once")
 
 
 # Several chunk sizes
