@@ -188,8 +188,8 @@ impl Env for Host<'_> {
     }
 }
 
-// Whether a door over a listener of this plan gives an end, and how many milliseconds that takes.
-fn accepts(plan: Plan) -> Result<(bool, Duration), Fail> {
+// Whether a door over a listener of this plan gives an end, how often it calls the listener, and how long that takes.
+fn accepts(plan: Plan) -> Result<(bool, usize, Duration), Fail> {
     let course = Course {
         now: Cell::new(Duration::ZERO),
         calls: Cell::new(0),
@@ -204,23 +204,22 @@ fn accepts(plan: Plan) -> Result<(bool, Duration), Fail> {
         return Err("the door doesn't listen".into());
     }
     let is_given = door.accept().is_ok();
-    Ok((is_given, course.now.get()))
+    Ok((is_given, course.calls.get(), course.now.get()))
 }
 
-// So many calls give these in turn, and later ones a stream; whether an end is given, and how many milliseconds that takes.
+// So many calls give these in turn, and later ones a stream; whether an end is given, which takes one call more, and how many
+// milliseconds that takes.
 type Row = (&'static [Given], usize, bool, u64);
 
 fn test_rows(rt: &impl Abort, rows: &[Row]) -> Result<(), Fail> {
-    for (number, (givens, calls, is_given, time)) in rows.iter().enumerate() {
-        let found = accepts(Plan {
+    for (givens, calls, is_given, time) in rows {
+        let plan = Plan {
             givens,
             calls: *calls,
-        })?;
-        assert_eq!(rt;
-            found,
-            (*is_given, Duration::from_millis(*time)),
-            "at {number}"
-        );
+        };
+        let made = calls.saturating_add(usize::from(*is_given));
+        let wanted = (*is_given, made, Duration::from_millis(*time));
+        assert_eq!(rt; accepts(plan)?, wanted, "of {calls}");
     }
     Ok(())
 }

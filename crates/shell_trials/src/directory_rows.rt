@@ -18,7 +18,7 @@ enum Step {
     Put(&'static str),
     Size(&'static str, Option<u64>),
     Any(&'static str, bool),
-    Read(&'static str, u64, &'static [u8]),
+    Read(&'static str, u32, &'static [u8]),
     FailToRead(&'static str),
     Holds(&'static str, &'static [u8]),
     Stands(&'static str, bool),
@@ -78,11 +78,11 @@ fn has_any(store: &mut DirStore<HostRuntime>, path: &str, wanted: bool) -> Resul
 fn reads(
     store: &mut DirStore<HostRuntime>,
     path: &str,
-    at: u64,
+    at: u32,
     wanted: &[u8],
 ) -> Result<bool, Fail> {
     let mut found = [b'.'; 6];
-    let got = store.read_at(&name_of(path)?, at, &mut found);
+    let got = store.read_at(&name_of(path)?, u64::from(at), &mut found);
     Ok(got == Ok(Got::Bytes(wanted.len() as u64)) && found.starts_with(wanted))
 }
 
