@@ -109,6 +109,8 @@ MISTAKES = [
     ("info e", 1, "e/info"),
     ("info d t", 1, "no scale t"),
     ("fetch x d", 1, "x is no link"),
+    ("put in.npy gs://bucket/v s --resolution 1,1,1", 1, "gs://bucket/v is a link, and a folder"),
+    ("fetch https://host/v gs://bucket/v", 1, "gs://bucket/v is a link, and a folder"),
     ("fetch https://host/v d s", 1, "KEY BOX"),
 ]
 

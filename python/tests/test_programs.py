@@ -31,7 +31,7 @@ def test_places(folder):
         assert place_of(text) == (str(folder), "d") and place_of(text).path == folder / "d"
     os.environ["HOME"] = str(folder)
     assert place_of("~/a/d") == (f"{folder}/a", "d")
-    for text in ("a b", "/", "-d", f"{folder}/ä"):
+    for text in ("a b", "/", "-d", f"{folder}/ä", "http://host/v", "gs://bucket/v", "precomputed://http://host:80"):
         with pytest.raises(errors.UsageError):
             place_of(text)
 

@@ -8,9 +8,8 @@ from typing import Any, NamedTuple
 
 from .boxes import box_of
 from .infos import Info
-from .programs import PathText, check_key
+from .programs import PathText, check_key, place_of
 from .progress import Bar, bar
-
 
 # What servers say of what they haven't: stores that don't let everyone list them say the latter. How many are absent is told.
 NOT_THERE = (404, 403)
@@ -25,9 +24,10 @@ class Copied(NamedTuple):
 
 
 def fetch_info(link: str, dataset: PathText) -> Info:
-    """Copies the info of a volume into the folder of a data set; raises FetchFault and BadInfo."""
+    """Copies the info of a volume into the folder of a data set; raises FetchFault, BadInfo, and UsageError where that is no folder."""
     from .links import copy_info
 
+    place_of(dataset)
     return Info.parse(copy_info(link, dataset, absent=NOT_THERE), f"{os.fspath(dataset)}/info")
 
 

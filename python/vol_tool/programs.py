@@ -57,10 +57,12 @@ def check_workers(workers: Any) -> int:
 
 
 def place_of(dataset: PathText) -> Place:
-    """Where a data set is; raises UsageError where its last folder isn't named as the programs take a name."""
+    """Where a data set is; raises UsageError for a link, and where its last folder isn't named as the programs take a name."""
     text = os.fspath(dataset)
     if is_name(text):
         return Place(os.getcwd(), text)
+    if "://" in text:
+        raise UsageError(f"{text} is a link, and a folder of this machine is wanted: boxes of links are read, and `fetch` copies them")
     folder, name = os.path.split(os.path.abspath(os.path.expanduser(text)))
     if not is_name(name):
         raise UsageError(f"{text!r} is no data set: its last folder is of ASCII letters, digits, `_`, `-` and `.`, with no `-` in front")
