@@ -119,7 +119,7 @@ NO_WORDS = [
     "", "cut", "put in.npy", "put in.npy d s --resolution 1,1", "put in.npy d s --resolution 0,1,1", "put in.npy d s --chunk 0,1,1",
     "put in.npy d s --workers 17", "put in.npy d s --sharding 1,sha,1,1", "put in.npy d s --encoding jpeg", "put in.npy d s --axes yxz",
     "put in.npy d s --resume --at 0,0,0", "put in.npy d s --memory 127", "pyramid d s --levels 0", "pyramid d s --method median",
-    "view d --port 65536", "serve d --workers 0", "get d s all", "info",
+    "view d --port 65536", "serve d --workers 0", "get d s all", "info", "put in.npy d s --resolutoin 1,1,1", "verify d s all more",
 ]  # fmt: skip
 
 
@@ -137,8 +137,11 @@ def test_mistakes(image, words, status, told):
 
 @pytest.mark.parametrize("words", NO_WORDS)
 def test_words_that_are_none(folder, words):
+    """The usage is that of the command, where there is one."""
     status, out, errors = volume(words)
-    assert (status, out) == (2, "") and "usage: volume" in errors and "Traceback" not in errors
+    command = words.split(" ")[0]
+    usage = f"usage: volume {command}" if command in COMMANDS else "usage: volume"
+    assert (status, out) == (2, "") and usage in errors and "Traceback" not in errors
 
 
 def test_no_program(image):

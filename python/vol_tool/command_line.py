@@ -351,7 +351,7 @@ def parser_of_all() -> argparse.ArgumentParser:
             name, help=does, description=f"{does[0].upper()}{does[1:]}.\n\n{more}", epilog=f"for example:{lines}", formatter_class=how
         )
         set_words(one)
-        one.set_defaults(job=job)
+        one.set_defaults(job=job, parser=one)
     return whole
 
 
@@ -373,7 +373,9 @@ def help_text(words: Words, why: BaseException) -> str:
 
 def main(words: Sequence[str] | None = None) -> int:
     """Does what the words say, those of this process where none are given; gives the status that it ends with."""
-    found = parser_of_all().parse_args(_join_numbers(sys.argv[1:] if words is None else words))
+    found, unknown = parser_of_all().parse_known_args(_join_numbers(sys.argv[1:] if words is None else words))
+    if unknown:
+        found.parser.error(f"unrecognized arguments: {' '.join(unknown)}")
     logging.getLogger("urllib3").setLevel(logging.ERROR)  # each further try would be told
     try:
         return found.job(found)
