@@ -40,7 +40,7 @@ def verify(dataset: PathText, key: str, box: Any = None) -> Cells:
 class Files(NamedTuple):
     """How many files there are, and how many bytes they have together."""
 
-    count: int
+    number: int
     bytes: int
 
 
@@ -102,11 +102,11 @@ def _layout_text(scale: ScaleInfo) -> str:
 def _tell_stored(place: Place, key: str) -> tuple[str, int]:
     """What is stored of a scale of a folder, by verify; and the status of what is wrong with it."""
     files = files_of(place.path / key)
-    what = f"{files.count} files of {size_in_words(files.bytes)}"
+    what = f"{files.number} files of {size_in_words(files.bytes)}"
     try:
         found = verify(place.path, key)
     except (Damaged, TooLarge) as why:
-        return f"{what}; {why.line}", why.status if isinstance(why, Damaged) else 0
+        return f"{what}; {why.line}", (why.status or 0) if isinstance(why, Damaged) else 0
     return f"{found.stored} of {found.cells} cells stored, {what}", 0
 
 

@@ -14,7 +14,7 @@ import re
 import sys
 from typing import Any, Callable, Sequence
 
-from .errors import NotEmpty, VolToolError
+from .errors import NotEmpty, UsageError, VolToolError
 from .infos import ENCODINGS, MOST_BLOCK, MOST_CHUNK, MOST_OFFSET, Sharding, three_between, three_lengths
 from .programs import MOST_WORKERS
 
@@ -140,15 +140,16 @@ def _pyramid(words: Words) -> int:
 def _view(words: Words) -> int:
     from .views import serve_page
 
-    return serve_page(words.dataset, words.port, key=words.key) or 0
+    serve_page(words.dataset, words.port, key=words.key)
+    return 0
 
 
 def _fetch(words: Words) -> int:
-    from .fetching import fetch, fetch_info
     from .checking import describe
+    from .fetching import fetch, fetch_info
 
     if (words.key is None) != (words.box is None):
-        raise VolToolError("fetch wants LINK DATASET, or LINK DATASET KEY BOX")
+        raise UsageError("fetch wants LINK DATASET, or LINK DATASET KEY BOX")
     if words.key is None:
         for line in describe(fetch_info(words.link, words.dataset)):
             print(line)

@@ -52,4 +52,5 @@ def fetch(link: str, dataset: PathText, key: str, box: Any = "all", *, progress:
                 bars.append(at_end.enter_context(contextlib.closing(bar(key, total, done - 1, " objects", progress))))
             bars[0].update(1)
 
-        return Copied(*copy(link, dataset, key, wanted, absent=NOT_THERE, tell=tell))
+        found = copy(link, dataset, key, wanted, absent=NOT_THERE, tell=tell)
+    return Copied(*found)

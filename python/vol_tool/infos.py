@@ -181,7 +181,7 @@ def read_scale(name: str, scale: dict[str, Any]) -> ScaleInfo:
     encoding, resolution = scale.get("encoding"), scale.get("resolution")
     if not isinstance(encoding, str):
         raise BadInfo(f"the encoding of the scale {scale['key']} of {name} isn't a text")
-    if not _is_three(resolution, int, float):
+    if resolution is None or not _is_three(resolution, int, float):
         raise BadInfo(f"the resolution of the scale {scale['key']} of {name} isn't three numbers")
     has_blocks = encoding.lower() == "compressed_segmentation"
     return ScaleInfo(

@@ -126,11 +126,11 @@ class Run:
     at_end: Callable[[], object] | None = None
 
     def __init__(self, name: str, words: Sequence[str], folder: str | None = None, **streams: Any) -> None:
-        quiet = {"stdin": subprocess.DEVNULL, "stdout": subprocess.DEVNULL}
+        quiet: dict[str, Any] = {"stdin": subprocess.DEVNULL, "stdout": subprocess.DEVNULL}
         self._errors = os.memfd_create("errors")
         try:
             command = [program(name), *words]
-            self.tool = subprocess.Popen(command, cwd=folder, bufsize=0, stderr=self._errors, **{**quiet, **streams})
+            self.tool: Any = subprocess.Popen(command, cwd=folder, bufsize=0, stderr=self._errors, **{**quiet, **streams})
         except OSError as why:
             os.close(self._errors)
             if isinstance(why, MissingProgram):

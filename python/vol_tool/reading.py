@@ -70,8 +70,8 @@ def parts_of(places: Positions, chunk: Three, most: int) -> list[Part]:
     return [part for part in (_part_of(places, box) for box in boxes) if part is not None]
 
 
-def _fill(pipe: Any, values: numpy.ndarray | bytearray) -> None:
-    """Reads from a pipe until an array is full; raises EOFError where it ends before."""
+def _fill(pipe: Any, values: Any) -> None:
+    """Reads from a pipe until an array, or another buffer without gaps, is full; raises EOFError where it ends before."""
     rest = memoryview(values).cast("B")
     while rest:
         count = pipe.readinto(rest)

@@ -104,8 +104,7 @@ def cut_in_order(box: Box, origin: Sequence[int], step: Sequence[int], most: int
     """cut_box, with parts that are as long as may be on the first axis of an order, then on the second."""
     places = ["xyz".index(axis) for axis in order]
     back = [order.index(axis) for axis in "xyz"]
-    turned = [[three[place] for place in places] for three in (box, origin, step)]
-    parts = cut_box(turned[0], turned[1], turned[2], most)
+    parts = cut_box([box[place] for place in places], [origin[place] for place in places], [step[place] for place in places], most)
     return [(part[back[0]], part[back[1]], part[back[2]]) for part in parts]
 
 
