@@ -14,7 +14,8 @@ use Rattle.vol_spec.specs.StoredBytes.{object_of}
 use Rattle.vol_spec.specs.declared.scale.Scale.{Scale}
 use Rattle.chunk_laws.proofs.Law.{chunk_absent, chunk_kept, chunk_there}
 use Rattle.chunk_laws.specs.Storable.{AreStorable, stored_in}
-use Rattle.chunk_laws.specs.Told.{is_listed, said, shares_object}
+use Rattle.chunk_laws.specs.Told.{is_listed, shares_object}
+use Rattle.chunk_laws.specs.Laws.{said}
 
 -- a test by what each of some has
 module _ (f : List ℕ → List ℕ) (name : List ℕ) where

@@ -1,3 +1,4 @@
+pub mod Laws
 pub mod Rooms
 pub mod Storable
 pub mod Told

@@ -7,7 +7,8 @@ ghost use Rattle.vol_spec.specs.CellNames.{folder_of};
 ghost use Rattle.vol_spec.specs.Grid.{Inside};
 ghost use Rattle.vol_spec.specs.Types.{Cell, Chunks, Writes};
 ghost use Rattle.chunk_laws.specs.Storable.{CellBytes, AreStorable, AreWritable, written_in};
-ghost use Rattle.chunk_laws.specs.Told.{GivesBack, HasChunks, HasLastWrites, HasNoFault, HasNoOther, HasNoneBeside, LeavesOthers, LeavesOutside, ReadsBack, SaysOfEach};
+ghost use Rattle.chunk_laws.specs.Told.{HasLastWrites, HasNoFault, ReadsBack};
+ghost use Rattle.chunk_laws.specs.Laws.{GivesBack, HasChunks, HasNoOther, HasNoneBeside, LeavesOthers, LeavesOutside, SaysOfEach};
 
 use vol_base::Name;
 use vol_spec::Scale;

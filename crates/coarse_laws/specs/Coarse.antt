@@ -1,35 +1,18 @@
 -- What reducing a scale into the next one keeps (this project's profile).
-use Rattle.std.specs.Prelude.{◌≡◌, ◌↔◌, ◌<◌, ◌≤◌, ◌^◌, ℕ, true, false, length, map, All, Contains, Ok, None}
-use Rattle.vol_base.specs.Boxes.{Covers, num}
-use Rattle.vol_base.specs.Bytes.{AreBytes}
-use Rattle.vol_base.specs.Outside.{HaveBytes, Objects, any_under}
+use Rattle.std.specs.Prelude.{◌≡◌, ◌<◌, ℕ, Ok, None}
+use Rattle.vol_base.specs.Boxes.{Covers}
+use Rattle.vol_base.specs.Outside.{Objects}
 use Rattle.vol_base.specs.declared.boxes.Box3.{Box3}
-use Rattle.vol_spec.specs.CellNames.{folder_of}
-use Rattle.vol_spec.specs.Chunks.{chunk_in, value_in}
-use Rattle.vol_spec.specs.Copies.{is_there}
+use Rattle.vol_spec.specs.Chunks.{value_in}
 use Rattle.vol_spec.specs.Cut.{cut, first_fault}
-use Rattle.vol_spec.specs.Grid.{Inside, IsCell, cell_at, cell_box, whole}
-use Rattle.vol_spec.specs.Raw.{digit, raw_len}
+use Rattle.vol_spec.specs.Grid.{whole}
 use Rattle.vol_spec.specs.StoredCells.{put_in, raw_bytes}
 use Rattle.vol_spec.specs.StoredLists.{stored_list}
-use Rattle.vol_spec.specs.Types.{Bytes, Cell, Name, Position}
+use Rattle.vol_spec.specs.Types.{Name, Position}
 use Rattle.vol_spec.specs.Verdicts.{Sound}
-use Rattle.vol_spec.specs.Writable.{IsWritable}
 use Rattle.vol_spec.specs.declared.scale.Scale.{Scale}
-use Rattle.chunk_laws.specs.Told.{HasNoFault}
-use Rattle.reduce_laws.specs.Halves.{under}
-use Rattle.reduce_laws.specs.Reduced.{IsNext, is_reduced, reduced, reduced_cells, reduced_chunks, reduced_raw, source_box}
-use Rattle.reduce_laws.specs.Reducing.{reduce}
+use Rattle.reduce_laws.specs.Reduced.{reduced, reduced_chunks}
 use Rattle.reduce_laws.specs.declared.method.Method.{Method}
-
--- A reduction can be stored: the target is the scale after the source, at most 2^22 cells are stored, a segmentation has no more padded
--- voxels than are written, no object is in the target's folder, and all objects are bytes.
-pub record CanReduce (m : Objects) (dataset : Name) (from to : Scale) : Type 0 where
-  pub next : IsNext from to
-  pub few : length (reduced_cells m dataset from to) ≤ 2 ^ 22
-  pub writable : IsWritable to
-  pub empty : any_under m (folder_of dataset to) ≡ false
-  pub bytes : HaveBytes m
 
 -- objects with the reduction stored in them
 abbrev pub reduced_in : Method → Objects → Name → Scale → Scale → Objects
@@ -41,34 +24,6 @@ HasReduced method m dataset from to =
     (p : Position) (c : ℕ) → Covers (whole to) p → c < to.channels
     → value_in (reduced_in method m dataset from to) dataset to p c ≡ Ok (reduced method m dataset from p c)
 
--- no job reads a faulty cell, exactly where the source has none
-abbrev pub MeetsFaults : Objects → Name → Scale → Scale → Type 0
-MeetsFaults m dataset from to =
-    All (λ cell. first_fault m dataset from (source_box from to cell) ≡ None) (reduced_cells m dataset from to)
-    ↔ HasNoFault m dataset from
-
--- what is reduced of a cell's source box, cut out without a fault, are the cell's bytes
-abbrev pub ReducesCut : Method → Objects → Name → Scale → Scale → Type 0
-ReducesCut method m dataset from to =
-    (cell : Cell) (raw out : Bytes) → IsCell to cell
-    → first_fault m dataset from (source_box from to cell) ≡ None
-    → raw ≡ cut m dataset from (source_box from to cell) → AreBytes out
-    → length out ≡ raw_len (cell_box to cell) to.channels to.width
-    → ((p : Position) (c : ℕ) → Covers (cell_box to cell) p → c < to.channels
-    → digit out to.width (num (cell_box to cell) p c) ≡ reduce method (map (λ q.
-    digit raw from.width (num (source_box from to cell) q c)) (under (source_box from to cell) p)))
-    → out ≡ reduced_raw method m dataset from to cell
-
--- some position of the cell has a position of a source cell that is there under it
-abbrev pub LiesOver : Objects → Name → Scale → Scale → Cell → Type 0
-LiesOver m dataset from to cell = (p q : Position) × Covers (cell_box to cell) p × Contains (under (whole from) p) q
-    × (is_there (chunk_in m dataset from (cell_at from q)) ≡ true)
-
--- so these are the cells that are reduced
-abbrev pub AreOver : Objects → Name → Scale → Scale → Type 0
-AreOver m dataset from to = (cell : Cell) → IsCell to cell →
-    is_reduced m dataset from to cell ≡ true ↔ LiesOver m dataset from to cell
-
 -- A box reads as the reduced source: no cell of the target that meets it has a fault, its cutout are the reduced values, and nothing is wrong
 -- with its cells; and each box of the source is cut out as before.
 pub record ReadsAsReduced (method : Method) (m now : Objects) (dataset : Name) (from to : Scale) (b : Box3)
@@ -77,8 +32,3 @@ pub record ReadsAsReduced (method : Method) (m now : Objects) (dataset : Name) (
   pub values : cut now dataset to b ≡ raw_bytes b to.channels to.width (reduced method m dataset from)
   pub sound : Sound now dataset to b
   pub source : (part : Box3) → cut now dataset from part ≡ cut m dataset from part
-
--- so each box inside the target does
-abbrev pub ReadsReduced : Method → Objects → Name → Scale → Scale → Type 0
-ReadsReduced method m dataset from to =
-    (b : Box3) → Inside to b → ReadsAsReduced method m (reduced_in method m dataset from to) dataset from to b

@@ -6,7 +6,8 @@ ghost use Rattle.chunk_laws.specs.Told.{HasNoFault};
 ghost use Rattle.copy_laws.specs.Agreement.{Agree, AreApart};
 ghost use Rattle.reduce_laws.specs.Reduced.{IsNext, reduced_cells};
 ghost use Rattle.reduce_laws.specs.declared.method.Method.{Method as Way};
-ghost use Rattle.coarse_laws.specs.Coarse.{AreOver, CanReduce, HasReduced, MeetsFaults, ReadsReduced, ReducesCut, reduced_in};
+ghost use Rattle.coarse_laws.specs.Coarse.{HasReduced, reduced_in};
+ghost use Rattle.coarse_laws.specs.Laws.{AreOver, CanReduce, MeetsFaults, ReadsReduced, ReducesCut};
 
 use reduce_laws::Method;
 use vol_base::Name;

@@ -1,6 +1,5 @@
 mod LimitSteps
 mod LineSteps
-mod NumberSteps
 mod ParserSteps
 mod ServeSteps
 mod SortSteps

@@ -1,14 +1,14 @@
 -- The names of a command are short, and its numbers in their range.
-use Rattle.std.proofs.Common.{◌≡◌, ◌<◌, ◌≤◌, ◌^◌, ℕ, List, [], ◌∷◌, Bool, true, false, Option, Some, None, IfSome, length, refl, subst, sym}
+use Rattle.std.proofs.Common.{◌≡◌, ◌<◌, ◌≤◌, ◌^◌, ℕ, List, [], ◌∷◌, Bool, true, false, Option, Some, None, IfSome, length, refl, subst, sym, arith}
 use Rattle.std.specs.Prelude.{◌&&◌, nat_le, nat_lt, option_and_then, if◌then◌else◌, codes}
 use Rattle.std.specs.Str.{bytes_eq}
 use Rattle.std.proofs.lemmas.Bool.Decides.{nat_tests}
-use Rattle.std.proofs.Common.{arith}
 use Rattle.vol_base.specs.Names.{is_name}
 use Rattle.vol_base.specs.declared.boxes.Box3.{Box3}
 use Rattle.reduce_laws.specs.declared.method.Method.{Method}
 use Rattle.command_line.specs.declared.commands.Command.{Command}
-use Rattle.command_line.specs.Words.{box_of, connection_count, cutout_line, cutout_of, downsample_by, downsample_line, downsample_of, either_value, generate_line, generate_of, KeepsLimits, line, method_in, number, other_words, part_of, plain_words, port_number, reshard_line, reshard_of, seed, serve_line, serve_of, short_name, update_line, update_of, verify_line, verify_of, workers, write_count, write_line, write_of}
+use Rattle.command_line.specs.Words.{cutout_line, cutout_of, downsample_by, downsample_line, downsample_of, either_value, generate_line, generate_of, KeepsLimits, line, method_in, other_words, part_of, plain_words, reshard_line, reshard_of, seed, serve_line, serve_of, update_line, update_of, verify_line, verify_of, workers, write_count, write_line, write_of}
+use Rattle.line_words.specs.Words.{box_of, connection_count, number, port_number, short_name}
 
 abbrev IsShort : Option (List ℕ) → Type 0
 IsShort name = IfSome name (λ n. length n ≤ 200)

@@ -2,8 +2,9 @@
 use Rattle.std.proofs.Common.{◌≡◌, ◌<◌, ℕ, List, [], ◌∷◌, false, Option, Some, None, length, map, option_and_then, arith, refl}
 use Rattle.std.specs.Borrow.{Bor}
 use Rattle.reduce_laws.specs.declared.method.Method.{Method}
-use Rattle.command_line.specs.Parsers.{is_given}
-use Rattle.command_line.specs.Words.{coarsened, cutout_line, downsample_line, downsample_of, generate_line, generate_of, numbered, over, reshard_line, reshard_of, short_name, targeted, update_line, update_of, verify_line, worker_count, workers, write_line, write_of}
+use Rattle.command_line.specs.Parsers.{is_given, coarsened, numbered, over, targeted}
+use Rattle.command_line.specs.Words.{cutout_line, downsample_line, downsample_of, generate_line, generate_of, reshard_line, reshard_of, update_line, update_of, verify_line, workers, write_line, write_of}
+use Rattle.line_words.specs.Words.{short_name, worker_count}
 
 -- the texts behind references
 abbrev pub texts : List (Bor (List ℕ)) → List (List ℕ)

@@ -13,7 +13,7 @@ use Rattle.clap.specs.declared.parser.matches.ValueSource.TheVariants.{CommandLi
 use Rattle.clap.proofs.OnLiterals.{clap_on_literals}
 use Rattle.clap.proofs.WalkLemmas.{first_value-rows}
 use Rattle.command_line.specs.Parsers.{Three, all_three, cutout_app, is_given, serve_app, three_in, write_app}
-use Rattle.command_line.specs.Words.{is_plain, value_after}
+use Rattle.line_words.specs.Words.{is_plain, value_after}
 
 -- what is found of an argument: its one value
 abbrev found_row : Text → Text → Row

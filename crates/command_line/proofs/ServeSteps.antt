@@ -3,7 +3,8 @@ use Rattle.std.proofs.Common.{◌≡◌, ◌∙◌, ℕ, List, [], ◌∷◌, tr
 use Rattle.std.specs.Option.{option_or}
 use Rattle.std.specs.Borrow.{Bor}
 use Rattle.command_line.specs.Parsers.{is_given}
-use Rattle.command_line.specs.Words.{connection_count, port_number, serve_line, serve_of, serve_options, short_name, value_after}
+use Rattle.command_line.specs.Words.{serve_line, serve_of, serve_options}
+use Rattle.line_words.specs.Words.{connection_count, port_number, short_name, value_after}
 use Rattle.command_line.proofs.LineSteps.{texts}
 use Rattle.command_line.proofs.ParserSteps.{begins_with}
 

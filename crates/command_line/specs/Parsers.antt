@@ -3,8 +3,11 @@ use Rattle.std.specs.Prelude.{ℕ, Bool, List, [], ◌∷◌, Option, Some, None
 use Rattle.clap.specs.Simple.{App, matches_of, new_app, new_rule, with_rule}
 use Rattle.clap.specs.Walk.{Rule, first_of}
 use Rattle.clap.specs.declared.builder.action.ArgAction.TheVariants.{Set}
-use Rattle.command_line.specs.Words.{box_of, connection_count, cutout_of, port_number, serve_of, short_name, worker_count, write_of}
+use Rattle.command_line.specs.Words.{cutout_of, serve_of, write_of}
+use Rattle.line_words.specs.Words.{box_of, connection_count, port_number, short_name, worker_count}
 use Rattle.command_line.specs.declared.commands.Command.{Command}
+use Rattle.reduce_laws.specs.declared.method.Method.{Method}
+use Rattle.command_line.specs.declared.commands.Command.TheVariants.{Downsample, Generate, Reshard, Update, Write}
 
 -- a plain word, which has to be there
 abbrev pub plain_rule : List ℕ → Rule
@@ -69,3 +72,25 @@ write_by None = None
 abbrev pub serve_by : Option Three → Option Command
 serve_by (Some values) = serve_of (short_name values.0) (port_number values.1) (connection_count values.2)
 serve_by None = None
+
+-- a command `write` as the command `update`
+abbrev pub over : Option Command → Option Command
+over (Some (Write dataset key count)) = Some (Update dataset key count)
+over found = None
+
+-- a command `write` with the two numbers of `generate`
+abbrev pub numbered : Option Command → Option ℕ → Option ℕ → Option Command
+numbered (Some (Write dataset key count)) (Some n) (Some writes) = Some (Generate dataset key n writes count)
+numbered found n writes = None
+
+-- a command `write` with the names of another scale
+abbrev pub targeted : Option Command → Option (List ℕ) → Option (List ℕ) → Option Command
+targeted (Some (Write dataset key count)) (Some to_dataset) (Some to_key) =
+    Some (Reshard dataset key to_dataset to_key count)
+targeted found to_dataset to_key = None
+
+-- a command `write` with the key of another scale, and a method
+abbrev pub coarsened : Option Command → Option (List ℕ) → Method → Option Command
+coarsened (Some (Write dataset key count)) (Some to_key) method =
+    Some (Downsample dataset key to_key method count)
+coarsened found to_key method = None

@@ -1,22 +1,13 @@
 -- The command line (this project's profile).
-use Rattle.std.specs.Prelude.{ℕ, ◌^◌, ◌<◌, ◌≤◌, ◌&&◌, ◌||◌, ◌==◌, not, Bool, List, [], ◌∷◌, length, drop, filter, slice_index, nat_eq, nat_le, nat_lt, Option, Some, None, option_and_then, if◌then◌else◌, codes}
-use Rattle.std.specs.Char.{is_ascii_digit}
-use Rattle.std.specs.List.{list_all, starts_with}
+use Rattle.std.specs.Prelude.{ℕ, ◌^◌, ◌<◌, ◌≤◌, not, List, [], ◌∷◌, length, filter, nat_le, nat_lt, Option, Some, None, option_and_then, if◌then◌else◌, codes}
 use Rattle.std.specs.Option.{option_map, option_or}
-use Rattle.std.specs.Result.{result_ok}
 use Rattle.std.specs.Str.{bytes_eq}
-use Rattle.std.specs.Str.Parse.{digits_value}
-use Rattle.vol_base.specs.BoxText.{box_numbers, parsed}
-use Rattle.vol_base.specs.Names.{is_name}
 use Rattle.vol_base.specs.declared.boxes.Box3.{Box3}
+use Rattle.line_words.specs.Words.{box_of, connection_count, is_plain, number, port_number, short_name, value_after, worker_count}
 use Rattle.reduce_laws.specs.declared.method.Method.{Method}
 use Rattle.reduce_laws.specs.declared.method.Method.TheVariants.{Mode, Mean}
 use Rattle.command_line.specs.declared.commands.Command.{Command}
 use Rattle.command_line.specs.declared.commands.Command.TheVariants.{Cutout, Downsample, Generate, Reshard, Serve, Update, Verify, Write}
-
--- a plain word isn't empty and doesn't begin with `-`
-abbrev pub is_plain : List ℕ → Bool
-is_plain word = nat_le 1 (length word) && not (slice_index word 0 == 45)
 
 -- the plain words, and all others, each in the order of the line
 abbrev pub plain_words : List (List ℕ) → List (List ℕ)
@@ -25,36 +16,12 @@ plain_words words = filter is_plain words
 abbrev pub other_words : List (List ℕ) → List (List ℕ)
 other_words words = filter (λ word. not (is_plain word)) words
 
--- DATASET and KEY: a name of at most 200 bytes
-abbrev pub short_name : List ℕ → Option (List ℕ)
-short_name word = if is_name word && nat_le (length word) 200 then Some word else None
-
--- BOX: the box that the word spells, if it spells one
-abbrev pub box_of : List ℕ → Option Box3
-box_of word = result_ok (parsed (box_numbers word))
-
--- a number: `0`, or a digit 1 to 9 that at most nine digits follow
-abbrev pub is_number : List ℕ → Bool
-is_number word = list_all is_ascii_digit word && (nat_le 1 (length word) && nat_le (length word) 10) &&
-    (length word == 1 || not (slice_index word 0 == 48))
-
-abbrev pub number : List ℕ → Option ℕ
-number word = if is_number word then Some (digits_value 10 word) else None
-
 -- NUMBER: a number below 2^31; WRITES: one of at most 4,096
 abbrev pub seed : List ℕ → Option ℕ
 seed word = option_and_then (λ n. if nat_lt n (2 ^ 31) then Some n else None) (number word)
 
 abbrev pub write_count : List ℕ → Option ℕ
 write_count word = option_and_then (λ n. if nat_le n 4096 then Some n else None) (number word)
-
--- what follows `--name=` in a word that begins so
-abbrev pub value_after : List ℕ → List ℕ → Option (List ℕ)
-value_after option word = if starts_with nat_eq word option then Some (drop (length option) word) else None
-
--- N of `--workers=N`: 1 to 16
-abbrev pub worker_count : List ℕ → Option ℕ
-worker_count value = option_and_then (λ n. if nat_le 1 n && nat_le n 16 then Some n else None) (number value)
 
 -- `[--workers=N]`, where no other word that isn't plain may stand: 1 worker without it
 abbrev pub workers : List (List ℕ) → Option ℕ
@@ -95,11 +62,6 @@ abbrev pub update_line : List (List ℕ) → List (List ℕ) → Option Command
 update_line (dataset ∷ key ∷ []) others = update_of (short_name dataset) (short_name key) (workers others)
 update_line plain others = None
 
--- a command `write` as the command `update`
-abbrev pub over : Option Command → Option Command
-over (Some (Write dataset key count)) = Some (Update dataset key count)
-over found = None
-
 -- `generate DATASET KEY NUMBER WRITES [--workers=N]`, by its plain words and the others
 abbrev pub generate_of : Option (List ℕ) → Option (List ℕ) → Option ℕ → Option ℕ → Option ℕ → Option Command
 generate_of (Some dataset) (Some key) (Some n) (Some writes) (Some count) =
@@ -114,11 +76,6 @@ abbrev pub generate_line : List (List ℕ) → List (List ℕ) → Option Comman
 generate_line (dataset ∷ key ∷ n ∷ writes ∷ []) others =
     generate_of (short_name dataset) (short_name key) (seed n) (write_count writes) (workers others)
 generate_line plain others = None
-
--- a command `write` with the two numbers of `generate`
-abbrev pub numbered : Option Command → Option ℕ → Option ℕ → Option Command
-numbered (Some (Write dataset key count)) (Some n) (Some writes) = Some (Generate dataset key n writes count)
-numbered found n writes = None
 
 -- `reshard DATASET KEY DATASET2 KEY2 [--workers=N]`, by its plain words and the others: a scale, and the one that it is copied into
 abbrev pub reshard_of : Option (List ℕ) → Option (List ℕ) → Option (List ℕ) → Option (List ℕ) → Option ℕ →
@@ -136,12 +93,6 @@ reshard_line (dataset ∷ key ∷ to_dataset ∷ to_key ∷ []) others =
     reshard_of (short_name dataset) (short_name key) (short_name to_dataset) (short_name to_key)
     (workers others)
 reshard_line plain others = None
-
--- a command `write` with the names of another scale
-abbrev pub targeted : Option Command → Option (List ℕ) → Option (List ℕ) → Option Command
-targeted (Some (Write dataset key count)) (Some to_dataset) (Some to_key) =
-    Some (Reshard dataset key to_dataset to_key count)
-targeted found to_dataset to_key = None
 
 -- `--method=M`: the value that occurs most often, or the mean
 abbrev pub method_word : List ℕ → Option Method
@@ -180,12 +131,6 @@ downsample_line (dataset ∷ key ∷ to_key ∷ []) others =
     downsample_by (short_name dataset) (short_name key) (short_name to_key) (method_in others)
 downsample_line plain others = None
 
--- a command `write` with the key of another scale, and a method
-abbrev pub coarsened : Option Command → Option (List ℕ) → Method → Option Command
-coarsened (Some (Write dataset key count)) (Some to_key) method =
-    Some (Downsample dataset key to_key method count)
-coarsened found to_key method = None
-
 -- `verify DATASET KEY [BOX]`, where no other word may stand: without a box all of the scale
 abbrev pub part_of : Option (List ℕ) → Option (Option Box3)
 part_of (Some word) = option_map Some (box_of word)
@@ -202,15 +147,6 @@ verify_line (dataset ∷ key ∷ []) [] = verify_of (short_name dataset) (short_
 verify_line (dataset ∷ key ∷ part ∷ []) [] = verify_of (short_name dataset) (short_name key)
     (part_of (Some part))
 verify_line plain others = None
-
--- P of `--port=P`: 0 to 65535
-abbrev pub port_number : List ℕ → Option ℕ
-port_number value = option_and_then (λ n. if nat_le n 65535 then Some n else None) (number value)
-
--- N of `--connections=N`: 1 to 65536
-abbrev pub connection_count : List ℕ → Option ℕ
-connection_count value = option_and_then (λ n. if nat_le 1 n && nat_le n 65536 then Some n else None)
-    (number value)
 
 -- what one of two words has behind an option
 abbrev pub either_value : List ℕ → List ℕ → List ℕ → Option (List ℕ)

@@ -1,10 +1,13 @@
 //! The command `downsample`.
 ghost use Rattle.std.specs.Prelude.{◌≡◌, IfOk, IsTrue, map, option_map};
 ghost use Rattle.std.specs.List.{list_all};
-ghost use Rattle.command_line.specs.Words.{coarsened, downsample_by, downsample_line, is_plain, method_in, method_word, short_name};
+ghost use Rattle.command_line.specs.Words.{downsample_by, downsample_line, method_in, method_word};
+ghost use Rattle.command_line.specs.Parsers.{coarsened};
+ghost use Rattle.line_words.specs.Words.{is_plain, short_name};
 
 use crate::commands::Command;
-use crate::words::{read_name, read_write_others};
+use crate::words::read_write_others;
+use line_words::read_name;
 use reduce_laws::Method;
 use std::alloc::{AllocError, Global};
 

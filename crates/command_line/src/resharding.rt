@@ -1,10 +1,13 @@
 //! The command `reshard`.
 ghost use Rattle.std.specs.Prelude.{◌≡◌, IfOk, IsTrue, map};
 ghost use Rattle.std.specs.List.{list_all};
-ghost use Rattle.command_line.specs.Words.{is_plain, reshard_line, reshard_of, short_name, targeted, workers};
+ghost use Rattle.command_line.specs.Words.{reshard_line, reshard_of, workers};
+ghost use Rattle.command_line.specs.Parsers.{targeted};
+ghost use Rattle.line_words.specs.Words.{is_plain, short_name};
 
 use crate::commands::Command;
-use crate::words::{read_name, read_write_others};
+use crate::words::read_write_others;
+use line_words::read_name;
 use std::alloc::{AllocError, Global};
 
 // The command `reshard`, whose arguments are those of `write` and the names of another scale.

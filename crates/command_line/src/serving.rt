@@ -2,32 +2,14 @@
 ghost use Rattle.std.specs.Prelude.{◌≡◌, IfOk, IsTrue, map, codes, option_and_then, option_map};
 ghost use Rattle.std.specs.List.{list_all};
 ghost use Rattle.command_line.specs.Parsers.{serve_by};
-ghost use Rattle.command_line.specs.Words.{connection_count, is_plain, port_number, serve_line, serve_of, serve_options, short_name, value_after};
+ghost use Rattle.command_line.specs.Words.{serve_line, serve_of, serve_options};
+ghost use Rattle.line_words.specs.Words.{connection_count, is_plain, port_number, short_name, value_after};
 
 use crate::commands::Command;
 use crate::parsers::find_values;
-use crate::words::{is_option, read_name, read_number};
+use crate::words::is_option;
+use line_words::{read_connection_count, read_name, read_port};
 use std::alloc::{AllocError, Global};
-
-// P of `--port=P`.
-fn read_port(value: &str) -> Option<u16>
-    ensures { result ≡ port_number value.now }
-{
-    match read_number(value) {
-        Some(port) if port <= 65535 => Some(port as u16),
-        _ => None,
-    }
-}
-
-// N of `--connections=N`.
-fn read_connection_count(value: &str) -> Option<u32>
-    ensures { result ≡ connection_count value.now }
-{
-    match read_number(value) {
-        Some(count) if 1 <= count && count <= 65536 => Some(count as u32),
-        _ => None,
-    }
-}
 
 // The arguments of `serve`.
 fn take_serve(values: Option<(&str, &str, &str)>) -> Option<Command>

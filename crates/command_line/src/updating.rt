@@ -1,7 +1,9 @@
 //! The command `update`.
 ghost use Rattle.std.specs.Prelude.{◌≡◌, IfOk, IsTrue, map};
 ghost use Rattle.std.specs.List.{list_all};
-ghost use Rattle.command_line.specs.Words.{is_plain, over, update_line};
+ghost use Rattle.command_line.specs.Words.{update_line};
+ghost use Rattle.command_line.specs.Parsers.{over};
+ghost use Rattle.line_words.specs.Words.{is_plain};
 
 use crate::commands::Command;
 use crate::words::read_write;

@@ -1,9 +1,10 @@
 //! The command `verify`.
 ghost use Rattle.std.specs.Prelude.{◌≡◌, map, option_map};
-ghost use Rattle.command_line.specs.Words.{part_of, short_name, verify_line, verify_of};
+ghost use Rattle.command_line.specs.Words.{part_of, verify_line, verify_of};
+ghost use Rattle.line_words.specs.Words.{short_name};
 
 use crate::commands::Command;
-use crate::words::{read_box, read_name};
+use line_words::{read_box, read_name};
 use vol_base::Box3;
 
 // BOX, or none: all of the scale.

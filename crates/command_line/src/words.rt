@@ -1,9 +1,9 @@
 //! The words of the line.
-ghost use Rattle.std.specs.Prelude.{◌≡◌, ◌≤◌, ◌&&◌, ◌||◌, ◌==◌, ◌∷◌, IfOk, IsTrue, Some, length, nat_le, slice_index, is_some, map, not, string_bytes, codes, option_and_then, option_map};
-ghost use Rattle.std.specs.Char.{is_ascii_digit};
+ghost use Rattle.std.specs.Prelude.{◌≡◌, ◌∷◌, IfOk, IsTrue, map, string_bytes, codes, option_and_then, option_map};
 ghost use Rattle.std.specs.List.{list_all};
-ghost use Rattle.command_line.specs.Parsers.{cutout_by, is_given, write_by};
-ghost use Rattle.command_line.specs.Words.{KeepsLimits, box_of, is_number, is_plain, cutout_line, cutout_of, generate_line, generate_of, line, number, numbered, other_words, plain_words, seed, short_name, value_after, worker_count, workers, write_count, write_line, write_of};
+ghost use Rattle.command_line.specs.Parsers.{cutout_by, is_given, write_by, numbered};
+ghost use Rattle.command_line.specs.Words.{KeepsLimits, cutout_line, cutout_of, generate_line, generate_of, line, other_words, plain_words, seed, workers, write_count, write_line, write_of};
+ghost use Rattle.line_words.specs.Words.{box_of, is_plain, short_name, value_after, worker_count};
 
 use crate::commands::Command;
 use crate::downsampling::read_downsample;
@@ -12,14 +12,9 @@ use crate::resharding::read_reshard;
 use crate::serving::read_serve;
 use crate::updating::read_update;
 use crate::verifying::read_verify;
+use line_words::{is_plain_word, read_box, read_name, read_number, read_worker_count};
 use std::alloc::{AllocError, Global};
-use vol_base::{Box3, Name, OutOfMemory};
-
-fn is_plain_word(word: &str) -> bool
-    ensures { result ≡ is_plain word.now }
-{
-    !word.is_empty() && word.as_bytes()[0] != b'-'
-}
+use vol_base::OutOfMemory;
 
 // The words of a line after the command's name: the plain ones and the others.
 #[derive(Drop)]
@@ -45,71 +40,6 @@ fn sort_words<'a>(alloc: Global, words: &'a [String]) -> Result<Sorted<'a>, Allo
         }
     }
     Ok(Sorted { plain, others })
-}
-
-/// A name of at most 200 bytes.
-pub(crate) fn read_name(word: &str) -> Option<Name>
-    ensures { result ≡ short_name word.now }
-{
-    if word.len() <= 200 {
-        Name::new(word.as_bytes())
-    } else {
-        None
-    }
-}
-
-/// The box that a word spells.
-pub(crate) fn read_box(word: &str) -> Option<Box3>
-    ensures { result ≡ box_of word.now }
-{
-    Box3::parse(word).ok()
-}
-
-fn are_digits(word: &[u8]) -> bool
-    ensures { result ≡ list_all is_ascii_digit word.now }
-{
-    word.iter().all(|b| b.is_ascii_digit())
-}
-
-fn has_one_to_ten(word: &[u8]) -> bool
-    ensures { result ≡ (nat_le 1 (length word.now) && nat_le (length word.now) 10) }
-{
-    !word.is_empty() && word.len() <= 10
-}
-
-// Whether no 0 stands before another digit.
-fn is_shortest(word: &[u8]) -> bool
-    requires { 1 ≤ length word.now }
-    ensures { result ≡ (length word.now == 1 || not (slice_index word.now 0 == 48)) }
-{
-    word.len() == 1 || word[0] != b'0'
-}
-
-fn is_number_word(word: &[u8]) -> bool
-    ensures { result ≡ is_number word.now }
-{
-    are_digits(word) && has_one_to_ten(word) && is_shortest(word)
-}
-
-/// A number of at most ten digits, with no 0 in front of another digit.
-pub(crate) fn read_number(word: &str) -> Option<u64>
-    ensures { result ≡ number word.now }
-{
-    if is_number_word(word.as_bytes()) {
-        word.parse::<u64>().ok()
-    } else {
-        None
-    }
-}
-
-// N of `--workers=N`.
-fn read_worker_count(value: &str) -> Option<u32>
-    ensures { result ≡ worker_count value.now }
-{
-    match read_number(value) {
-        Some(count) if 1 <= count && count <= 16 => Some(count as u32),
-        _ => None,
-    }
 }
 
 // The arguments of `cutout`.

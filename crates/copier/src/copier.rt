@@ -1,7 +1,7 @@
 //! The copier.
 ghost use Rattle.std.specs.Prelude.{◌≡◌, ◌≢◌, ◌-◌, ◌<◌, ◌≤◌, ◌^◌, ◌+◌, [], All, AllPairs, List, ℕ, length, map, slice_index_or, take, IfOk, IfSome, IsOk, IsSome, OnOk};
+ghost use Rattle.vol_base.specs.Calls.{ReadsFrom};
 ghost use Rattle.vol_base.specs.Causes.{HasCauseOf};
-ghost use Rattle.vol_base.specs.Outside.{OnlyReads};
 ghost use Rattle.vol_spec.specs.Copies.{AreOfOneVolume, copied_cells};
 ghost use Rattle.vol_spec.specs.Grid.{IsCell};
 ghost use Rattle.vol_spec.specs.StoredLists.{in_key_order};
@@ -95,9 +95,7 @@ impl Copier {
         ensures few { IfOk result (λ copier. length (cells_of copier) ≤ 2 ^ 22) }
         ensures jobs { IfOk result (λ copier. IfSome (S.objects store.old) (λ m.
             cells_of copier ≡ in_key_order to.now (copied_cells m dataset.now from.now to.now))) }
-        ensures kept { OnlyReads (S.objects store.old) (S.objects store.new) (S.draft store.old)
-            (S.draft store.new) }
-        ensures cause { HasCauseOf StoreRefusal.Failed (S.faults store.old) (S.faults store.new) result }
+        ensures reads { ReadsFrom S.Source StoreRefusal.Failed store.old store.new result }
     {
         let Ok(mut reader) = Reader::open(alloc, dataset, from) else {
             return Err(StoreRefusal::OutOfMemory);

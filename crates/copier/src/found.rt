@@ -1,7 +1,6 @@
 //! Which cells of a target are made from a source.
 ghost use Rattle.std.specs.Prelude.{◌≡◌, ◌&&◌, ◌≤◌, ◌^◌, All, false, length, replicate, IfOk, IfSome, OnOk};
-ghost use Rattle.vol_base.specs.Causes.{HasCause, HasCauseOf};
-ghost use Rattle.vol_base.specs.Outside.{OnlyReads};
+ghost use Rattle.vol_base.specs.Calls.{ReadsFrom};
 ghost use Rattle.vol_spec.specs.Chunks.{chunk_in};
 ghost use Rattle.vol_spec.specs.Copies.{is_there as there};
 ghost use Rattle.vol_spec.specs.Grid.{Inside, IsCell, meets};
@@ -15,24 +14,26 @@ use crate::placing::Placing;
 use chunk_grid::{cells, count_cells, whole};
 use cutout::{CutFault, Found, Reader};
 use std::alloc::{AllocError, Global};
-use vol_base::{Box3, Failed, Source, StoreRefusal};
+use vol_base::{Box3, Source, StoreRefusal};
 use vol_spec::Scale;
 
 // Whether the source has something of a cell: a chunk, or a fault.
-fn is_there<S: Source>(reader: &mut Reader, store: &mut S, cell: [u64; 3]) -> Result<bool, Failed>
+fn is_there<S: Source>(
+    reader: &mut Reader,
+    store: &mut S,
+    cell: [u64; 3],
+) -> Result<bool, StoreRefusal>
     requires { IsCell reader.old.scale cell }
     ensures told { IfOk result (λ told. IfSome (S.objects store.old) (λ m.
         told ≡ there (chunk_in m reader.old.dataset reader.old.scale cell))) }
     ensures same { reader.new ≡ reader.old }
-    ensures kept { OnlyReads (S.objects store.old) (S.objects store.new) (S.draft store.old)
-        (S.draft store.new) }
-    ensures cause { HasCause (S.faults store.old) (S.faults store.new) result }
+    ensures reads { ReadsFrom S.Source StoreRefusal.Failed store.old store.new result }
 {
     match reader.locate(store, cell) {
         Ok(Found::Absent) => Ok(false),
         Ok(Found::At { .. }) => Ok(true),
         Err(CutFault::Damaged { .. }) => Ok(true),
-        Err(CutFault::StoreFault) => Err(Failed),
+        Err(CutFault::StoreFault) => Err(StoreRefusal::Failed),
         Err(CutFault::OutsideScale) => unreachable!(),
     }
 }
@@ -45,7 +46,7 @@ fn mark_source<S: Source>(
     to: &Scale,
     part: &Box3,
     marks: &mut [bool],
-) -> Result<(), Failed>
+) -> Result<(), StoreRefusal>
     requires cell { IsCell reader.old.scale cell }
     requires few { cell_count to.now ≤ 2 ^ 22 }
     requires len { length marks.old ≡ cell_count to.now }
@@ -54,12 +55,10 @@ fn mark_source<S: Source>(
         (λ c. there (chunk_in m reader.old.dataset reader.old.scale cell) && meets to.now part.now c)
         marks.old marks.new)) }
     ensures same { reader.new ≡ reader.old }
-    ensures kept { OnlyReads (S.objects store.old) (S.objects store.new) (S.draft store.old)
-        (S.draft store.new) }
-    ensures cause { HasCause (S.faults store.old) (S.faults store.new) result }
+    ensures reads { ReadsFrom S.Source StoreRefusal.Failed store.old store.new result }
 {
     match is_there(reader, store, cell) {
-        Err(fault) => Err(fault),
+        Err(refusal) => Err(refusal),
         Ok(false) => Ok(()),
         Ok(true) => {
             mark_cells(to, part, marks);
@@ -75,7 +74,7 @@ fn mark_placed<P: Placing, S: Source>(
     from: &Scale,
     to: &Scale,
     marks: &mut [bool],
-) -> Result<(), Failed>
+) -> Result<(), StoreRefusal>
     requires source { reader.old.scale ≡ from.now }
     requires fits { P.fits from.now to.now }
     requires few { cell_count to.now ≤ 2 ^ 22 }
@@ -84,14 +83,12 @@ fn mark_placed<P: Placing, S: Source>(
     ensures marks { OnOk result (IfSome (S.objects store.old) (λ m. AreMarked to.now
         (is_placed (P.place from.now to.now) m reader.old.dataset from.now to.now) marks.new)) }
     ensures same { reader.new ≡ reader.old }
-    ensures kept { OnlyReads (S.objects store.old) (S.objects store.new) (S.draft store.old)
-        (S.draft store.new) }
-    ensures cause { HasCause (S.faults store.old) (S.faults store.new) result }
+    ensures reads { ReadsFrom S.Source StoreRefusal.Failed store.old store.new result }
 {
     for cell in cells(from, &whole(from)) {
         match mark_source(reader, store, cell, to, &P::place(from, to, cell), marks) {
             Ok(()) => {}
-            Err(fault) => return Err(fault),
+            Err(refusal) => return Err(refusal),
         }
     }
     Ok(())
@@ -124,9 +121,7 @@ pub fn find_placed<P: Placing, S: Source>(
     ensures made { IfOk result (λ list. IfSome (S.objects store.old) (λ m.
         list.items ≡ P.made m reader.old.dataset from.now to.now)) }
     ensures same { reader.new ≡ reader.old }
-    ensures kept { OnlyReads (S.objects store.old) (S.objects store.new) (S.draft store.old)
-        (S.draft store.new) }
-    ensures cause { HasCauseOf StoreRefusal.Failed (S.faults store.old) (S.faults store.new) result }
+    ensures reads { ReadsFrom S.Source StoreRefusal.Failed store.old store.new result }
 {
     let count = count_cells(to, &whole(to)) as usize;
     let Ok(mut marks) = reserve_marks(alloc, count) else {
@@ -134,7 +129,7 @@ pub fn find_placed<P: Placing, S: Source>(
     };
     match mark_placed::<P, S>(reader, store, from, to, &mut marks) {
         Ok(()) => {}
-        Err(_) => return Err(StoreRefusal::Failed),
+        Err(refusal) => return Err(refusal),
     }
     match list_marked(alloc, to, &marks) {
         Ok(list) => Ok(list),

@@ -1,7 +1,6 @@
 //! Reading the bytes of jobs.
 ghost use Rattle.std.specs.Prelude.{is_ok, ◌≡◌, ◌+◌, ◌<◌, ◌≤◌, ◌^◌, Err, length, map, take, All, IfSome, OnOk};
-ghost use Rattle.vol_base.specs.Causes.{HasCauseOf};
-ghost use Rattle.vol_base.specs.Outside.{OnlyReads};
+ghost use Rattle.vol_base.specs.Calls.{ReadsFrom};
 ghost use Rattle.vol_spec.specs.Copies.{AreOfOneVolume};
 ghost use Rattle.vol_spec.specs.Encodings.{raw_size};
 ghost use Rattle.vol_spec.specs.Grid.{Inside, IsCell, cells_in as meeting};
@@ -37,9 +36,7 @@ pub fn cut_box<S: Source>(
     ensures run { IfSome (S.objects store.old) (λ m. RunsOn (is_ok result) m reader.old.opened.dataset
         reader.old.opened.scale (meeting reader.old.opened.scale part.now) (S.asked store.old)
         (S.asked store.new) reader.old.shards reader.new.shards) }
-    ensures kept { OnlyReads (S.objects store.old) (S.objects store.new) (S.draft store.old)
-        (S.draft store.new) }
-    ensures cause { HasCauseOf PrepareFault.StoreFault (S.faults store.old) (S.faults store.new) result }
+    ensures reads { ReadsFrom S.Source PrepareFault.StoreFault store.old store.new result }
 {
     match reader.cutout(store, part, out) {
         Ok(()) => Ok(()),
@@ -79,9 +76,7 @@ fn read_into<S: Source>(
     ensures run { IfSome (S.objects store.old) (λ m. RunsOn (is_ok result) m reader.old.opened.dataset
         reader.old.opened.scale (cells_under reader.old.opened.scale to.now cell)
         (S.asked store.old) (S.asked store.new) reader.old.shards reader.new.shards) }
-    ensures kept { OnlyReads (S.objects store.old) (S.objects store.new) (S.draft store.old)
-        (S.draft store.new) }
-    ensures cause { HasCauseOf PrepareFault.StoreFault (S.faults store.old) (S.faults store.new) result }
+    ensures reads { ReadsFrom S.Source PrepareFault.StoreFault store.old store.new result }
 {
     let len = values_len(to, cell);
     let part = cell_box(to, cell);
@@ -120,9 +115,7 @@ fn read_frame<S: Source>(
     ensures run { IfSome (S.objects store.old) (λ m. RunsOn (is_ok result) m reader.old.opened.dataset
         reader.old.opened.scale (cells_under reader.old.opened.scale to.now cell)
         (S.asked store.old) (S.asked store.new) reader.old.shards reader.new.shards) }
-    ensures kept { OnlyReads (S.objects store.old) (S.objects store.new) (S.draft store.old)
-        (S.draft store.new) }
-    ensures cause { HasCauseOf PrepareFault.StoreFault (S.faults store.old) (S.faults store.new) result }
+    ensures reads { ReadsFrom S.Source PrepareFault.StoreFault store.old store.new result }
 {
     fill_up(to, frame);
     read_into(reader, store, to, cell, frame)
@@ -157,9 +150,7 @@ pub(crate) fn read_jobs<S: Source>(
     ensures run { IfSome (S.objects store.old) (λ m. RunsOn (is_ok result) m reader.old.opened.dataset
         reader.old.opened.scale (sources reader.old.opened.scale to.now (cells_in jobs.now) first count)
         (S.asked store.old) (S.asked store.new) reader.old.shards reader.new.shards) }
-    ensures kept { OnlyReads (S.objects store.old) (S.objects store.new) (S.draft store.old)
-        (S.draft store.new) }
-    ensures cause { HasCauseOf PrepareFault.StoreFault (S.faults store.old) (S.faults store.new) result }
+    ensures reads { ReadsFrom S.Source PrepareFault.StoreFault store.old store.new result }
 {
     for k in 0..count {
         let cell = jobs.get(first + k as u64).cell;

@@ -6,7 +6,8 @@ ghost use Rattle.vol_spec.specs.CellNames.{folder_of};
 ghost use Rattle.vol_spec.specs.Copies.{AreOfOneVolume, copied_cells};
 ghost use Rattle.chunk_laws.specs.Told.{HasNoFault};
 ghost use Rattle.copy_laws.specs.Agreement.{Agree, AreApart};
-ghost use Rattle.copy_laws.specs.Copied.{AreMet, CanCopy, CutsAsCopied, KeepsValues, MeetsFaults, StaysBeside, copied_in};
+ghost use Rattle.copy_laws.specs.Copied.{KeepsValues, copied_in};
+ghost use Rattle.copy_laws.specs.Laws.{AreMet, CanCopy, CutsAsCopied, MeetsFaults, StaysBeside};
 
 use vol_base::Name;
 use vol_spec::Scale;

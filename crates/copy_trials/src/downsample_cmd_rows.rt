@@ -297,16 +297,16 @@ fn check_failing<R: Threads + Wait + Abort + Sync>(
     check_refused(rt, alloc, &[row])
 }
 
-const NO_TENTH: &[Row] = &[Row {
-    store: &[9],
+const NO_NINTH: &[Row] = &[Row {
+    store: &[8],
     ..MOST
 }];
 
-// Each call of the store that fails is told, and no object stands; there are nine.
+// Each call of the store that fails is told, and no object stands; there are eight.
 #[test]
 fn tells_each_failing_call(rt: HostRuntime) -> Result<(), Fail> {
-    for call in 0..9 {
+    for call in 0..8 {
         check_failing(&rt, rt.alloc(), call)?;
     }
-    check_made(&rt, rt.alloc(), NO_TENTH)
+    check_made(&rt, rt.alloc(), NO_NINTH)
 }

@@ -1,4 +1,5 @@
 pub mod AskedSteps
+pub mod BelowSteps
 pub mod CellSteps
 pub mod CostSteps
 pub mod CutSteps

@@ -1,9 +1,10 @@
 -- The layers of a box along z (this project's): its planes in cells of one number each. Planes are counted
 -- from the box's lowest on.
-use Rattle.std.specs.Prelude.{ℕ, ◌+◌, ◌-◌, ◌*◌, ◌/◌, min, pos, ◌+ℤ◌, [], ◌∷◌, slice_index}
+use Rattle.std.specs.Prelude.{ℕ, ◌+◌, ◌-◌, ◌*◌, ◌/◌, ◌<◌, ◌↔◌, min, pos, ◌+ℤ◌, [], ◌∷◌, slice_index}
 use Rattle.vol_base.specs.declared.boxes.Box3.{Box3}
-use Rattle.vol_base.specs.Boxes.{at, from_begin, size}
-use Rattle.vol_spec.specs.Grid.{whole}
+use Rattle.vol_base.specs.Boxes.{at, Covers, from_begin, size}
+use Rattle.vol_spec.specs.Grid.{cell_at, whole}
+use Rattle.vol_spec.specs.Types.{Position}
 use Rattle.vol_spec.specs.declared.scale.Scale.{Scale}
 
 -- some planes of a box, from one on
@@ -17,11 +18,16 @@ planes b from count = record {
 abbrev pub planes_below : Scale → Box3 → ℕ → ℕ
 planes_below s b number = min (number * slice_index s.chunk 2 - from_begin (whole s) b.begin 2) (size b 2)
 
--- the part of a box below the cells of a number along z,
+-- the part of a box below the cells of a number along z
 abbrev pub below : Scale → Box3 → ℕ → Box3
 below s b number = planes b 0 (planes_below s b number)
 
--- and the part in them
+-- it has just those positions of the box whose cells have a lower number (the law of `tell_below`)
+abbrev pub SplitsBelow : Scale → Box3 → Type 0
+SplitsBelow s b = (number : ℕ) (p : Position) →
+    Covers (below s b number) p ↔ (Covers b p × (slice_index (cell_at s p) 2 < number))
+
+-- the part of a box in the cells of a number along z
 abbrev pub layer : Scale → Box3 → ℕ → Box3
 layer s b number = planes b (planes_below s b number)
     (planes_below s b (number + 1) - planes_below s b number)

@@ -1,4 +1,3 @@
-pub mod Calls
 pub mod Finding
 pub mod Keeping
 pub mod Kept

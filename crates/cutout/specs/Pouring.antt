@@ -5,7 +5,7 @@ use Rattle.vol_base.specs.Outside.{Objects}
 use Rattle.vol_base.specs.declared.outside.Outlet as Outlet
 use Rattle.vol_base.specs.declared.outside.Source as Source
 use Rattle.vol_spec.specs.Types.{Bytes}
-use Rattle.cutout.specs.Calls.{AsksFor}
+use Rattle.vol_base.specs.Calls.{AsksFor}
 use Rattle.cutout.specs.Streaming.{Leaves}
 use Rattle.cutout.specs.declared.fault.StreamFault.{StreamFault}
 use Rattle.cutout.specs.declared.fault.StreamFault.TheVariants.{OutsideScale, StoreFault, OutFault, OutOfMemory}

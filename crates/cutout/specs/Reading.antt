@@ -25,7 +25,7 @@ use Rattle.cutout.specs.declared.fault.CutFault.{CutFault}
 use Rattle.cutout.specs.declared.fault.CutFault.TheVariants.{OutsideScale, StoreFault, Damaged}
 use Rattle.cutout.specs.declared.found.Found.{Found}
 use Rattle.cutout.specs.declared.found.Found.TheVariants.{Absent, At}
-use Rattle.cutout.specs.declared.origin.Origin.{Origin}
+use Rattle.vol_spec.specs.declared.stored_scale.StoredScale.{StoredScale}
 
 -- what putting values of a cell, in some channels, into those of a part leaves: they stand where both have the position, the part's elsewhere
 pub record Puts (s : Scale) (cell : Cell) (part : Box3) (picked : Channels)
@@ -50,7 +50,7 @@ Reads (Err (Faulty fault)) seen taken = seen ≡ Err fault
 Reads (Err NotRead) seen taken = Unit {0}
 
 -- and by what the objects have of it
-abbrev pub ReadsCell : Result ⊤ LookupFault → Objects → Origin → Cell → Box3 → Channels → Bytes → Bytes → Type 0
+abbrev pub ReadsCell : Result ⊤ LookupFault → Objects → StoredScale → Cell → Box3 → Channels → Bytes → Bytes → Type 0
 ReadsCell result m origin cell part picked old new = Reads result (chunk_in m origin.dataset origin.scale cell)
     (Took origin.scale cell part picked (chunk_in m origin.dataset origin.scale cell) old new)
 

@@ -3,7 +3,7 @@ use Rattle.std.specs.Prelude.{◌≡◌, ◌≢◌, ◌+◌, ◌≤◌, Err, IfE
 use Rattle.vol_base.specs.declared.outside.Source.{Ghosts}
 use Rattle.vol_spec.specs.Types.{Cell, Name}
 use Rattle.vol_spec.specs.declared.scale.Scale.{Scale}
-use Rattle.cutout.specs.Calls.{ReadsFrom}
+use Rattle.vol_base.specs.Calls.{ReadsFrom}
 use Rattle.cutout.specs.Keeping.{search_cost}
 use Rattle.cutout.specs.Reading.{Locates}
 use Rattle.cutout.specs.declared.fault.CutFault.{CutFault}

@@ -8,18 +8,18 @@ ghost use Rattle.cutout.specs.Finding.{Finds, HasRead};
 ghost use Rattle.cutout.specs.Reading.{placed, ReadsAll, ReadsCell};
 ghost use Rattle.cutout.specs.Targets.{IsTarget};
 
+use crate::CutFault;
 use crate::boxed::BoxedCell;
 use crate::channels::Channels;
 use crate::chunk::read_stored;
 use crate::reader::values_limit;
 use crate::values::{judge_bytes, put_chunk, put_zeros};
-use crate::{CutFault, Origin};
 use chunk_grid::{cell_box, cells, tell_cells};
 use chunk_pool::Frame;
 use shard_reader::{LookupFault, ShardReader, WINDOW_LEN};
 use std::alloc::Global;
 use vol_base::{Box3, Fault, OutOfMemory, Source};
-use vol_spec::Scale;
+use vol_spec::{Scale, StoredScale};
 
 /// Reads the cells of a scale, one after the other, with memory for the longest chunk and a byte more, for the
 /// values of a chunk that is decoded, and for rows of an index. The index that it opened last is kept from
@@ -64,7 +64,7 @@ impl CellReader {
     fn read_chunk<S: Source>(
         &mut self,
         store: &mut S,
-        origin: &Origin,
+        origin: &StoredScale,
         cell: [u64; 3],
     ) -> Result<bool, LookupFault>
         requires cell { IsCell origin.now.scale cell }
@@ -89,7 +89,7 @@ impl CellReader {
     fn read_one<S: Source>(
         &mut self,
         store: &mut S,
-        origin: &Origin,
+        origin: &StoredScale,
         cell: [u64; 3],
         part: &Box3,
         channels: Channels,
@@ -126,7 +126,7 @@ impl CellReader {
     pub fn judge<S: Source>(
         &mut self,
         store: &mut S,
-        origin: &Origin,
+        origin: &StoredScale,
         cell: [u64; 3],
     ) -> Result<bool, LookupFault>
         requires cell { IsCell origin.now.scale cell }
@@ -156,7 +156,7 @@ impl CellReader {
     pub(crate) fn read_cells<S: Source>(
         &mut self,
         store: &mut S,
-        origin: &Origin,
+        origin: &StoredScale,
         part: &Box3,
         channels: Channels,
         out: &mut [u8],

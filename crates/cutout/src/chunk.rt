@@ -5,18 +5,17 @@ ghost use Rattle.vol_spec.specs.Grid.{IsCell};
 ghost use Rattle.vol_spec.specs.Places.{id_of};
 ghost use Rattle.vol_spec.specs.StoredBytes.{stored_bytes};
 ghost use Rattle.shard_reader.specs.Reading.{Gets};
-ghost use Rattle.cutout.specs.Calls.{ReadsFrom};
+ghost use Rattle.vol_base.specs.Calls.{ReadsFrom};
 ghost use Rattle.cutout.specs.Keeping.{front_of, KeepsShards};
 ghost use Rattle.cutout.specs.Opened.{chunk_room};
 ghost use Rattle.cutout.specs.Serving.{Walks};
 
-use crate::Origin;
 use chunk_grid::{grid, object_name};
 use morton_code::code;
 use segment_cells::chunk_limit;
 use shard_reader::{LookupFault, ShardReader};
 use vol_base::{Got, Name, Source};
-use vol_spec::Scale;
+use vol_spec::{Scale, StoredScale};
 
 /// The id of a cell's chunk in a shard.
 pub(crate) fn chunk_id(scale: &Scale, cell: [u64; 3]) -> u64
@@ -53,7 +52,7 @@ fn read_object<S: Source>(
 pub(crate) fn read_stored<S: Source>(
     shards: &mut ShardReader,
     store: &mut S,
-    origin: &Origin,
+    origin: &StoredScale,
     cell: [u64; 3],
     chunk: &mut [u8],
 ) -> Result<Option<u64>, LookupFault>

@@ -4,11 +4,12 @@ ghost use Rattle.vol_spec.specs.Grid.{cells_in, Inside};
 ghost use Rattle.vol_spec.specs.Raw.{raw_len};
 ghost use Rattle.cutout.specs.Reading.{HasCut};
 
+use crate::CutFault;
 use crate::cells::CellReader;
 use crate::channels::Channels;
-use crate::{CutFault, Origin};
 use chunk_grid::inside;
 use vol_base::{Box3, Source, tell_bytes};
+use vol_spec::StoredScale;
 
 impl CellReader {
     ghost use Rattle.cutout.specs.Serving.{Serves, Walks};
@@ -17,7 +18,7 @@ impl CellReader {
     pub(crate) fn cut_box<S: Source>(
         &mut self,
         store: &mut S,
-        origin: &Origin,
+        origin: &StoredScale,
         part: &Box3,
         out: &mut [u8],
     ) -> Result<(), CutFault>

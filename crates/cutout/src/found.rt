@@ -4,20 +4,20 @@ ghost use Rattle.vol_spec.specs.Grid.{IsCell};
 ghost use Rattle.vol_spec.specs.Places.{id_of, shard_of};
 ghost use Rattle.vol_spec.specs.ShardNames as ShardNames;
 ghost use Rattle.shard_reader.specs.Reading.{Answers};
-ghost use Rattle.cutout.specs.Calls.{AsksFor};
+ghost use Rattle.vol_base.specs.Calls.{AsksFor};
 ghost use Rattle.cutout.specs.Keeping.{search_cost};
 ghost use Rattle.cutout.specs.Reading.{span_in};
 ghost use Rattle.cutout.specs.Searching.{Searches};
 
+use crate::CutFault;
 use crate::cells::{CellReader, place_fault};
 use crate::chunk::chunk_id;
-use crate::{CutFault, Origin};
 use chunk_grid::object_name;
 use segment_cells::chunk_limit;
 use shard_index::{place, shard_name};
 use shard_reader::{LookupFault, ShardReader};
 use vol_base::{Name, Source};
-use vol_spec::{ChunkSpan, Sharding};
+use vol_spec::{ChunkSpan, Sharding, StoredScale};
 
 /// Where the chunk of a cell stands: nowhere, or in an object, so many bytes from a place on. Both are
 /// counted in bytes, the place from the object's begin.
@@ -31,7 +31,7 @@ pub enum Found {
 fn find_span<S: Source>(
     shards: &mut ShardReader,
     store: &mut S,
-    origin: &Origin,
+    origin: &StoredScale,
     sharding: &Sharding,
     cell: [u64; 3],
     id: u64,
@@ -52,7 +52,7 @@ fn find_span<S: Source>(
 }
 
 // The name of the shard that the chunk of an id belongs into.
-fn name_shard(origin: &Origin, sharding: &Sharding, id: u64) -> Name
+fn name_shard(origin: &StoredScale, sharding: &Sharding, id: u64) -> Name
     requires { origin.now.scale.sharding ≡ Some sharding.now }
     ensures { result ≡ ShardNames.shard_name origin.now.dataset origin.now.scale (shard_of sharding.now id) }
 {
@@ -68,7 +68,7 @@ impl CellReader {
     pub(crate) fn locate<S: Source>(
         &mut self,
         store: &mut S,
-        origin: &Origin,
+        origin: &StoredScale,
         cell: [u64; 3],
     ) -> Result<Found, CutFault>
         requires cell { IsCell origin.now.scale cell }

@@ -5,21 +5,22 @@ ghost use Rattle.vol_spec.specs.Costs.{cost};
 ghost use Rattle.vol_spec.specs.Grid.{cells_in, Inside};
 ghost use Rattle.vol_spec.specs.Raw.{raw_len};
 ghost use Rattle.cutout.specs.Kept.{KeepsIndex};
-ghost use Rattle.cutout.specs.Calls.{ReadsFrom};
+ghost use Rattle.vol_base.specs.Calls.{ReadsFrom};
 ghost use Rattle.cutout.specs.Reading.{HasCut};
 ghost use Rattle.cutout.specs.Runs.{RunsOn};
 
+use crate::CutFault;
 use crate::cells::CellReader;
-use crate::{CutFault, Origin};
 use std::marker::Model;
 use vol_base::{Box3, Source};
+use vol_spec::StoredScale;
 
 /// Reads a scale of a data set as a `Reader` does, and keeps the index that it opened last from call to call.
 /// So boxes that are read one after the other, in the order of the ids, read an index once. It is seen
 /// as the reader, and what it keeps.
 #[derive(Drop)]
 pub struct KeepingReader {
-    pub(crate) origin: Origin,
+    pub(crate) origin: StoredScale,
     pub(crate) cells: CellReader,
 }
 

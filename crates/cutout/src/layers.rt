@@ -45,6 +45,12 @@ fn place_of(part: &Box3, plane: u64) -> i64
     part.begin[2] + plane as i64
 }
 
+/// Does nothing: its clause says which positions the part below the cells of a number along z has.
+pub fn tell_below(scale: &Scale, part: &Box3)
+    requires { Inside scale.now part.now }
+    ensures below { Layers.SplitsBelow scale.now part.now }
+{}
+
 /// The planes of a part in the cells of a number along z.
 pub(crate) fn layer_at(scale: &Scale, part: &Box3, number: u64) -> Box3
     requires inside { Inside scale.now part.now }

@@ -4,7 +4,7 @@ ghost use Rattle.vol_base.specs.Causes.{HasCauseOf};
 ghost use Rattle.vol_spec.specs.Costs.{cost};
 ghost use Rattle.vol_spec.specs.Grid.{Inside, IsCell};
 ghost use Rattle.vol_spec.specs.Raw.{raw_len};
-ghost use Rattle.cutout.specs.Calls.{ReadsFrom};
+ghost use Rattle.vol_base.specs.Calls.{ReadsFrom};
 ghost use Rattle.cutout.specs.Opened.{values_room};
 ghost use Rattle.cutout.specs.Reading.{HasCut};
 ghost use Rattle.cutout.specs.Searching.{Searches};
@@ -13,20 +13,20 @@ ghost use Rattle.cutout.specs.Streaming.{Leaves, Streams};
 use crate::cells::CellReader;
 use crate::keeping::KeepingReader;
 use crate::layers::layer_room;
-use crate::{CutFault, Found, Origin, StreamFault};
+use crate::{CutFault, Found, StreamFault};
 use chunk_grid::inside;
 use chunk_pool::Frame;
 use std::alloc::Global;
 use std::marker::Model;
 use vol_base::{Box3, Name, OutOfMemory, Outlet, Source};
-use vol_spec::{Encoding, Scale};
+use vol_spec::{Encoding, Scale, StoredScale};
 
 /// Reads a scale of a data set. The memory that it needs is taken when it is opened: room for a chunk and a
 /// byte more, for the values of a chunk where chunks are segmented, and for 1,024 rows of an index. `stream`
 /// alone takes more, the buffer for a layer.
 #[derive(Drop)]
 pub struct Reader {
-    origin: Origin,
+    origin: StoredScale,
     cells: CellReader,
 }
 
@@ -59,7 +59,7 @@ impl Reader {
         ensures scale { IfOk result (λ reader. reader.scale ≡ scale.now) }
     {
         let cells = CellReader::reserve(alloc, scale)?;
-        let origin = Origin::of(dataset, scale);
+        let origin = StoredScale::of(dataset, scale);
         Ok(Reader { origin, cells })
     }
 

@@ -10,9 +10,10 @@ ghost use Rattle.cutout.specs.Streaming.{streamed, Streams, StreamsChannel, Stre
 use crate::cells::CellReader;
 use crate::channels::Channels;
 use crate::layers::{end_layer, first_layer, layer_at};
-use crate::{CutFault, Origin, StreamFault};
+use crate::{CutFault, StreamFault};
 use chunk_grid::byte_len;
 use vol_base::{Box3, Outlet, Source, tell_bytes, write_all};
+use vol_spec::StoredScale;
 
 // The same fault of a box that is written.
 fn as_streamed(fault: CutFault) -> StreamFault
@@ -40,7 +41,7 @@ impl CellReader {
     fn stream_piece<S: Source, O: Outlet>(
         &mut self,
         store: &mut S,
-        origin: &Origin,
+        origin: &StoredScale,
         part: &Box3,
         channel: u32,
         buffer: &mut [u8],
@@ -77,7 +78,7 @@ impl CellReader {
     fn stream_channel<S: Source, O: Outlet>(
         &mut self,
         store: &mut S,
-        origin: &Origin,
+        origin: &StoredScale,
         part: &Box3,
         channel: u32,
         buffer: &mut [u8],
@@ -108,7 +109,7 @@ impl CellReader {
     pub(crate) fn stream_channels<S: Source, O: Outlet>(
         &mut self,
         store: &mut S,
-        origin: &Origin,
+        origin: &StoredScale,
         part: &Box3,
         buffer: &mut [u8],
         out: &mut O,

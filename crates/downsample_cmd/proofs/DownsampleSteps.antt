@@ -23,7 +23,7 @@ use Rattle.make_scale.specs.declared.fault.MakeFault.TheVariants as fault
 use Rattle.make_scale.specs.declared.refusal.MakeRefusal.{MakeRefusal}
 use Rattle.make_scale.specs.declared.refusal.MakeRefusal.TheVariants as refused
 use Rattle.downsample_cmd.specs.Answering.{AllReadAsReduced, CanDownsample, HasDownsampled, DropsOrDownsamples, CountsReduced, IsReadyReduction, IsRightReduction, ReducedBack, ReducesStored, told_reduction}
-use Rattle.downsample_cmd.specs.Downsampling.{IsReduced, said_reduction}
+use Rattle.downsample_cmd.specs.Reductions.{IsReduced, said_reduction}
 use Rattle.downsample_cmd.specs.Judging.{DiffersNext, HasHalfSize, HasTwiceOffset}
 use Rattle.downsample_cmd.proofs.ReducingSteps.{few_reduced}
 use Rattle.downsample_cmd.proofs.SameInfo.{can_begin}

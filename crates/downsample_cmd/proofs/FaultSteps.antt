@@ -9,7 +9,8 @@ use Rattle.coarse_laws.proofs.CoarseLaw.{AreInOrder-reduced_cells, fault_found}
 use Rattle.reduce_laws.specs.Reduced.{IsNext, reduced_cells, source_box}
 use Rattle.reduce_laws.specs.declared.method.Method.TheVariants.{Mean}
 use Rattle.reshard_cmd.proofs.FaultSteps.{first_in, none_in_each}
-use Rattle.downsample_cmd.specs.Downsampling.{IsFirstFault, source_fault}
+use Rattle.downsample_cmd.specs.Downsampling.{source_fault}
+use Rattle.downsample_cmd.specs.Reductions.{IsFirstFault}
 
 pub first_is : (m : Objects) (dataset : List ℕ) (from to : Scale) (cell : List ℕ) (fault : Fault) → source_fault m dataset from to ≡ Some (cell, fault) → IsFirstFault m dataset from to cell fault
 first_is m dataset from to cell fault e =

@@ -18,8 +18,9 @@ use Rattle.reduce_laws.specs.Reduced.{IsNext, is_reduced, reduced_cells, reduced
 use Rattle.reduce_laws.specs.declared.method.Method.{Method}
 use Rattle.reducer.specs.Works.{IsApart, Reduction, work_of}
 use Rattle.shard_writer.proofs.PlannedSteps.{chunk_by}
-use Rattle.shard_writer.specs.Writing as spared
-use Rattle.shard_writer.specs.Writing.{KnowsLens, PutsFront, PutsJobs, PutsSome, WritesAll, first_of_jobs, job_objects, joint_len, told_objects}
+use Rattle.shard_writer.specs.Works as spared
+use Rattle.shard_writer.specs.Writing.{PutsFront, joint_len}
+use Rattle.shard_writer.specs.Works.{KnowsLens, PutsJobs, PutsSome, WritesAll, first_of_jobs, job_objects, told_objects}
 use Rattle.shard_writer.specs.declared.written.Written.{Written}
 use Rattle.shard_writer.specs.declared.written.WriteFault.{WriteFault}
 use Rattle.shard_writer.specs.declared.written.WriteFault.TheVariants as writes
@@ -27,7 +28,8 @@ use Rattle.write_plan.specs.Pairs.{cell_count}
 use Rattle.reshard_cmd.proofs.JobSteps.{as_many_jobs, job_by_job, objects_by_job, spared_by_job}
 use Rattle.make_scale.specs.Making.{Puts, Wrote}
 use Rattle.vol_base.specs.declared.outside.StoreRefusal.{StoreRefusal}
-use Rattle.downsample_cmd.specs.Downsampling.{HasReducedJobs, PutsReducedFront, said_reduction, SparesFaulty, reduced_list, source_fault}
+use Rattle.downsample_cmd.specs.Downsampling.{PutsReducedFront, SparesFaulty, reduced_list, source_fault}
+use Rattle.downsample_cmd.specs.Reductions.{HasReducedJobs, said_reduction}
 use Rattle.downsample_cmd.proofs.FaultSteps.{first_is, none_is}
 
 -- few cells are reduced,

@@ -17,7 +17,8 @@ use Rattle.command_base.specs.Outlets.{Outlets}
 use Rattle.command_base.specs.Scales.{HasOneSize, IsReady, stored_scale}
 use Rattle.command_base.specs.declared.refusal.NoScale.{NoScale}
 use Rattle.command_base.specs.declared.status.Status.{Status}
-use Rattle.reshard_cmd.specs.Copying.{KeepsScales, counts_line}
+use Rattle.told_writer.specs.Lines.{count_line}
+use Rattle.reshard_cmd.specs.Copying.{KeepsScales}
 use Rattle.make_scale.specs.Stored.{CanBegin, Making, MakesStored, OfBoth}
 use Rattle.make_scale.specs.Judging.{too_many}
 use Rattle.make_scale.specs.Refusals.{refusal_line, refusal_status}
@@ -113,4 +114,4 @@ abbrev pub Downsampled : Status → Method → Option Objects → Option Objects
 Downsampled status method told now dataset key to_key o =
     (answer : Result Written MakeRefusal)
     × IsRightReduction answer method told now dataset key to_key
-    × Ends counts_line refusal_status (refusal_line dataset) answer status o
+    × Ends count_line refusal_status (refusal_line dataset) answer status o

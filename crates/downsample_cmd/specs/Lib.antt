@@ -2,3 +2,4 @@ pub mod Answering
 pub mod Downsampling
 pub mod Judging
 pub mod ReductionLaws
+pub mod Reductions

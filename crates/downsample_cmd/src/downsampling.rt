@@ -7,13 +7,15 @@ ghost use Rattle.vol_spec.specs.Writable.{IsWritable};
 ghost use Rattle.copier.specs.Held.{cells_of};
 ghost use Rattle.reduce_laws.specs.Reduced.{IsNext};
 ghost use Rattle.reducer.specs.Works.{IsApart, work_of};
-ghost use Rattle.shard_writer.specs.Writing.{Drops, job_objects};
+ghost use Rattle.shard_writer.specs.Writing.{Drops};
+ghost use Rattle.shard_writer.specs.Works.{job_objects};
 ghost use Rattle.shard_writer.specs.declared.written.WriteFault.{WriteFault};
 ghost use Rattle.shard_writer.specs.declared.written.Written.{Written};
 ghost use Rattle.write_plan.specs.Pairs.{cell_count};
 ghost use Rattle.command_base.specs.Scales.{HasOneSize};
 ghost use Rattle.make_scale.specs.Making.{KeepsStore, Puts, Wrote};
-ghost use Rattle.downsample_cmd.specs.Downsampling.{Downsamples, DropsOrReduces, reduced_list, said_reduction};
+ghost use Rattle.downsample_cmd.specs.Downsampling.{reduced_list};
+ghost use Rattle.downsample_cmd.specs.Reductions.{Downsamples, DropsOrReduces, said_reduction};
 ghost use Rattle.downsample_cmd.specs.Judging.{JudgesNext};
 
 use crate::judge::find_difference;

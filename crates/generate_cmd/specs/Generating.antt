@@ -14,7 +14,7 @@ use Rattle.write_plan.specs.declared.fault.PlanFault.{PlanFault}
 use Rattle.command_base.specs.Ending.{Ends}
 use Rattle.command_base.specs.Outlets.{Outlets}
 use Rattle.size_laws.specs.Further.{all_views}
-use Rattle.view_writer.specs.Views.{first_many, first_wide}
+use Rattle.view_writer.specs.Views.{first_many, IsTooWide}
 use Rattle.command_base.specs.Scales.{stored_scale}
 use Rattle.command_base.specs.Statuses.{puts}
 use Rattle.command_base.specs.declared.refusal.NoScale.{NoScale}
@@ -95,7 +95,7 @@ Generates (Ok summary) told m now list dataset key =
     IsOkAnd told (λ s. HasGenerated summary m now (list s) dataset key s)
 Generates (Err (Write (unwritten.NoScale why))) told m now list dataset key = told ≡ Err why
 Generates (Err (Write (unwritten.TooManyVoxels count))) told m now list dataset key =
-    IsOkAnd told (λ s. first_wide (all_views s) ≡ Some count)
+    IsOkAnd told (λ s. IsTooWide s count)
 Generates (Err (Write unwritten.NotEmpty)) told m now list dataset key = IsOkAnd told (AreFull m dataset)
 Generates (Err (Write (unwritten.Stream fault))) told m now list dataset key =
     IsOkAnd told (λ s. AreReady m dataset s × IsSmall s × (list s ≡ Err fault))

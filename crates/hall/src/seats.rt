@@ -38,6 +38,7 @@ fn serve_end<N: Hall, L: Parting, S: Source>(
     ensures turned { Turned N.told N.dataset result (L.stream link.new) (L.sent link.new)
         (L.faults link.new) (S.faults store.old) (S.faults store.new) }
     ensures objects { S.objects store.new ≡ S.objects store.old }
+    ensures draft { S.draft store.new ≡ S.draft store.old }
 {
     let outcome = serve_turn(alloc, link, store, &order.dataset);
     link.part();
@@ -113,6 +114,7 @@ pub(crate) fn finish_alone<N: Hall, D: Entrance + Drop, X: Exit<D::End> + Drop, 
     ensures paid { Paid (S.faults store.old) (S.faults store.new) cuts.new.amount }
     ensures later { S.faults store.old ≤ S.faults store.new }
     ensures objects { S.objects store.new ≡ S.objects store.old }
+    ensures draft { S.draft store.new ≡ S.draft store.old }
 {
     while let Some(guest) = porch.enter_alone(middle, seat, order.total) {
         let Guest { number, mut end } = guest;

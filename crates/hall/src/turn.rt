@@ -33,6 +33,7 @@ pub fn serve_turn<L: Link, S: Source>(
     ensures turned { Turned (S.objects store.old ∷ []) dataset.now result (L.stream link.new) (L.sent link.new)
         (L.faults link.new) (S.faults store.old) (S.faults store.new) }
     ensures objects { S.objects store.new ≡ S.objects store.old }
+    ensures draft { S.draft store.new ≡ S.draft store.old }
 {
     let served = serve_to_end(alloc, link, store, dataset);
     judge(&served)

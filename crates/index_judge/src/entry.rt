@@ -1,8 +1,7 @@
 //! The entry of a minishard, read and judged.
 ghost use Rattle.std.specs.Prelude.{◌+◌, ◌*◌, ◌<◌, ◌≤◌, ◌^◌, IfOk, IfSome};
 ghost use Rattle.std.specs.FinMap as map;
-ghost use Rattle.vol_base.specs.Causes.{HasCauseOf};
-ghost use Rattle.vol_base.specs.Outside.{OnlyReads};
+ghost use Rattle.vol_base.specs.Calls.{ReadsFrom};
 ghost use Rattle.index_judge.specs.Judging.{IsPlaced, Opens};
 
 use crate::JudgeFault;
@@ -23,10 +22,8 @@ pub fn open_index<S: Source>(
     ensures few { IfOk result (λ o. IfSome o (λ span. span.rows ≤ 2 ^ 22)) }
     ensures fits { IfOk result (λ o. IfSome o (λ span. span.at + 24 * span.rows < 2 ^ 64)) }
     ensures placed { IsPlaced result }
-    ensures kept { OnlyReads (S.objects store.old) (S.objects store.new) (S.draft store.old)
-        (S.draft store.new) }
     ensures asked { S.asked store.new ≤ S.asked store.old + 16 }
-    ensures cause { HasCauseOf JudgeFault.NotRead (S.faults store.old) (S.faults store.new) result }
+    ensures reads { ReadsFrom S.Source JudgeFault.NotRead store.old store.new result }
 {
     match shard_reader::open_index(store, name, sharding, minishard)? {
         None => Ok(None),

@@ -1,8 +1,7 @@
 //! A judge of whole indexes.
 ghost use Rattle.std.specs.Prelude.{◌≡◌, ◌+◌, ◌<◌, ◌≤◌, ◌^◌, length, IfOk, IfSome, Err, Some};
 ghost use Rattle.std.specs.FinMap as map;
-ghost use Rattle.vol_base.specs.Causes.{HasCauseOf};
-ghost use Rattle.vol_base.specs.Outside.{OnlyReads};
+ghost use Rattle.vol_base.specs.Calls.{AsksFor};
 ghost use Rattle.vol_spec.specs.ShardNames.{shard_name};
 ghost use Rattle.index_judge.specs.Judging.{Says, index_cost, wrong_in};
 
@@ -33,11 +32,8 @@ fn judge_index<S: Source>(
     requires sizes { length sizes.old ≡ 8192 }
     ensures judged { IfSome (S.objects store.old) (λ m.
         Says (wrong_in (map.get m name.now) sharding.now home.now.shard home.now.minishard) result) }
-    ensures asked { IfSome (S.objects store.old) (λ m. S.asked store.new ≤ S.asked store.old
-        + index_cost (map.get m name.now) sharding.now home.now.minishard) }
-    ensures kept { OnlyReads (S.objects store.old) (S.objects store.new) (S.draft store.old)
-        (S.draft store.new) }
-    ensures cause { HasCauseOf JudgeFault.NotRead (S.faults store.old) (S.faults store.new) result }
+    ensures asks { AsksFor S.Source (λ m. index_cost (map.get m name.now) sharding.now home.now.minishard)
+        JudgeFault.NotRead store.old store.new result }
 {
     let span = match open_index(store, name, sharding, home.minishard) {
         Err(fault) => return Err(fault),
@@ -92,12 +88,9 @@ impl IndexJudge {
         requires minishard { home.now.minishard < 2 ^ sharding.now.minishard_bits }
         ensures judged { IfSome (S.objects store.old) (λ m.
             Says (wrong_in (map.get m name.now) sharding.now home.now.shard home.now.minishard) result) }
-        ensures asked { IfSome (S.objects store.old) (λ m. S.asked store.new ≤ S.asked store.old
-            + index_cost (map.get m name.now) sharding.now home.now.minishard) }
         ensures same { self.new.judged ≡ self.old.judged }
-        ensures kept { OnlyReads (S.objects store.old) (S.objects store.new) (S.draft store.old)
-            (S.draft store.new) }
-        ensures cause { HasCauseOf JudgeFault.NotRead (S.faults store.old) (S.faults store.new) result }
+        ensures asks { AsksFor S.Source (λ m. index_cost (map.get m name.now) sharding.now home.now.minishard)
+            JudgeFault.NotRead store.old store.new result }
     {
         let ids = self.ids.room();
         let starts = self.starts.room();
@@ -125,14 +118,11 @@ impl IndexJudge {
             Says (wrong_in
             (map.get m (shard_name dataset.now scale.now home.now.shard))
             sharding.now home.now.shard home.now.minishard) result) }
-        // It asks for no more than the entry and the rows, and for nothing where the index is remembered.
-        ensures asked { IfSome (S.objects store.old) (λ m. S.asked store.new ≤ S.asked store.old
-            + index_cost (map.get m (shard_name dataset.now scale.now home.now.shard)) sharding.now
-            home.now.minishard) }
         ensures knows { Knows (S.objects store.old) dataset.now scale.now sharding.now self.new }
-        ensures kept { OnlyReads (S.objects store.old) (S.objects store.new) (S.draft store.old)
-            (S.draft store.new) }
-        ensures cause { HasCauseOf JudgeFault.NotRead (S.faults store.old) (S.faults store.new) result }
+        // It asks for no more than the entry and the rows, and for nothing where the index is remembered.
+        ensures asks { AsksFor S.Source (λ m. index_cost
+            (map.get m (shard_name dataset.now scale.now home.now.shard)) sharding.now home.now.minishard)
+            JudgeFault.NotRead store.old store.new result }
     {
         let index = IndexKey {
             shard: home.shard,

@@ -1,7 +1,6 @@
 //! All rows of an index, read by 1,024 at a time and judged in order.
 ghost use Rattle.std.specs.Prelude.{◌≡◌, ◌≢◌, ◌+◌, ◌*◌, ◌<◌, ◌≤◌, ◌^◌, ℕ, length, Err, IfErr, OnOk};
-ghost use Rattle.vol_base.specs.Causes.{HasCauseOf};
-ghost use Rattle.vol_base.specs.Outside.{OnlyReads};
+ghost use Rattle.vol_base.specs.Calls.{ReadsFrom};
 ghost use Rattle.vol_spec.specs.Rows.{Columns, columns_of};
 ghost use Rattle.shard_reader.specs.Reading.{Holds, OnIndex};
 ghost use Rattle.index_judge.specs.Judging.{IsPast, IsPlaced, Passes, Says, first_wrong_row};
@@ -69,10 +68,8 @@ pub fn read_rows<S: Source>(
     ensures whole { IfErr result (λ fault. OnIndex (S.objects store.old) name.now span.now.at span.now.rows
         (λ _. fault ≡ JudgeFault.NotRead)) }
     ensures placed { IsPlaced result }
-    ensures kept { OnlyReads (S.objects store.old) (S.objects store.new) (S.draft store.old)
-        (S.draft store.new) }
     ensures asked { S.asked store.new ≤ S.asked store.old + 24 * count }
-    ensures cause { HasCauseOf JudgeFault.NotRead (S.faults store.old) (S.faults store.new) result }
+    ensures reads { ReadsFrom S.Source JudgeFault.NotRead store.old store.new result }
 {
     read_numbers(store, name, span, first, count, ids)?;
     read_numbers(store, name, span, span.rows + first, count, starts)?;
@@ -117,10 +114,8 @@ pub(crate) fn judge_rows<S: Source>(
     ensures judged { OnIndex (S.objects store.old) name.now span.now.at span.now.rows (λ bytes.
         Says (first_wrong_row
         (columns_of bytes) sharding.now home.now.shard home.now.minishard span.now.rows) result) }
-    ensures kept { OnlyReads (S.objects store.old) (S.objects store.new) (S.draft store.old)
-        (S.draft store.new) }
     ensures asked { S.asked store.new ≤ S.asked store.old + 24 * span.now.rows }
-    ensures cause { HasCauseOf JudgeFault.NotRead (S.faults store.old) (S.faults store.new) result }
+    ensures reads { ReadsFrom S.Source JudgeFault.NotRead store.old store.new result }
 {
     let mut walk = Walk::new();
     while walk.rows() < span.rows {

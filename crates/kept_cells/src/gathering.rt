@@ -1,7 +1,6 @@
 //! All cells that an update stores.
 ghost use Rattle.std.specs.Prelude.{◌≡◌, ◌≤◌, ◌^◌, length, Err, IfOk, IfSome, OnOk, Some};
-ghost use Rattle.vol_base.specs.Causes.{HasCauseOf};
-ghost use Rattle.vol_base.specs.Outside.{OnlyReads};
+ghost use Rattle.vol_base.specs.Calls.{ReadsFrom};
 ghost use Rattle.vol_spec.specs.StoredCells.{met, met_cells};
 ghost use Rattle.cell_lists.specs.Counted.{Counts, IsWhole};
 ghost use Rattle.cell_lists.specs.Lists.{AreDistinct, Lists};
@@ -49,9 +48,7 @@ fn judge_shards<S: Source>(
         plan.now.writes result found.new) }
     ensures whole { OnOk result (IsWhole scale.now found.new) }
     ensures few { OnOk result (found.new.count ≤ 2 ^ 22) }
-    ensures kept { OnlyReads (S.objects store.old) (S.objects store.new) (S.draft store.old)
-        (S.draft store.new) }
-    ensures cause { HasCauseOf KeepRefusal.NotRead (S.faults store.old) (S.faults store.new) result }
+    ensures reads { ReadsFrom S.Source KeepRefusal.NotRead store.old store.new result }
 {
     let Ok(mut ids) = make_column(alloc) else {
         return Err(KeepRefusal::OutOfMemory);
@@ -97,9 +94,7 @@ fn keep_sharded<S: Source>(
         plan.now.writes result found.new) }
     ensures whole { OnOk result (IsWhole scale.now found.new) }
     ensures few { OnOk result (found.new.count ≤ 2 ^ 22) }
-    ensures kept { OnlyReads (S.objects store.old) (S.objects store.new) (S.draft store.old)
-        (S.draft store.new) }
-    ensures cause { HasCauseOf KeepRefusal.NotRead (S.faults store.old) (S.faults store.new) result }
+    ensures reads { ReadsFrom S.Source KeepRefusal.NotRead store.old store.new result }
 {
     match find_shards(alloc, scale, sharding, plan) {
         Ok(shards) => judge_shards(alloc, store, dataset, scale, sharding, plan, &shards, found),
@@ -126,9 +121,7 @@ fn keep_stored<S: Source>(
         m dataset.now scale.now plan.now.writes) }
     ensures whole { OnOk result (IsWhole scale.now found.new) }
     ensures few { OnOk result (found.new.count ≤ 2 ^ 22) }
-    ensures kept { OnlyReads (S.objects store.old) (S.objects store.new) (S.draft store.old)
-        (S.draft store.new) }
-    ensures cause { HasCauseOf KeepRefusal.NotRead (S.faults store.old) (S.faults store.new) result }
+    ensures reads { ReadsFrom S.Source KeepRefusal.NotRead store.old store.new result }
 {
     match &scale.sharding {
         Some(sharding) => keep_sharded(alloc, store, dataset, scale, sharding, plan, found),
@@ -157,9 +150,7 @@ pub fn gather_cells<S: Source>(
         m dataset.now scale.now plan.now.writes) }
     ensures distinct { IfOk result (λ cells. AreDistinct scale.now cells.items) }
     ensures few { IfOk result (λ cells. length cells.items ≤ 2 ^ 22) }
-    ensures kept { OnlyReads (S.objects store.old) (S.objects store.new) (S.draft store.old)
-        (S.draft store.new) }
-    ensures cause { HasCauseOf KeepRefusal.NotRead (S.faults store.old) (S.faults store.new) result }
+    ensures reads { ReadsFrom S.Source KeepRefusal.NotRead store.old store.new result }
 {
     let Ok(mut found) = list_met(alloc, plan) else {
         return Err(KeepRefusal::OutOfMemory);

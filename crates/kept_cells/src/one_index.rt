@@ -1,9 +1,8 @@
 //! The cells of one minishard.
 ghost use Rattle.std.specs.Prelude.{◌≡◌, ◌+◌, ◌<◌, ◌≤◌, ◌^◌, length, IfSome, OnOk, Err};
 ghost use Rattle.std.specs.FinMap as map;
-ghost use Rattle.vol_base.specs.Causes.{HasCauseOf};
+ghost use Rattle.vol_base.specs.Calls.{ReadsFrom};
 ghost use Rattle.vol_base.specs.Grids.{pairs};
-ghost use Rattle.vol_base.specs.Outside.{OnlyReads};
 ghost use Rattle.vol_spec.specs.Limits.{cell_counts};
 ghost use Rattle.kept_cells.specs.KeptCells.{CountsBy, CountsOfIndex};
 
@@ -41,9 +40,7 @@ pub(crate) fn keep_minishard<S: Source>(
     ensures own { OnOk result (CountsOfIndex scale.now sharding.now plan.now.writes home.now.shard
         home.now.minishard found.old found.new) }
     ensures few { OnOk result (found.new.count ≤ found.old.count + 2 ^ 22) }
-    ensures kept { OnlyReads (S.objects store.old) (S.objects store.new) (S.draft store.old)
-        (S.draft store.new) }
-    ensures cause { HasCauseOf KeepFault.NotRead (S.faults store.old) (S.faults store.new) result }
+    ensures reads { ReadsFrom S.Source KeepFault.NotRead store.old store.new result }
 {
     kept.clear();
     match keep_index(store, name, sharding, home, ids, starts, sizes, kept) {

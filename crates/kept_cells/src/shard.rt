@@ -1,9 +1,8 @@
 //! The cells of one shard.
 ghost use Rattle.std.specs.Prelude.{◌≡◌, ◌≢◌, ◌+◌, ◌<◌, ◌≤◌, ◌^◌, ℕ, length, IfSome, OnOk, Err, Some};
 ghost use Rattle.std.specs.FinMap as map;
-ghost use Rattle.vol_base.specs.Causes.{HasCauseOf};
+ghost use Rattle.vol_base.specs.Calls.{ReadsFrom};
 ghost use Rattle.vol_base.specs.Grids.{pairs};
-ghost use Rattle.vol_base.specs.Outside.{OnlyReads};
 ghost use Rattle.vol_base.specs.declared.faults.Fault.{Fault};
 ghost use Rattle.vol_spec.specs.Limits.{cell_counts};
 ghost use Rattle.kept_cells.specs.KeptCells.{CountsOfShard, KeepsCells, refused_by};
@@ -57,9 +56,7 @@ pub fn keep_shard<S: Source>(
     ensures keeps { IfSome (S.objects store.old) (λ m. KeepsCells m dataset.now scale.now sharding.now
         plan.now.writes shard result found.old found.new) }
     ensures own { OnOk result (CountsOfShard scale.now sharding.now plan.now.writes shard found.old found.new) }
-    ensures kept { OnlyReads (S.objects store.old) (S.objects store.new) (S.draft store.old)
-        (S.draft store.new) }
-    ensures cause { HasCauseOf ShardRefusal.NotRead (S.faults store.old) (S.faults store.new) result }
+    ensures reads { ReadsFrom S.Source ShardRefusal.NotRead store.old store.new result }
 {
     let name = shard_name(dataset, scale, shard);
     let count = 1u64 << sharding.minishard_bits;

@@ -1,7 +1,6 @@
 //! The cells of all shards that are written anew.
 ghost use Rattle.std.specs.Prelude.{◌≡◌, ◌<◌, ◌≤◌, ◌^◌, length, IfSome, OnOk, Err, Some};
-ghost use Rattle.vol_base.specs.Causes.{HasCauseOf};
-ghost use Rattle.vol_base.specs.Outside.{OnlyReads};
+ghost use Rattle.vol_base.specs.Calls.{ReadsFrom};
 ghost use Rattle.vol_spec.specs.StoredCells.{met};
 ghost use Rattle.update_laws.specs.Judged.{touched_shards};
 ghost use Rattle.cell_lists.specs.Counted.{Counts, IsWhole};
@@ -59,9 +58,7 @@ fn judge_shard<S: Source>(
         plan.now.writes shard result found.old found.new) }
     ensures own { OnOk result (CountsOfShard scale.now sharding.now plan.now.writes shard found.old found.new) }
     ensures few { OnOk result (found.new.count ≤ 2 ^ 22) }
-    ensures kept { OnlyReads (S.objects store.old) (S.objects store.new) (S.draft store.old)
-        (S.draft store.new) }
-    ensures cause { HasCauseOf KeepRefusal.NotRead (S.faults store.old) (S.faults store.new) result }
+    ensures reads { ReadsFrom S.Source KeepRefusal.NotRead store.old store.new result }
 {
     match keep_shard(
         store, dataset, scale, sharding, plan, shard, ids, starts, sizes, kept, found,
@@ -108,9 +105,7 @@ pub fn keep_touched<S: Source>(
         plan.now.writes result found.new) }
     ensures whole { OnOk result (IsWhole scale.now found.new) }
     ensures few { OnOk result (found.new.count ≤ 2 ^ 22) }
-    ensures kept { OnlyReads (S.objects store.old) (S.objects store.new) (S.draft store.old)
-        (S.draft store.new) }
-    ensures cause { HasCauseOf KeepRefusal.NotRead (S.faults store.old) (S.faults store.new) result }
+    ensures reads { ReadsFrom S.Source KeepRefusal.NotRead store.old store.new result }
 {
     for shard in shards {
         match judge_shard(

@@ -10,7 +10,8 @@ use Rattle.vol_spec.specs.Types.{Listed, Name}
 use Rattle.vol_spec.specs.declared.scale.Scale.{Scale}
 use Rattle.info_doc.specs.declared.fault.Item.{Item}
 use Rattle.shard_writer.specs.Faults.{of_store}
-use Rattle.shard_writer.specs.Writing.{BeginsNext, Drops, DropsOrBegins, KnowsLens, PutsJobs, PutsSome, SparesFaulty, WritesAll, first_of_jobs, job_objects, joint_len, told_objects}
+use Rattle.shard_writer.specs.Writing.{BeginsNext, Drops, joint_len}
+use Rattle.shard_writer.specs.Works.{DropsOrBegins, KnowsLens, PutsJobs, PutsSome, SparesFaulty, WritesAll, first_of_jobs, job_objects, told_objects}
 use Rattle.shard_writer.specs.declared.written.WriteFault.{WriteFault}
 use Rattle.shard_writer.specs.declared.written.WriteFault.TheVariants as write
 use Rattle.shard_writer.specs.declared.written.Written.{Written}

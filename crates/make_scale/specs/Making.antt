@@ -7,7 +7,8 @@ use Rattle.vol_spec.specs.StoredCells.{put_in}
 use Rattle.vol_spec.specs.Types.{Cell, Name}
 use Rattle.vol_spec.specs.declared.scale.Scale.{Scale}
 use Rattle.write_plan.specs.Jobs.{Work}
-use Rattle.shard_writer.specs.Writing.{PutsFront, SparesFaulty, WritesAll, first_of_jobs, job_objects, joint_len}
+use Rattle.shard_writer.specs.Writing.{PutsFront, joint_len}
+use Rattle.shard_writer.specs.Works.{SparesFaulty, WritesAll, first_of_jobs, job_objects}
 use Rattle.shard_writer.specs.declared.written.WriteFault.{WriteFault}
 use Rattle.shard_writer.specs.declared.written.WriteFault.TheVariants as write
 use Rattle.shard_writer.specs.declared.written.Written.{Written}

@@ -1,15 +1,13 @@
 -- What making a stored scale of another one answers (this project's profile).
-use Rattle.std.specs.Prelude.{◌≡◌, ◌⊎◌, ◌<◌, true, length, All, Option, Some, None, Result, Ok as Done, Err, IfOk, IsOkAnd}
-use Rattle.vol_base.specs.Outside.{Objects, any_under}
+use Rattle.std.specs.Prelude.{◌≡◌, ◌⊎◌, true, Option, Some, None, Result, Ok as Done, Err, IfOk, IsOkAnd}
+use Rattle.vol_base.specs.Outside.{Objects, any_under, Draft}
 use Rattle.vol_base.specs.declared.faults.Fault.{Fault}
 use Rattle.vol_spec.specs.CellNames.{folder_of}
 use Rattle.vol_spec.specs.Types.{Cell, Name}
-use Rattle.vol_spec.specs.Writable.{IsWritable}
 use Rattle.vol_spec.specs.declared.scale.Scale.{Scale}
 use Rattle.info_doc.specs.declared.fault.Item.{Item}
-use Rattle.size_laws.specs.Further.{all_views}
 use Rattle.shard_writer.specs.declared.written.Written.{Written}
-use Rattle.view_writer.specs.Views.{first_wide}
+use Rattle.view_writer.specs.Views.{HasSeveralSizes, IsTooWide}
 use Rattle.command_base.specs.Scales.{HasOneSize, IsReady, IsWritableAlone}
 use Rattle.command_base.specs.declared.refusal.NoScale.{NoScale}
 use Rattle.make_scale.specs.Judging.{too_many}
@@ -19,7 +17,6 @@ use Rattle.make_scale.specs.declared.fault.MakeFault.TheVariants as fault
 use Rattle.make_scale.specs.declared.fault.MakeFault.{MakeFault}
 use Rattle.make_scale.specs.Making.{Said}
 use Rattle.shard_writer.specs.Writing.{Drops}
-use Rattle.vol_base.specs.Outside.{Draft}
 
 -- what is said of a target that is made of a source: in which item it isn't as it is to be, and that it is in each; what stands once it is
 -- made, with the numbers that are told; that a cell of the source has this fault, the first on the way; and what stands after a front of
@@ -74,9 +71,9 @@ MakesStored making (Err (refused.NoSource why)) source target m now dataset = (n
 MakesStored making (Err (refused.NoTarget why)) source target m now dataset = (now ≡ Some m) ×
     IsOkAnd source (λ from. target ≡ Err why)
 MakesStored making (Err (refused.TooManyVoxels voxels)) source target m now dataset =
-    (now ≡ Some m) × OfBoth source target (λ from to. first_wide (all_views to) ≡ Some voxels)
+    (now ≡ Some m) × OfBoth source target (λ from to. IsTooWide to voxels)
 MakesStored making (Err refused.SeveralSizes) source target m now dataset =
-    (now ≡ Some m) × OfBoth source target (λ from to. All IsWritable (all_views to) × (0 < length to.more))
+    (now ≡ Some m) × OfBoth source target (λ from to. HasSeveralSizes to)
 MakesStored making (Err (refused.Unmade fault.StoreFault)) source target m now dataset =
     (now ≡ Some m) ⊎ OfBoth source target (λ from to. (making from to).front)
 MakesStored making (Err (refused.Unmade fault.OutOfMemory)) source target m now dataset =
@@ -93,10 +90,8 @@ unmade (Err found) = Err (refused.Unmade found)
 abbrev pub ReadsTarget : Result Scale MakeRefusal → Result Scale NoScale → Type 0
 ReadsTarget (Done to) told = (told ≡ Done to) × IsWritableAlone to
 ReadsTarget (Err (refused.NoTarget why)) told = told ≡ Err why
-ReadsTarget (Err (refused.TooManyVoxels voxels)) told =
-    IsOkAnd told (λ to. first_wide (all_views to) ≡ Some voxels)
-ReadsTarget (Err refused.SeveralSizes) told =
-    IsOkAnd told (λ to. All IsWritable (all_views to) × (0 < length to.more))
+ReadsTarget (Err (refused.TooManyVoxels voxels)) told = IsOkAnd told (λ to. IsTooWide to voxels)
+ReadsTarget (Err refused.SeveralSizes) told = IsOkAnd told HasSeveralSizes
 ReadsTarget (Err (refused.Unmade fault.StoreFault)) told = Unit {0}
 ReadsTarget (Err (refused.Unmade fault.OutOfMemory)) told = Unit {0}
 ReadsTarget (Err other) told = ⊥

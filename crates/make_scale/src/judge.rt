@@ -1,7 +1,6 @@
 //! What is judged before a scale is made of another one.
 ghost use Rattle.std.specs.Prelude.{◌≡◌, ◌≤◌, IfErr, IfSome, length};
-ghost use Rattle.vol_base.specs.Causes.{HasCauseOf};
-ghost use Rattle.vol_base.specs.Outside.{HaveBytes, OnlyReads};
+ghost use Rattle.vol_base.specs.Calls.{ReadsFrom};
 ghost use Rattle.write_plan.specs.Pairs.{cell_count};
 ghost use Rattle.make_scale.specs.Judging.{IsOfFolder, IsOfScales, JudgesAs, JudgesFolder, too_many};
 
@@ -59,10 +58,7 @@ pub fn judge_folder<S: Store>(store: &mut S, dataset: &Name, scale: &Scale) -> R
     requires { length dataset.now ≤ 200 }
     ensures empty { IfSome (S.objects store.old) (λ m. JudgesFolder result m dataset.now scale.now) }
     ensures early { IfErr result IsOfFolder }
-    ensures bytes { IfSome (S.objects store.old) HaveBytes }
-    ensures kept { OnlyReads (S.objects store.old) (S.objects store.new) (S.draft store.old)
-        (S.draft store.new) }
-    ensures cause { HasCauseOf MakeFault.StoreFault (S.faults store.old) (S.faults store.new) result }
+    ensures reads { ReadsFrom S.Source MakeFault.StoreFault store.old store.new result }
 {
     match store.any_under(&find_folder(dataset, scale)) {
         Ok(false) => Ok(()),

@@ -1,13 +1,13 @@
 //! A way to make a scale of another one.
 ghost use Rattle.std.specs.Prelude.{◌≡◌, ◌≤◌, ◌^◌, false, List, ℕ, Option, Some, Result, length, IfOk, IfSome, MatchOption};
-ghost use Rattle.vol_base.specs.Causes.{HasCauseOf};
-ghost use Rattle.vol_base.specs.Outside.{HaveBytes, Objects, OnlyReads, any_under};
+ghost use Rattle.vol_base.specs.Calls.{ReadsFrom};
+ghost use Rattle.vol_base.specs.Outside.{Objects, any_under};
 ghost use Rattle.vol_spec.specs.CellNames.{folder_of};
 ghost use Rattle.vol_spec.specs.Types.{Listed};
 ghost use Rattle.vol_spec.specs.Writable.{IsWritable};
 ghost use Rattle.vol_spec.specs.declared.scale.Scale.{Scale};
 ghost use Rattle.info_doc.specs.declared.fault.Item.{Item};
-ghost use Rattle.shard_writer.specs.Writing.{job_objects};
+ghost use Rattle.shard_writer.specs.Works.{job_objects};
 ghost use Rattle.shard_writer.specs.declared.written.WriteFault.{WriteFault};
 ghost use Rattle.shard_writer.specs.declared.written.Written.{Written};
 ghost use Rattle.write_plan.specs.Pairs.{cell_count};
@@ -63,7 +63,6 @@ pub trait Making {
         requires few { cell_count to.now ≤ 2 ^ 22 }
         requires empty { IfSome (S.objects store.old) (λ m.
             any_under m (folder_of to_dataset.now to.now) ≡ false) }
-        requires bytes { IfSome (S.objects store.old) HaveBytes }
         ensures scale { IfOk result (λ maker. (Self.Maker.work maker).scale ≡ to.now) }
         ensures few { IfOk result (λ maker. length (Self.Maker.work maker).cells ≤ 2 ^ 22) }
         ensures apart { IfOk result (λ maker. IfSome (S.objects store.old) (λ m.
@@ -75,9 +74,7 @@ pub trait Making {
             (now : Option Objects) (answer : Result Written WriteFault) →
             Wrote to_dataset.now (Self.Maker.work maker) m now answer →
             Puts (says self.now m now from_dataset.now from.now to_dataset.now to.now) answer)) }
-        ensures kept { OnlyReads (S.objects store.old) (S.objects store.new) (S.draft store.old)
-            (S.draft store.new) }
-        ensures cause { HasCauseOf StoreRefusal.Failed (S.faults store.old) (S.faults store.new) result };
+        ensures reads { ReadsFrom S.Source StoreRefusal.Failed store.old store.new result };
 
     /// Where nothing is put yet, a front of the objects is.
     ghost untouched: { (x : Self) (m : Objects) (from_dataset : List ℕ) (from : Scale) (to_dataset : List ℕ)

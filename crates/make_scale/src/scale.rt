@@ -1,7 +1,7 @@
 //! A scale that is made of another one.
 ghost use Rattle.std.specs.Prelude.{◌≡◌, ◌⊎◌, ◌≤◌, ◌^◌, false, length, IfErr, IfSome, None, OnOk};
 ghost use Rattle.vol_base.specs.Causes.{HasCauseOf};
-ghost use Rattle.vol_base.specs.Outside.{HaveBytes, any_under};
+ghost use Rattle.vol_base.specs.Outside.{any_under};
 ghost use Rattle.vol_spec.specs.CellNames.{folder_of};
 ghost use Rattle.vol_spec.specs.Writable.{IsWritable};
 ghost use Rattle.shard_writer.specs.Writing.{BeginsNext, Drops};
@@ -36,7 +36,6 @@ fn write_made<R: Threads + Wait + Sync, S: Store, G: Gate + Sync, M: Making>(
     requires writable { IsWritable to.now }
     requires few { cell_count to.now ≤ 2 ^ 22 }
     requires empty { IfSome (S.objects store.old) (λ m. any_under m (folder_of to_dataset.now to.now) ≡ false) }
-    requires bytes { IfSome (S.objects store.old) HaveBytes }
     ensures puts { IfSome (S.objects store.old) (λ m.
         Puts (M.says making.now m (S.objects store.new) from_dataset.now from.now to_dataset.now to.now) result) }
     ensures draft { OnOk result (Drops (S.draft store.old) (S.draft store.new)) }

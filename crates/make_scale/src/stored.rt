@@ -1,5 +1,6 @@
 //! A stored scale that is made of another one.
 ghost use Rattle.std.specs.Prelude.{◌≡◌, ◌⊎◌, ◌≤◌, length, false, None, Some, IfErr, IfOk, IfSome, Ok, OnOk};
+ghost use Rattle.vol_base.specs.Calls.{ReadsFrom};
 ghost use Rattle.vol_base.specs.Causes.{HasCauseOf};
 ghost use Rattle.vol_base.specs.Outside.{OnlyReads};
 ghost use Rattle.vol_spec.specs.Writable.{IsWritable};
@@ -39,10 +40,7 @@ fn read_target<S: Source>(
         ReadsTarget result (stored_scale m dataset.now key.now)) }
     ensures writable { IfOk result IsWritable }
     ensures one { IfOk result HasOneSize }
-    ensures kept { OnlyReads (S.objects store.old) (S.objects store.new) (S.draft store.old)
-        (S.draft store.new) }
-    ensures cause { HasCauseOf (MakeRefusal.Unmade MakeFault.StoreFault) (S.faults store.old)
-        (S.faults store.new) result }
+    ensures reads { ReadsFrom S.Source (MakeRefusal.Unmade MakeFault.StoreFault) store.old store.new result }
 {
     let scale = match read_scale(alloc, store, dataset, key) {
         Ok(scale) => scale,

@@ -57,6 +57,7 @@ fn read_object(object: Option<&[u8]>, at: u64, out: &mut [u8]) -> Got
 
 impl<'a> Source for Shelf<'a> {
     ghost use Rattle.std.specs.Prelude.{[], None};
+    ghost use Rattle.peer_dial.specs.ShelfLaws.{shelf_bytes};
 
     ghost objects = { λ s. Some (objects_on s.entries.now) };
 
@@ -69,6 +70,8 @@ impl<'a> Source for Shelf<'a> {
     ghost faults = { λ s. 0 };
 
     ghost counts = { λ s. (is_count s.asked, is_count 0) };
+
+    ghost bytes = { λ s. shelf_bytes s.entries.now };
 
     fn size(&mut self, name: &Name) -> Result<Option<u64>, Failed> {
         match lookup(self.entries, name) {

@@ -1,6 +1,6 @@
 -- What reading and reducing a job leaves.
 use Rattle.std.proofs.Common.{◌≡◌, ◌+◌, ◌<◌, ℕ, List, Option, Some, None, Vec, IfSome, arith, length, subst, sym, ap, ◌∙◌, map, take}
-use Rattle.std.specs.Prelude.{All, Err, Ok, OnOk, Result, false, is_err, slice_set}
+use Rattle.std.specs.Prelude.{All, Err, Ok, slice_set}
 use Rattle.std.specs.Global.{Global}
 use Rattle.std.proofs.lemmas.List.{length-map}
 use Rattle.vol_base.specs.Boxes.{num}
@@ -57,8 +57,3 @@ pub next_read : (m : Objects) (method : Method) (dataset : List ℕ) (from to : 
 next_read m method dataset from to cells first k frames v cell cut raw next own have here inside same reduced h old =
     read_more (reductions_of method m dataset from to) to cells first k frames v cell here inside old
     (source_read (Some m) method dataset from to cell cut raw (take (raw_size to cell) v.items) next own have same reduced h)
-
--- a call that answered stands
-pub ok_stands : {A E : Type 0} (r : Result A E) (P : Type 0) → is_err r ≡ false → OnOk r P → P
-ok_stands (Ok a) P e h = h
-ok_stands (Err fault) P e h = absurd (cc e)

@@ -1,7 +1,6 @@
 //! Reducing jobs while those behind them are read.
 ghost use Rattle.std.specs.Prelude.{◌≡◌, ◌+◌, ◌<◌, ◌≤◌, ◌^◌, Err, length, map, take, All, IfSome, OnOk};
-ghost use Rattle.vol_base.specs.Causes.{HasCauseOf};
-ghost use Rattle.vol_base.specs.Outside.{HaveBytes, OnlyReads};
+ghost use Rattle.vol_base.specs.Calls.{ReadsFrom};
 ghost use Rattle.vol_spec.specs.Encodings.{raw_size};
 ghost use Rattle.vol_spec.specs.Grid.{IsCell};
 ghost use Rattle.vol_spec.specs.Raw.{raw_len};
@@ -54,9 +53,7 @@ fn reduce_beside<R: Threads, S: Source>(
     ensures room { HasRoom from.now to.now other.new }
     ensures keeps { KeepsIndex (S.objects store.old) reader.new }
     ensures same { reader.new.opened ≡ reader.old.opened }
-    ensures kept { OnlyReads (S.objects store.old) (S.objects store.new) (S.draft store.old)
-        (S.draft store.new) }
-    ensures cause { HasCauseOf PrepareFault.StoreFault (S.faults store.old) (S.faults store.new) result }
+    ensures reads { ReadsFrom S.Source PrepareFault.StoreFault store.old store.new result }
 {
     let mut reduce = ||
         requires next { IsNext from.now to.now }
@@ -82,10 +79,7 @@ fn reduce_beside<R: Threads, S: Source>(
         ensures room { HasRoom from.entry.now to.entry.now other.exit.now }
         ensures keeps { KeepsIndex (S.objects store.entry.now) reader.exit.now }
         ensures same { reader.exit.now.opened ≡ reader.entry.now.opened }
-        ensures kept { OnlyReads (S.objects store.entry.now) (S.objects store.exit.now)
-            (S.draft store.entry.now) (S.draft store.exit.now) }
-        ensures cause { HasCauseOf PrepareFault.StoreFault (S.faults store.entry.now)
-            (S.faults store.exit.now) result }
+        ensures reads { ReadsFrom S.Source PrepareFault.StoreFault store.entry.now store.exit.now result }
     { cut_source(reader, store, from, to, next, other) };
     let ((), answer) = join_mut(rt, &mut reduce, &mut read);
     answer
@@ -128,9 +122,7 @@ fn reduce_and_read<R: Threads, S: Source>(
     ensures ahead { IfSome ahead.new (HasRoom from.now to.now) }
     ensures keeps { KeepsIndex (S.objects store.old) reader.new }
     ensures same { reader.new.opened ≡ reader.old.opened }
-    ensures kept { OnlyReads (S.objects store.old) (S.objects store.new) (S.draft store.old)
-        (S.draft store.new) }
-    ensures cause { HasCauseOf PrepareFault.StoreFault (S.faults store.old) (S.faults store.new) result }
+    ensures reads { ReadsFrom S.Source PrepareFault.StoreFault store.old store.new result }
 {
     match ahead {
         Some(other) => {
@@ -168,7 +160,6 @@ pub(crate) fn reduce_jobs<R: Threads, S: Source>(
     requires source { reader.old.opened.scale ≡ from.now }
     requires next { IsNext from.now to.now }
     requires cells { All (IsCell to.now) (cells_in jobs.now) }
-    requires bytes { IfSome (S.objects store.old) HaveBytes }
     requires room { HasRoom from.now to.now buffer.old }
     requires ahead { IfSome ahead.old (HasRoom from.now to.now) }
     requires each { All (Holds to.now) frames.old }
@@ -184,9 +175,7 @@ pub(crate) fn reduce_jobs<R: Threads, S: Source>(
     ensures room { HasRoom from.now to.now buffer.new }
     ensures ahead { IfSome ahead.new (HasRoom from.now to.now) }
     ensures same { reader.new.opened ≡ reader.old.opened }
-    ensures kept { OnlyReads (S.objects store.old) (S.objects store.new) (S.draft store.old)
-        (S.draft store.new) }
-    ensures cause { HasCauseOf PrepareFault.StoreFault (S.faults store.old) (S.faults store.new) result }
+    ensures reads { ReadsFrom S.Source PrepareFault.StoreFault store.old store.new result }
 {
     reader.forget();
     if count == 0 {

@@ -1,7 +1,6 @@
 //! Reducing jobs.
 ghost use Rattle.std.specs.Prelude.{◌≡◌, ◌≤◌, length, take, vec_capacity, IfSome};
-ghost use Rattle.vol_base.specs.Causes.{HasCauseOf};
-ghost use Rattle.vol_base.specs.Outside.{OnlyReads};
+ghost use Rattle.vol_base.specs.Calls.{ReadsFrom};
 ghost use Rattle.vol_spec.specs.Encodings.{raw_size};
 ghost use Rattle.vol_spec.specs.Grid.{IsCell};
 ghost use Rattle.vol_spec.specs.Raw.{raw_len};
@@ -51,9 +50,7 @@ pub(crate) fn cut_source<S: Source>(
     ensures room { HasRoom from.now to.now buffer.new }
     ensures keeps { KeepsIndex (S.objects store.old) reader.new }
     ensures same { reader.new.opened ≡ reader.old.opened }
-    ensures kept { OnlyReads (S.objects store.old) (S.objects store.new) (S.draft store.old)
-        (S.draft store.new) }
-    ensures cause { HasCauseOf PrepareFault.StoreFault (S.faults store.old) (S.faults store.new) result }
+    ensures reads { ReadsFrom S.Source PrepareFault.StoreFault store.old store.new result }
 {
     let part = source_box(from, to, cell);
     fit_buffer(buffer, byte_len(&part, from.channels, from.width) as usize);

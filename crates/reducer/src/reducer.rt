@@ -1,7 +1,6 @@
 //! The reducer.
 ghost use Rattle.std.specs.Prelude.{◌≡◌, ◌-◌, ◌<◌, ◌≤◌, ◌^◌, List, ℕ, length, IfOk, IfSome, IsOk, IsSome, OnOk};
-ghost use Rattle.vol_base.specs.Causes.{HasCauseOf};
-ghost use Rattle.vol_base.specs.Outside.{OnlyReads};
+ghost use Rattle.vol_base.specs.Calls.{ReadsFrom};
 ghost use Rattle.vol_spec.specs.StoredLists.{in_key_order};
 ghost use Rattle.vol_spec.specs.declared.scale.Scale.{Scale};
 ghost use Rattle.write_plan.specs.Jobs.{AreReady, Prepares, jobs_fault, window_of};
@@ -12,7 +11,7 @@ ghost use Rattle.reducer.specs.Reading.{HasRoom};
 
 use crate::ahead::reduce_jobs;
 use crate::sources::{Reductions, source_box};
-use chunk_grid::{byte_len, find_folder};
+use chunk_grid::byte_len;
 use copier::{find_placed, put_front, reserve_frames};
 use cutout::{KeepingReader, Reader};
 use reduce_laws::Method;
@@ -63,7 +62,6 @@ fn reserve_ahead(
 pub struct Reducer<'a, R> {
     rt: &'a R,
     reader: KeepingReader,
-    folder: Name,
     method: Method,
     from: Scale,
     to: Scale,
@@ -121,9 +119,7 @@ impl<'a, R: Threads> Reducer<'a, R> {
         ensures few { IfOk result (λ reducer. length (cells_of reducer.held) ≤ 2 ^ 22) }
         ensures jobs { IfOk result (λ reducer. IfSome (S.objects store.old) (λ m.
             cells_of reducer.held ≡ in_key_order to.now (reduced_cells m dataset.now from.now to.now))) }
-        ensures kept { OnlyReads (S.objects store.old) (S.objects store.new) (S.draft store.old)
-            (S.draft store.new) }
-        ensures cause { HasCauseOf StoreRefusal.Failed (S.faults store.old) (S.faults store.new) result }
+        ensures reads { ReadsFrom S.Source StoreRefusal.Failed store.old store.new result }
     {
         let Ok(mut reader) = Reader::open(alloc, dataset, from) else {
             return Err(StoreRefusal::OutOfMemory);
@@ -147,7 +143,6 @@ impl<'a, R: Threads> Reducer<'a, R> {
         Ok(Reducer {
             rt,
             reader: reader.keeping(),
-            folder: find_folder(dataset, from),
             method,
             from: from.duplicate(),
             to: to.duplicate(),
@@ -190,12 +185,8 @@ impl<'a, R: Threads> Chunks for Reducer<'a, R> {
     /// Does nothing: nothing is kept from call to call.
     fn forget(&mut self) {}
 
-    /// Reduces the source's values under the jobs. It takes no memory. That the objects are bytes, which the
-    /// reduced values rest on, is what a store tells of itself at any question: one is asked first.
+    /// Reduces the source's values under the jobs. It takes no memory.
     fn prepare<S: Store>(&mut self, store: &mut S, from: u64, to: u64) -> Result<(), PrepareFault> {
-        if store.size(&self.folder).is_err() {
-            return Err(PrepareFault::StoreFault);
-        }
         self.count = 0;
         let count = to - from;
         match reduce_jobs(

@@ -25,9 +25,9 @@ use Rattle.remote_store.specs.declared.wanted.Kind.{Kind}
 use Rattle.remote_store.specs.declared.wanted.Kind.TheVariants as kind
 use Rattle.remote_store.specs.declared.wanted.Promise.{Promise}
 use Rattle.remote_store.specs.declared.wanted.Wanted.TheVariants.{Part}
+use Rattle.remote_store.specs.ShownBytes.{looked}
 use Rattle.remote_store.proofs.HeardParts.{room_of}
 use Rattle.remote_store.proofs.KeySteps.{IsKey}
-use Rattle.remote_store.proofs.Looked.{looked}
 use Rattle.remote_store.proofs.PartReads.{read_by, said_long}
 
 -- of the objects that are shown, those of a peer that is told and serves the data set

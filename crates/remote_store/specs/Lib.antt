@@ -9,6 +9,7 @@ pub mod Reading
 pub mod Talks
 pub mod Quiet
 pub mod Shown
+pub mod ShownBytes
 pub mod Texts
 pub mod Bodies
 pub mod Placed

@@ -3,7 +3,7 @@ ghost use Rattle.std.specs.Prelude.{◌≡◌, ◌+◌, ◌<◌, ◌≤◌, ◌^
 ghost use Rattle.std.specs.Option.{option_map};
 ghost use Rattle.std.specs.FinMap as map;
 ghost use Rattle.vol_base.specs.Causes.{HasCause, Rose, counted, is_count};
-ghost use Rattle.vol_base.specs.Outside.{HaveBytes, KeepsRest, OnlyReads, Reads, asked_after};
+ghost use Rattle.vol_base.specs.Outside.{KeepsRest, OnlyReads, Reads, asked_after};
 ghost use Rattle.remote_store.specs.Bodies.{IsKeptBehind, got_of_kind, stretch_count};
 ghost use Rattle.remote_store.specs.Answers.{IsAsked};
 ghost use Rattle.remote_store.specs.Dials.{Dials, DialsOnce, DialsOnly};
@@ -248,6 +248,7 @@ impl<D: Dial> Remote<D> {
 impl<D: Dial> Source for Remote<D> {
     ghost use Rattle.std.specs.Prelude.{[], None};
     ghost use Rattle.remote_store.specs.Shown.{count_at_is};
+    ghost use Rattle.remote_store.specs.ShownBytes.{shown_bytes};
 
     ghost objects = { λ r. shown r.dataset (D.peer r.dial) };
 
@@ -264,10 +265,11 @@ impl<D: Dial> Source for Remote<D> {
       count_at_is (shown r.dataset (D.peer r.dial)) (D.faults r.dial) r.faults (D.counts r.dial).1,
     ) };
 
+    ghost bytes = { λ r. shown_bytes r.dataset (D.peer r.dial) (D.plain r.dial) };
+
     fn size(&mut self, name: &Name) -> Result<Option<u64>, Failed>
         ensures found { IfOk result (λ size. IfSome (shown self.old.dataset (D.peer self.old.dial)) (λ m.
             size ≡ option_map length (map.get m name.now))) }
-        ensures bytes { IfSome (shown self.old.dataset (D.peer self.old.dial)) HaveBytes }
         ensures kept { OnlyReads (shown self.old.dataset (D.peer self.old.dial))
             (shown self.new.dataset (D.peer self.new.dial)) None None }
         ensures asked { counted self.new.asked ≡ counted self.old.asked }
@@ -309,7 +311,6 @@ impl<D: Dial> Source for Remote<D> {
         ensures read { IfOk result (λ got. IfSome (shown self.old.dataset (D.peer self.old.dial)) (λ m.
             Reads (map.get m name.now) at out.old out.new got)) }
         ensures rest { IfOk result (KeepsRest out.old out.new) }
-        ensures bytes { IfSome (shown self.old.dataset (D.peer self.old.dial)) HaveBytes }
         ensures kept { OnlyReads (shown self.old.dataset (D.peer self.old.dial))
             (shown self.new.dataset (D.peer self.new.dial)) None None }
         ensures asked { OnOk result (counted self.new.asked ≡ asked_after (counted self.old.asked) (length out.old)) }

@@ -18,15 +18,17 @@ use Rattle.copy_laws.proofs.CopyValues.{AreInOrder-copied_cells, none_anywhere}
 use Rattle.copier.proofs.MarkSteps.{few_pass}
 use Rattle.copier.specs.Held.{Held, IsApart, cells_of, work_of}
 use Rattle.shard_writer.proofs.PlannedSteps.{chunk_by}
-use Rattle.shard_writer.specs.Writing as spared
-use Rattle.shard_writer.specs.Writing.{KnowsLens, PutsFront, PutsJobs, PutsSome, WritesAll, first_of_jobs, job_objects, joint_len, told_objects}
+use Rattle.shard_writer.specs.Works as spared
+use Rattle.shard_writer.specs.Writing.{PutsFront, joint_len}
+use Rattle.shard_writer.specs.Works.{KnowsLens, PutsJobs, PutsSome, WritesAll, first_of_jobs, job_objects, told_objects}
 use Rattle.shard_writer.specs.declared.written.Written.{Written}
 use Rattle.shard_writer.specs.declared.written.WriteFault.{WriteFault}
 use Rattle.shard_writer.specs.declared.written.WriteFault.TheVariants as writes
 use Rattle.write_plan.specs.Pairs.{cell_count}
 use Rattle.make_scale.specs.Making.{Puts, Wrote}
 use Rattle.vol_base.specs.declared.outside.StoreRefusal.{StoreRefusal}
-use Rattle.reshard_cmd.specs.Resharding.{HasCopyJobs, said_copy, PutsCopyFront, SparesFaulty, copy_fault, copy_list}
+use Rattle.reshard_cmd.specs.Resharding.{PutsCopyFront, SparesFaulty, copy_fault, copy_list}
+use Rattle.reshard_cmd.specs.Copies.{HasCopyJobs, said_copy}
 use Rattle.reshard_cmd.proofs.FaultSteps.{first_is, none_is}
 use Rattle.reshard_cmd.proofs.JobSteps.{as_many_jobs, job_by_job, objects_by_job, spared_by_job}
 

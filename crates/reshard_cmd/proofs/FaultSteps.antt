@@ -17,7 +17,8 @@ use Rattle.chunk_grid.proofs.ListingSteps.{Contains-cons, cells_in-IsCell}
 use Rattle.chunk_laws.specs.Told.{HasNoFault}
 use Rattle.copy_laws.proofs.CopyValues.{AreInOrder-copied_cells, fault_found}
 use Rattle.write_plan.proofs.KeySteps.{to_key_order}
-use Rattle.reshard_cmd.specs.Resharding.{IsFirstFault, copy_fault}
+use Rattle.reshard_cmd.specs.Resharding.{copy_fault}
+use Rattle.reshard_cmd.specs.Copies.{IsFirstFault}
 
 -- the first of a list is of one of its elements
 pub first_of : {X Y : Type 0} (f : X → Option Y) (xs : List X) (y : Y) → first_some (map f xs) ≡ Some y → (x : X) × Contains xs x × (f x ≡ Some y)

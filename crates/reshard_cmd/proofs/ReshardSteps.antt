@@ -18,7 +18,7 @@ use Rattle.make_scale.specs.Stored.{MakesStored, told_making}
 use Rattle.reshard_cmd.specs.Copying.{AllReadAsSource, CanReshard, CopiedBack, CopiesStored, CountsCopy, HasCopied, IsReadyCopy, IsRightCopy, named_in, refusal_line, told_copy}
 use Rattle.reshard_cmd.specs.Judging.{DiffersFirst}
 use Rattle.make_scale.specs.Refusals.{refusal_line as make_line, refusal_status}
-use Rattle.reshard_cmd.specs.Resharding.{IsCopied, said_copy}
+use Rattle.reshard_cmd.specs.Copies.{IsCopied, said_copy}
 use Rattle.make_scale.specs.declared.fault.MakeFault.TheVariants as fault
 use Rattle.make_scale.specs.declared.refusal.MakeRefusal.{MakeRefusal}
 use Rattle.make_scale.specs.declared.refusal.MakeRefusal.TheVariants as refused

@@ -11,7 +11,7 @@ use Rattle.copy_laws.specs.Copied.{copied_in, KeepsValues, ReadsAsSource}
 use Rattle.shard_writer.specs.Writing.{BeginsNext, Drops}
 use Rattle.shard_writer.specs.declared.written.Written.{Written}
 use Rattle.command_base.specs.Ending.{Ends}
-use Rattle.command_base.specs.Lines.{written_line}
+use Rattle.told_writer.specs.Lines.{count_line}
 use Rattle.command_base.specs.Outlets.{Outlets}
 use Rattle.command_base.specs.Scales.{stored_scale}
 use Rattle.command_base.specs.declared.refusal.NoScale.{NoScale}
@@ -110,10 +110,6 @@ CanReshard m from_dataset from_key to_dataset to_key =
     OfBoth (stored_scale m from_dataset from_key) (stored_scale m to_dataset to_key)
     (λ from to. IsReadyCopy m from to_dataset to × HasNoFault m from_dataset from)
 
--- the line of a copy that was made: how many objects were put, and how many cells they hold
-abbrev pub counts_line : Written → Bytes
-counts_line written = written_line written.objects written.cells
-
 -- the line of a refusal, with the name of the data set that it is told of
 abbrev pub refusal_line : Name → Name → MakeRefusal → Bytes
 refusal_line from_dataset to_dataset refusal =
@@ -132,4 +128,4 @@ abbrev pub Resharded : Status → Option Objects → Option Objects → Name →
 Resharded status told now from_dataset from_key to_dataset to_key o =
     (answer : Result Written MakeRefusal)
     × IsRightCopy answer told now from_dataset from_key to_dataset to_key
-    × Ends counts_line refusal_status (refusal_line from_dataset to_dataset) answer status o
+    × Ends count_line refusal_status (refusal_line from_dataset to_dataset) answer status o

@@ -1,3 +1,4 @@
+pub mod Copies
 pub mod CopyLaws
 pub mod Copying
 pub mod Judging

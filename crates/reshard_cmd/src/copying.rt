@@ -5,7 +5,8 @@ ghost use Rattle.vol_base.specs.Outside.{HaveBytes, Objects, OnlyReads, any_unde
 ghost use Rattle.vol_spec.specs.CellNames.{folder_of};
 ghost use Rattle.vol_spec.specs.Copies.{AreOfOneVolume};
 ghost use Rattle.vol_spec.specs.Writable.{IsWritable};
-ghost use Rattle.shard_writer.specs.Writing.{Drops, job_objects};
+ghost use Rattle.shard_writer.specs.Writing.{Drops};
+ghost use Rattle.shard_writer.specs.Works.{job_objects};
 ghost use Rattle.shard_writer.specs.declared.written.WriteFault.{WriteFault};
 ghost use Rattle.shard_writer.specs.declared.written.Written.{Written};
 ghost use Rattle.write_plan.specs.Pairs.{cell_count};
@@ -13,7 +14,8 @@ ghost use Rattle.command_base.specs.Scales.{HasOneSize};
 ghost use Rattle.copier.specs.Held.{IsApart, cells_of, work_of};
 ghost use Rattle.make_scale.specs.Making.{KeepsStore, Puts, Wrote};
 ghost use Rattle.reshard_cmd.specs.Judging.{Judges};
-ghost use Rattle.reshard_cmd.specs.Resharding.{DropsOrCopies, Reshards, copy_list, said_copy};
+ghost use Rattle.reshard_cmd.specs.Resharding.{copy_list};
+ghost use Rattle.reshard_cmd.specs.Copies.{DropsOrCopies, Reshards, said_copy};
 
 use crate::ReshardFault;
 use crate::judge::find_difference;

@@ -1,8 +1,7 @@
 //! One index of a shard.
 ghost use Rattle.std.specs.Prelude.{◌≡◌, ◌<◌, ◌≤◌, ◌+◌, ◌^◌, length, IfSome, OnOk, Err};
 ghost use Rattle.std.specs.FinMap as map;
-ghost use Rattle.vol_base.specs.Causes.{HasCauseOf};
-ghost use Rattle.vol_base.specs.Outside.{OnlyReads};
+ghost use Rattle.vol_base.specs.Calls.{ReadsFrom};
 ghost use Rattle.shard_keeper.specs.Keeping.{Adds, KeepsIndex};
 
 use crate::KeepFault;
@@ -38,9 +37,7 @@ pub fn keep_index<S: Source>(
     ensures added { OnOk result (Adds sharding.now home.now.shard home.now.minishard kept.old.items
         kept.new.items) }
     ensures few { OnOk result (length kept.new.items ≤ length kept.old.items + 2 ^ 22) }
-    ensures kept { OnlyReads (S.objects store.old) (S.objects store.new) (S.draft store.old)
-        (S.draft store.new) }
-    ensures cause { HasCauseOf KeepFault.NotRead (S.faults store.old) (S.faults store.new) result }
+    ensures reads { ReadsFrom S.Source KeepFault.NotRead store.old store.new result }
 {
     let span = match open_index(store, name, sharding, home.minishard) {
         Err(fault) => return Err(keep_fault(fault)),

@@ -1,7 +1,6 @@
 //! All rows of an index, read by 1,024 at a time, judged in order, and their ids kept where they belong there.
 ghost use Rattle.std.specs.Prelude.{◌≡◌, ◌≢◌, ◌+◌, ◌*◌, ◌<◌, ◌≤◌, ◌^◌, ◌++◌, ◌∷◌, [], ℕ, List, length, Err, IfErr, OnOk, Some, if◌then◌else◌, ⊤};
-ghost use Rattle.vol_base.specs.Causes.{HasCauseOf};
-ghost use Rattle.vol_base.specs.Outside.{OnlyReads};
+ghost use Rattle.vol_base.specs.Calls.{ReadsFrom};
 ghost use Rattle.vol_base.specs.declared.faults.Fault.{Fault};
 ghost use Rattle.vol_spec.specs.Rows.{Columns, columns_of, judged_row};
 ghost use Rattle.vol_spec.specs.Verdicts.{belongs};
@@ -145,9 +144,7 @@ pub fn keep_rows<S: Source>(
     ensures added { OnOk result (Adds sharding.now home.now.shard home.now.minishard kept.old.items
         kept.new.items) }
     ensures few { OnOk result (length kept.new.items ≤ length kept.old.items + span.now.rows) }
-    ensures kept { OnlyReads (S.objects store.old) (S.objects store.new) (S.draft store.old)
-        (S.draft store.new) }
-    ensures cause { HasCauseOf KeepFault.NotRead (S.faults store.old) (S.faults store.new) result }
+    ensures reads { ReadsFrom S.Source KeepFault.NotRead store.old store.new result }
 {
     let mut walk = Walk::new();
     while walk.rows() < span.rows {

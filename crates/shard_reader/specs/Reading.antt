@@ -3,6 +3,7 @@ use Rattle.std.specs.Prelude.{◌≡◌, ℕ, ◌+◌, ◌*◌, ◌<◌, ◌≤�
 use Rattle.std.specs.FinMap as map
 use Rattle.vol_base.specs.Outside.{Objects, part}
 use Rattle.vol_base.specs.declared.faults.IndexFault.{IndexFault}
+use Rattle.vol_base.specs.declared.outside.Failed.{Failed}
 use Rattle.vol_spec.specs.FoundChunks.{found, index_in, of_index, of_shard, rows_in}
 use Rattle.vol_spec.specs.Costs.{rows_cost, span_cost}
 use Rattle.vol_spec.specs.Places.{minishard_of}
@@ -18,6 +19,10 @@ use Rattle.shard_reader.specs.declared.bytes.LookupFault.{LookupFault}
 use Rattle.shard_reader.specs.declared.bytes.LookupFault.TheVariants.{NotRead, Faulty}
 use Rattle.shard_reader.specs.declared.scan.Seen.{Seen}
 use Rattle.shard_reader.specs.declared.scan.Seen.TheVariants.{Answer, Nothing}
+
+-- why a call of a store failed: the one value there is
+abbrev pub failure : Failed
+failure = record {}
 
 -- an object of a source, where the source tells that it is there
 abbrev pub told_object : Option Objects → Name → Option Bytes

@@ -1,8 +1,8 @@
 //! Bytes of an object.
 ghost use Rattle.std.specs.Prelude.{◌≡◌, ◌+◌, ◌<◌, ◌≤◌, ◌^◌, nat_le, ℕ, List, length, IfOk, Some};
-ghost use Rattle.vol_base.specs.Causes.{HasCause};
-ghost use Rattle.vol_base.specs.Outside.{OnlyReads, part};
-ghost use Rattle.shard_reader.specs.Reading.{told_object};
+ghost use Rattle.vol_base.specs.Calls.{ReadsFrom};
+ghost use Rattle.vol_base.specs.Outside.{part};
+ghost use Rattle.shard_reader.specs.Reading.{failure, told_object};
 
 use vol_base::{Failed, Fault, Got, Name, Source};
 
@@ -28,10 +28,8 @@ pub(crate) fn read_exact<S: Source>(
     ensures read { IfOk result (λ _. (object : List ℕ) →
         told_object (S.objects store.old) name.now ≡ Some object → at + length out.old ≤ length object →
         out.new ≡ part object at (length out.old)) }
-    ensures kept { OnlyReads (S.objects store.old) (S.objects store.new) (S.draft store.old)
-        (S.draft store.new) }
     ensures asked { S.asked store.new ≤ S.asked store.old + length out.old }
-    ensures cause { HasCause (S.faults store.old) (S.faults store.new) result }
+    ensures reads { ReadsFrom S.Source failure store.old store.new result }
 {
     match store.read_at(name, at, out) {
         Err(failed) => Err(failed),

@@ -1,8 +1,8 @@
 //! The bytes of a chunk.
 ghost use Rattle.std.specs.Prelude.{◌≡◌, ◌+◌, ◌<◌, ◌≤◌, ◌^◌, length, Err, IfErr, OnOk, take};
 ghost use Rattle.shard_reader.specs.Reading.{OnObject};
-ghost use Rattle.vol_base.specs.Causes.{HasCauseOf};
-ghost use Rattle.vol_base.specs.Outside.{OnlyReads, part};
+ghost use Rattle.vol_base.specs.Calls.{ReadsFrom};
+ghost use Rattle.vol_base.specs.Outside.{part};
 
 use crate::bytes::{LookupFault, read_exact};
 use vol_base::{Fault, Name, ShardFault, Source};
@@ -22,10 +22,8 @@ pub(crate) fn read_span<S: Source>(
         take span.now.len buffer.new ≡ part object span.now.start span.now.len)) }
     ensures whole { IfErr result (λ fault. OnObject (S.objects store.old) name.now (λ object.
         span.now.start + span.now.len ≤ length object → fault ≡ LookupFault.NotRead)) }
-    ensures kept { OnlyReads (S.objects store.old) (S.objects store.new) (S.draft store.old)
-        (S.draft store.new) }
     ensures asked { S.asked store.new ≤ S.asked store.old + span.now.len }
-    ensures cause { HasCauseOf LookupFault.NotRead (S.faults store.old) (S.faults store.new) result }
+    ensures reads { ReadsFrom S.Source LookupFault.NotRead store.old store.new result }
 {
     if span.len == 0 {
         return Ok(());

@@ -3,8 +3,7 @@ ghost use Rattle.std.specs.Prelude.{◌≡◌, ◌+◌, ◌*◌, ◌<◌, ◌≤
 ghost use Rattle.std.specs.Option.{ForSome};
 ghost use Rattle.std.specs.FinMap as map;
 ghost use Rattle.shard_reader.specs.Reading.{Opens};
-ghost use Rattle.vol_base.specs.Causes.{HasCauseOf};
-ghost use Rattle.vol_base.specs.Outside.{OnlyReads};
+ghost use Rattle.vol_base.specs.Calls.{ReadsFrom};
 ghost use Rattle.vol_spec.specs.Entries.{base_of, judged_entry};
 
 use crate::bytes::{LookupFault, read_exact};
@@ -43,10 +42,8 @@ pub fn open_index<S: Source>(
         Opens sharding.now minishard (map.get m name.now) result) }
     ensures few { IfOk result (λ o. IfSome o (λ opened. opened.index.rows ≤ 2 ^ 22)) }
     ensures fits { IfOk result (λ o. IfSome o (λ opened. opened.index.at + 24 * opened.index.rows < 2 ^ 64)) }
-    ensures kept { OnlyReads (S.objects store.old) (S.objects store.new) (S.draft store.old)
-        (S.draft store.new) }
     ensures asked { S.asked store.new ≤ S.asked store.old + 16 }
-    ensures cause { HasCauseOf LookupFault.NotRead (S.faults store.old) (S.faults store.new) result }
+    ensures reads { ReadsFrom S.Source LookupFault.NotRead store.old store.new result }
     ensures still { IfErr result (λ fault. fault ≢ LookupFault.NotRead → S.faults store.new ≡ S.faults store.old) }
 {
     let len = match store.size(name) {

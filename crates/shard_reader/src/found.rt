@@ -1,8 +1,7 @@
 //! The chunk of an id, in an index whose place is known.
 ghost use Rattle.std.specs.Prelude.{◌≡◌, ◌+◌, ◌*◌, ◌<◌, ◌≤◌, ◌^◌, ◌-◌, ℕ, true, Err, IfOk, IfSome, ◌≢◌, IfErr, OnOk};
 ghost use Rattle.shard_reader.specs.Reading.{Answers, EndsAt, EndsIn, IsOpened, IsWindow, OnIndex, OnObject, resumed, resumes};
-ghost use Rattle.vol_base.specs.Causes.{HasCauseOf};
-ghost use Rattle.vol_base.specs.Outside.{OnlyReads};
+ghost use Rattle.vol_base.specs.Calls.{ReadsFrom};
 ghost use Rattle.vol_spec.specs.Entries.{base_of};
 ghost use Rattle.vol_spec.specs.FoundChunks.{found, span_of};
 ghost use Rattle.vol_spec.specs.Places.{minishard_of};
@@ -70,8 +69,6 @@ pub(crate) fn find_chunk<S: Source>(
     ensures within { IfOk result (λ span. IfSome span (λ s. s.start + s.len < 2 ^ 64)) }
     ensures window { OnIndex (S.objects store.old) name.now opened.now.index.at opened.now.index.rows
         (IsWindow window.new.before window.new.count window.new.columns.bytes) }
-    ensures kept { OnlyReads (S.objects store.old) (S.objects store.new) (S.draft store.old)
-        (S.draft store.new) }
     ensures rows { window.new.before.rows + window.new.count ≤ opened.now.index.rows }
     ensures behind { OnIndex (S.objects store.old) name.now opened.now.index.at opened.now.index.rows (λ _.
         resumes window.new.before id ≡ true) }
@@ -86,7 +83,7 @@ pub(crate) fn find_chunk<S: Source>(
     ensures again { OnIndex (S.objects store.old) name.now opened.now.index.at opened.now.index.rows (λ bytes.
         (r : ℕ) → EndsAt (columns_of bytes) id r → window.old.before.rows ≤ r →
         r < window.old.before.rows + window.old.count → S.asked store.new ≡ S.asked store.old) }
-    ensures cause { HasCauseOf LookupFault.NotRead (S.faults store.old) (S.faults store.new) result }
+    ensures reads { ReadsFrom S.Source LookupFault.NotRead store.old store.new result }
     ensures still { IfErr result (λ fault. fault ≢ LookupFault.NotRead → S.faults store.new ≡ S.faults store.old) }
 {
     let row = match window.find(store, name, &opened.index, id) {

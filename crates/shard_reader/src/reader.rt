@@ -3,8 +3,7 @@ ghost use Rattle.std.specs.Prelude.{◌≡◌, ◌≢◌, ◌+◌, ◌*◌, ◌<
 ghost use Rattle.std.specs.FinMap as map;
 ghost use Rattle.shard_reader.specs.Keeping.{IsKept, IsOf};
 ghost use Rattle.shard_reader.specs.Reading.{Answers, chunk_bytes, chunk_cost, cost_of, found_of, Gets, IsWindow, OnIndex, Opens};
-ghost use Rattle.vol_base.specs.Causes.{HasCauseOf};
-ghost use Rattle.vol_base.specs.Outside.{OnlyReads};
+ghost use Rattle.vol_base.specs.Calls.{ReadsFrom};
 ghost use Rattle.vol_spec.specs.Costs.{span_cost};
 ghost use Rattle.vol_spec.specs.Places.{shard_of};
 ghost use Rattle.vol_spec.specs.ShardNames.{shard_name};
@@ -99,10 +98,8 @@ impl ShardReader {
         ensures same { IsOf self.old.kept place.now.shard place.now.minishard → self.new ≡ self.old }
         ensures asked_same { IsOf self.old.kept place.now.shard place.now.minishard →
             S.asked store.new ≡ S.asked store.old }
-        ensures kept { OnlyReads (S.objects store.old) (S.objects store.new) (S.draft store.old)
-            (S.draft store.new) }
         ensures asked { S.asked store.new ≤ S.asked store.old + 16 }
-        ensures cause { HasCauseOf LookupFault.NotRead (S.faults store.old) (S.faults store.new) result }
+        ensures reads { ReadsFrom S.Source LookupFault.NotRead store.old store.new result }
         ensures still { IfErr result (λ fault. fault ≢ LookupFault.NotRead → S.faults store.new ≡ S.faults store.old) }
     {
         if let Some(opened) = kept_of(&self.kept, place) {
@@ -147,9 +144,7 @@ impl ShardReader {
         ensures short { IfOk result (λ span. IfSome span (λ s. s.len ≤ limit)) }
         ensures within { IfOk result (λ span. IfSome span (λ s. s.start + s.len < 2 ^ 64)) }
         ensures keeps { Keeps (S.objects store.old) dataset.now scale.now sharding.now self.new }
-        ensures kept { OnlyReads (S.objects store.old) (S.objects store.new) (S.draft store.old)
-            (S.draft store.new) }
-        ensures cause { HasCauseOf LookupFault.NotRead (S.faults store.old) (S.faults store.new) result }
+        ensures reads { ReadsFrom S.Source LookupFault.NotRead store.old store.new result }
         ensures still { IfErr result (λ fault. fault ≢ LookupFault.NotRead → S.faults store.new ≡ S.faults store.old) }
 
         // The bytes asked for: an entry and an index, less what is kept of them, and none where the look-up
@@ -219,9 +214,7 @@ impl ShardReader {
         ensures ends { IfSome (S.objects store.old) (λ m.
             IfOk result (λ n. IfSome n (λ _. EndsKept self.new sharding.now id
             (map.get m (shard_name dataset.now scale.now (shard_of sharding.now id)))))) }
-        ensures kept { OnlyReads (S.objects store.old) (S.objects store.new) (S.draft store.old)
-            (S.draft store.new) }
-        ensures cause { HasCauseOf LookupFault.NotRead (S.faults store.old) (S.faults store.new) result }
+        ensures reads { ReadsFrom S.Source LookupFault.NotRead store.old store.new result }
         ensures asked { IfSome (S.objects store.old) (λ m.
             S.asked store.new ≤ S.asked store.old + chunk_cost
             (map.get m (shard_name dataset.now scale.now (shard_of sharding.now id))) sharding.now limit id) }

@@ -1,8 +1,7 @@
 //! Windows of an index: up to 1,024 of its rows, side by side, read at once.
 ghost use Rattle.std.specs.Prelude.{◌≡◌, ◌≢◌, ◌+◌, ◌-◌, ◌*◌, ◌<◌, ◌≤◌, ◌^◌, length, take, drop, Ok, Err, OnOk, OnErr, IfErr, IfOk, IfSome, true, ℕ};
 ghost use Rattle.shard_reader.specs.Reading.{Answers, EndsAt, EndsIn, EndsSeen, Holds, HoldsNumbers, IsAt, IsWindow, OnIndex, resumed, resumes, serves, sizes_of, starts_of, Tells};
-ghost use Rattle.vol_base.specs.Causes.{HasCauseOf};
-ghost use Rattle.vol_base.specs.Outside.{OnlyReads};
+ghost use Rattle.vol_base.specs.Calls.{ReadsFrom};
 ghost use Rattle.vol_spec.specs.FoundChunks.{of_index};
 ghost use Rattle.vol_spec.specs.Rows.{Columns, columns_of, find_in};
 
@@ -30,10 +29,8 @@ pub fn read_numbers<S: Source>(
         (HoldsNumbers from count out.new)) }
     ensures whole { IfErr result (λ fault. OnIndex (S.objects store.old) name.now index.now.at index.now.rows
         (λ _. fault ≡ LookupFault.NotRead)) }
-    ensures kept { OnlyReads (S.objects store.old) (S.objects store.new) (S.draft store.old)
-        (S.draft store.new) }
     ensures asked { S.asked store.new ≤ S.asked store.old + 8 * count }
-    ensures cause { HasCauseOf LookupFault.NotRead (S.faults store.old) (S.faults store.new) result }
+    ensures reads { ReadsFrom S.Source LookupFault.NotRead store.old store.new result }
     ensures still { IfErr result (λ fault. fault ≢ LookupFault.NotRead → S.faults store.new ≡ S.faults store.old) }
 {
     match read_exact(store, name, index.at + 8 * from, &mut out[..8 * count]) {
@@ -62,10 +59,8 @@ fn read_column<S: Source>(
     ensures front { take place columns.new ≡ take place columns.old }
     ensures whole { IfErr result (λ fault. OnIndex (S.objects store.old) name.now index.now.at index.now.rows
         (λ _. fault ≡ LookupFault.NotRead)) }
-    ensures kept { OnlyReads (S.objects store.old) (S.objects store.new) (S.draft store.old)
-        (S.draft store.new) }
     ensures asked { S.asked store.new ≤ S.asked store.old + 8 * count }
-    ensures cause { HasCauseOf LookupFault.NotRead (S.faults store.old) (S.faults store.new) result }
+    ensures reads { ReadsFrom S.Source LookupFault.NotRead store.old store.new result }
     ensures still { IfErr result (λ fault. fault ≢ LookupFault.NotRead → S.faults store.new ≡ S.faults store.old) }
 {
     match read_numbers(store, name, index, from, count, &mut columns[place..]) {
@@ -94,10 +89,8 @@ fn read_columns<S: Source>(
         (drop (2 * width) columns.new))) }
     ensures whole { IfErr result (λ fault. OnIndex (S.objects store.old) name.now index.now.at index.now.rows
         (λ _. fault ≡ LookupFault.NotRead)) }
-    ensures kept { OnlyReads (S.objects store.old) (S.objects store.new) (S.draft store.old)
-        (S.draft store.new) }
     ensures asked { S.asked store.new ≤ S.asked store.old + 24 * count }
-    ensures cause { HasCauseOf LookupFault.NotRead (S.faults store.old) (S.faults store.new) result }
+    ensures reads { ReadsFrom S.Source LookupFault.NotRead store.old store.new result }
     ensures still { IfErr result (λ fault. fault ≢ LookupFault.NotRead → S.faults store.new ≡ S.faults store.old) }
 {
     match read_column(store, name, index, first, count, columns, 0) {
@@ -135,10 +128,8 @@ fn read_rows<S: Source>(
         Holds (columns_of bytes) first count columns.new (starts_of columns.new) (sizes_of columns.new))) }
     ensures whole { IfErr result (λ fault. OnIndex (S.objects store.old) name.now index.now.at index.now.rows
         (λ _. fault ≡ LookupFault.NotRead)) }
-    ensures kept { OnlyReads (S.objects store.old) (S.objects store.new) (S.draft store.old)
-        (S.draft store.new) }
     ensures asked { S.asked store.new ≤ S.asked store.old + 24 * count }
-    ensures cause { HasCauseOf LookupFault.NotRead (S.faults store.old) (S.faults store.new) result }
+    ensures reads { ReadsFrom S.Source LookupFault.NotRead store.old store.new result }
     ensures still { IfErr result (λ fault. fault ≢ LookupFault.NotRead → S.faults store.new ≡ S.faults store.old) }
 {
     read_columns(store, name, index, first, count, columns, 8192)
@@ -230,11 +221,9 @@ impl Window {
             (starts_of self.new.columns.bytes) (sizes_of self.new.columns.bytes))) }
         ensures whole { IfErr result (λ fault. OnIndex
             (S.objects store.old) name.now index.now.at index.now.rows (λ _. fault ≡ LookupFault.NotRead)) }
-        ensures kept { OnlyReads (S.objects store.old) (S.objects store.new) (S.draft store.old)
-            (S.draft store.new) }
         ensures asked { OnOk result (S.asked store.new ≤ S.asked store.old + 24 * self.new.count) }
         ensures asked_err { S.asked store.new ≤ S.asked store.old + 24 * (index.now.rows - walk.now.rows) }
-        ensures cause { HasCauseOf LookupFault.NotRead (S.faults store.old) (S.faults store.new) result }
+        ensures reads { ReadsFrom S.Source LookupFault.NotRead store.old store.new result }
         ensures still { IfErr result (λ fault. fault ≢ LookupFault.NotRead → S.faults store.new ≡ S.faults store.old) }
     {
         self.clear();
@@ -306,8 +295,6 @@ impl Window {
             resumes self.new.before id ≡ true) }
         ensures window { OnIndex (S.objects store.old) name.now index.now.at index.now.rows
             (IsWindow self.new.before self.new.count self.new.columns.bytes) }
-        ensures kept { OnlyReads (S.objects store.old) (S.objects store.new) (S.draft store.old)
-            (S.draft store.new) }
         ensures asked { S.asked store.new ≤ S.asked store.old
             + 24 * (index.now.rows - (self.old.before.rows + self.old.count)) }
         // The rows up to the end of the window are read once each, but for those that were there.
@@ -320,7 +307,7 @@ impl Window {
         ensures again { OnIndex (S.objects store.old) name.now index.now.at index.now.rows (λ bytes. (r : ℕ) →
             EndsAt (columns_of bytes) id r → r < self.old.before.rows + self.old.count →
             S.asked store.new ≡ S.asked store.old) }
-        ensures cause { HasCauseOf LookupFault.NotRead (S.faults store.old) (S.faults store.new) result }
+        ensures reads { ReadsFrom S.Source LookupFault.NotRead store.old store.new result }
         ensures still { IfErr result (λ fault. fault ≢ LookupFault.NotRead → S.faults store.new ≡ S.faults store.old) }
     {
         let mut walk = self.before.duplicate();
@@ -386,8 +373,6 @@ impl Window {
             resumes self.new.before id ≡ true) }
         ensures window { OnIndex (S.objects store.old) name.now index.now.at index.now.rows
             (IsWindow self.new.before self.new.count self.new.columns.bytes) }
-        ensures kept { OnlyReads (S.objects store.old) (S.objects store.new) (S.draft store.old)
-            (S.draft store.new) }
         ensures asked { S.asked store.new ≤ S.asked store.old
             + 24 * (index.now.rows - resumed self.old.before self.old.count index.now.rows id) }
         ensures once { OnOk result (S.asked store.new
@@ -399,7 +384,7 @@ impl Window {
         ensures again { OnIndex (S.objects store.old) name.now index.now.at index.now.rows (λ bytes. (r : ℕ) →
             EndsAt (columns_of bytes) id r → self.old.before.rows ≤ r →
             r < self.old.before.rows + self.old.count → S.asked store.new ≡ S.asked store.old) }
-        ensures cause { HasCauseOf LookupFault.NotRead (S.faults store.old) (S.faults store.new) result }
+        ensures reads { ReadsFrom S.Source LookupFault.NotRead store.old store.new result }
         ensures still { IfErr result (λ fault. fault ≢ LookupFault.NotRead → S.faults store.new ≡ S.faults store.old) }
     {
         if self.serves(index.rows, id) {

@@ -13,7 +13,8 @@ use Rattle.vol_spec.specs.declared.sharding.Sharding.{Sharding}
 use Rattle.write_plan.specs.declared.jobs.Job.{Job}
 use Rattle.shard_writer.specs.ShardRuns.{AreOrdered, chunk_of, shards_between}
 use Rattle.shard_writer.specs.States.{IsBetween, IsPlace}
-use Rattle.shard_writer.specs.Writing.{BeginsNext, Drops, raw_in}
+use Rattle.shard_writer.specs.Writing.{BeginsNext, Drops}
+use Rattle.shard_writer.specs.Works.{raw_in}
 use Rattle.shard_writer.proofs.ObjectSteps.{first_between}
 use Rattle.shard_writer.proofs.StateSteps.{front_of as split_front}
 

@@ -14,7 +14,8 @@ use Rattle.write_plan.specs.Jobs.{KeepsOthers, Prepares, Work, jobs_fault}
 use Rattle.write_plan.specs.declared.chunks.PrepareFault.{PrepareFault}
 use Rattle.shard_writer.specs.Faults.{of_jobs, of_store}
 use Rattle.shard_writer.specs.Plain.{bytes_from, stored_from, WritesPart}
-use Rattle.shard_writer.specs.Writing.{Puts, PutsFront, SparesFaulty, WritesAll, stored_by}
+use Rattle.shard_writer.specs.Writing.{PutsFront}
+use Rattle.shard_writer.specs.Works.{Puts, SparesFaulty, WritesAll, stored_by}
 use Rattle.shard_writer.specs.declared.written.WriteFault.{WriteFault}
 use Rattle.shard_writer.proofs.CountSteps.{store_answer, writes_none}
 use Rattle.shard_writer.proofs.PutSteps.{as_error, none_put}

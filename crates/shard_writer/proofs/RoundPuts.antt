@@ -8,7 +8,7 @@ use Rattle.vol_spec.specs.declared.scale.Scale.{Scale}
 use Rattle.write_plan.specs.Jobs.{Work}
 use Rattle.encode_round.specs.Ready.{chunk_ready}
 use Rattle.shard_writer.specs.Plain.{job_object, ready_objects}
-use Rattle.shard_writer.specs.Writing.{Puts}
+use Rattle.shard_writer.specs.Works.{Puts}
 use Rattle.shard_writer.proofs.PutSteps.{none_puts, puts_more, puts_stopped}
 use Rattle.shard_writer.proofs.WindowSteps.{map-range-split}
 

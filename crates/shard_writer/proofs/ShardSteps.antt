@@ -23,7 +23,8 @@ use Rattle.shard_writer.specs.Faults.{of_jobs, of_store}
 use Rattle.shard_writer.specs.Serving.{PreparesOn, first_fault}
 use Rattle.shard_writer.specs.ShardRuns.{chunk_of, jobs_in, shards_between}
 use Rattle.shard_writer.specs.States.{Appends, AreStored, begun_if, front_of, IsOpen, with_len}
-use Rattle.shard_writer.specs.Writing.{BeginsNext, Drops, NeverDamaged, WritesAll, WritesJobs, first_of_jobs, job_len, joint_len, raw_in, stored_by, told_chunk}
+use Rattle.shard_writer.specs.Writing.{BeginsNext, Drops, joint_len}
+use Rattle.shard_writer.specs.Works.{NeverDamaged, WritesAll, WritesJobs, first_of_jobs, job_len, raw_in, stored_by, told_chunk}
 use Rattle.shard_writer.specs.declared.steps.Ahead.{Ahead}
 use Rattle.shard_writer.specs.declared.written.WriteFault.{WriteFault}
 use Rattle.shard_writer.specs.declared.written.Written.{Written}

@@ -8,7 +8,8 @@ use Rattle.vol_spec.specs.declared.scale.Scale.{Scale}
 use Rattle.vol_spec.proofs.Told.{from_told, in_told}
 use Rattle.write_plan.specs.Jobs.{Work, jobs_fault}
 use Rattle.shard_writer.specs.Plain.{WritesPart}
-use Rattle.shard_writer.specs.Writing.{Drops, DropsOrBegins, NeverDamaged, PutsSome, SparesFaulty, WritesAll, WritesJobs, first_of_jobs, job_objects}
+use Rattle.shard_writer.specs.Writing.{Drops}
+use Rattle.shard_writer.specs.Works.{DropsOrBegins, NeverDamaged, PutsSome, SparesFaulty, WritesAll, WritesJobs, first_of_jobs, job_objects}
 use Rattle.shard_writer.specs.declared.written.WriteFault.{WriteFault}
 use Rattle.shard_writer.specs.declared.written.WriteFault.TheVariants.{OutOfMemory}
 use Rattle.shard_writer.specs.declared.written.WriteFault.TheVariants as faults

@@ -1,6 +1,6 @@
 -- The views of a scale, and its first view, which says what the scale says.
 use Rattle.std.proofs.Common.{◌≡◌, ◌+◌, ℕ, List, [], length, map, Option, Some, None, Ok, Err, refl, ap, ◌∙◌, sym}
-use Rattle.std.specs.Prelude.{All, Result, ℤ}
+use Rattle.std.specs.Prelude.{All, Result, ℤ, flat_map, option_map}
 use Rattle.std.specs.FinMap as fin
 use Rattle.vol_base.specs.declared.faults.Fault.{Fault}
 use Rattle.vol_spec.specs.declared.sharding.Sharding.{Sharding}
@@ -10,8 +10,9 @@ use Rattle.std.proofs.Common.{◌∷◌}
 use Rattle.vol_base.specs.Outside.{Objects}
 use Rattle.vol_base.specs.declared.boxes.Box3.{Box3}
 use Rattle.vol_spec.proofs.SameScale.{same_scale}
-use Rattle.vol_spec.specs.CellNames.{cell_name}
-use Rattle.vol_spec.specs.Chunks.{chunk_in, judged, value_in, value_of}
+use Rattle.vol_spec.specs.BoxValues.{before_fault, bytes_of, first_some, values_of}
+use Rattle.vol_spec.specs.Chunks.{chunk_in, fault_of, judged, value_in, value_of}
+use Rattle.vol_spec.specs.Cut.{cut, first_fault}
 use Rattle.vol_spec.specs.Grid.{cell_at, cell_box, cells_in}
 use Rattle.vol_spec.specs.LastWrite.{Before}
 use Rattle.vol_spec.specs.StoredBytes.{held, held_by, object_by, object_of, stored_bytes}
@@ -19,6 +20,7 @@ use Rattle.vol_spec.specs.StoredCells.{chunks_of, met_cells, written_raw}
 use Rattle.vol_spec.specs.Types.{Bytes, Cell, Name, Writes}
 use Rattle.vol_spec.specs.Views.{chunk_of, view, views}
 use Rattle.vol_spec.specs.declared.scale.Scale.{Scale}
+use Rattle.size_laws.specs.FirstViews.{SaysSame}
 use Rattle.size_laws.specs.Sizes.{CanWriteViews, IsView}
 use Rattle.size_laws.specs.Further.{CanStore, all_views, further}
 
@@ -48,10 +50,6 @@ view-first s alone = same_scale (view s 0) s refl refl refl refl refl refl refl 
 pub first-box : (s : Scale) (cell : Cell) → cell_box (view s 0) cell ≡ cell_box s cell
 unfolding view
 first-box s cell = refl
-
-pub first-name : (dataset : Name) (s : Scale) (cell : Cell) → cell_name dataset (view s 0) cell ≡ cell_name dataset s cell
-unfolding view
-first-name dataset s cell = refl
 
 pub first-cells : (s : Scale) (b : Box3) → cells_in (view s 0) b ≡ cells_in s b
 unfolding view
@@ -105,6 +103,27 @@ first-value objects dataset s p c =
 pub first-written : (s : Scale) (before : Before) (writes : Writes) → chunks_of (view s 0) before writes ≡ chunks_of s before writes
 unfolding view chunks_of met_cells written_raw
 first-written s before writes = refl
+
+pub first-cut : (objects : Objects) (dataset : Name) (s : Scale) (b : Box3) → cut objects dataset (view s 0) b ≡ cut objects dataset s b
+unfolding view cut
+first-cut objects dataset s b = λ i. flat_map (bytes_of s.width) (before_fault (values_of b s.channels (λ p c. first-value objects dataset s p c i)))
+
+pub first-fault : (objects : Objects) (dataset : Name) (s : Scale) (b : Box3) → first_fault objects dataset (view s 0) b ≡ first_fault objects dataset s b
+unfolding view first_fault
+first-fault objects dataset s b = λ i. first_some (map (λ cell. option_map (λ fault. (cell, fault)) (fault_of (first-chunk objects dataset s cell i))) (cells_in s b))
+
+-- the first view says what the scale says
+pub first_says : (dataset : Name) (s : Scale) → SaysSame dataset s (view s 0)
+first_says dataset s = record {
+  cells = first-cells s;
+  boxes = first-box s;
+  names = first-object dataset s;
+  faults = λ m cell. ap fault_of (first-chunk m dataset s cell);
+  values = λ m. first-value m dataset s;
+  cuts = λ m. first-cut m dataset s;
+  firsts = λ m. first-fault m dataset s;
+  written = first-written s;
+}
 
 -- an unsharded scale and its further views are views of one volume
 itself : (s : Scale) → s.sharding ≡ None → IsView s s

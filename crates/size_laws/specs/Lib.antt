@@ -1,3 +1,4 @@
 pub mod Findings
+pub mod FirstViews
 pub mod Further
 pub mod Sizes

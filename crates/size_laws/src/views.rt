@@ -9,8 +9,10 @@ ghost use Rattle.vol_spec.specs.Grid.{Inside, IsCell, cell_box};
 ghost use Rattle.vol_spec.specs.Types.{Writes};
 ghost use Rattle.vol_spec.specs.declared.scale.Scale.{Scale as ScaleOf};
 ghost use Rattle.vol_spec.specs.Verdicts.{Sound};
+ghost use Rattle.vol_spec.specs.Views.{view};
 ghost use Rattle.chunk_laws.specs.Told.{HasLastWrites, HasNoFault};
 ghost use Rattle.size_laws.specs.Findings.{first_finding};
+ghost use Rattle.size_laws.specs.FirstViews.{SaysSame};
 ghost use Rattle.size_laws.specs.Sizes.{AllSound, CanWriteViews, IsView, written_all};
 
 use vol_base::Name;
@@ -19,6 +21,8 @@ use vol_spec::Scale;
 /// Does nothing: its clauses say what objects say of the views of a scale, once writes are stored in each of
 /// them. A view here is any unsharded scale that differs in its chunk size alone.
 pub fn tell_views(dataset: &Name, scale: &Scale)
+    // What is said of a scale of several sizes is said of its first view.
+    ensures first { SaysSame dataset.now scale.now (view scale.now 0) }
     // Objects of two views that have one name have one box.
     ensures names { (u v : ScaleOf) (a b : List ℕ) → IsView scale.now u → IsView scale.now v → IsCell u a
         → IsCell v b → cell_name dataset.now u a ≡ cell_name dataset.now v b → cell_box u a ≡ cell_box v b }

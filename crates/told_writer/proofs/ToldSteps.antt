@@ -4,7 +4,8 @@ use Rattle.std.specs.Prelude.{IfOk, OnErr, OnOk, Result, length}
 use Rattle.vol_base.specs.Outside.{Objects}
 use Rattle.vol_spec.specs.Types.{Name}
 use Rattle.write_plan.specs.Jobs.{Work}
-use Rattle.shard_writer.specs.Writing.{KnowsLens, PutsJobs, PutsSome, SparesFaulty, WritesAll, first_of_jobs, joint_len, told_objects}
+use Rattle.shard_writer.specs.Writing.{joint_len}
+use Rattle.shard_writer.specs.Works.{KnowsLens, PutsJobs, PutsSome, SparesFaulty, WritesAll, first_of_jobs, told_objects}
 use Rattle.shard_writer.specs.declared.written.WriteFault.{WriteFault}
 use Rattle.shard_writer.specs.declared.written.Written.{Written}
 use Rattle.told_writer.specs.Told.{Wrote}

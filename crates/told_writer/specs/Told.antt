@@ -4,7 +4,8 @@ use Rattle.vol_base.specs.Outside.{Objects}
 use Rattle.vol_spec.specs.StoredCells.{put_in}
 use Rattle.vol_spec.specs.Types.{Name}
 use Rattle.write_plan.specs.Jobs.{Work}
-use Rattle.shard_writer.specs.Writing.{PutsFront, SparesFaulty, WritesAll, first_of_jobs, job_objects, joint_len}
+use Rattle.shard_writer.specs.Writing.{PutsFront, joint_len}
+use Rattle.shard_writer.specs.Works.{SparesFaulty, WritesAll, first_of_jobs, job_objects}
 use Rattle.shard_writer.specs.declared.written.WriteFault.{WriteFault}
 use Rattle.shard_writer.specs.declared.written.Written.{Written}
 

@@ -1,7 +1,8 @@
 //! Jobs that are written.
 ghost use Rattle.std.specs.Prelude.{◌≡◌, ◌≤◌, ◌^◌, None, IfSome, OnOk, length};
 ghost use Rattle.vol_base.specs.Causes.{HasCauseOf};
-ghost use Rattle.shard_writer.specs.Writing.{Drops, DropsOrBegins, NeverDamaged};
+ghost use Rattle.shard_writer.specs.Writing.{Drops};
+ghost use Rattle.shard_writer.specs.Works.{DropsOrBegins, NeverDamaged};
 ghost use Rattle.told_writer.specs.Told.{Wrote};
 ghost use Rattle.vol_spec.specs.Writable.{IsWritable};
 

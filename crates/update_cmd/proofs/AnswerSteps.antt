@@ -28,7 +28,8 @@ use Rattle.update_laws.proofs.NameSteps.{updated_whole}
 use Rattle.update_laws.proofs.ReadSteps.{updated_cut, updated_faultless, updated_value}
 use Rattle.update_laws.specs.Judged.{refusal_in}
 use Rattle.update_laws.specs.Overlaid.{after}
-use Rattle.update_laws.specs.Updated.{CanUpdate, updated_in}
+use Rattle.update_laws.specs.Updated.{updated_in}
+use Rattle.update_laws.specs.Laws.{CanUpdate}
 use Rattle.view_writer.proofs.PairSteps.{each_few}
 use Rattle.view_writer.specs.Views.{first_wide}
 use Rattle.write_cmd.proofs.PlanSteps.{few_cells}
@@ -41,7 +42,8 @@ use Rattle.write_plan.specs.declared.fault.PlanFault.{PlanFault}
 use Rattle.write_plan.specs.declared.fault.PlanFault.TheVariants.{FeedFault as StreamFeed, BadMagic, TooManyWrites, EmptyBox, OutsideBox, WritesTooLarge, Truncated, TrailingBytes, OutOfMemory as StreamMemory}
 use Rattle.update_cmd.specs.Answering.{AllReadUpdated, AnswersAll, AnswersScale, CanBeUpdated, DropsUnsharded, HasUpdated, IsRight, Judges, KeepsFeed, LeavesStore, ReadsWritable, UpdateFront, UpdatedBack}
 use Rattle.update_cmd.specs.Refusals.{not_updated, unstreamed, update_line, update_status}
-use Rattle.update_cmd.specs.Updating.{HasTooMany, KeepsStore, PutsJudgedFront, UpdatesScale, update_fault}
+use Rattle.update_cmd.specs.Updating.{HasTooMany, PutsJudgedFront, update_fault}
+use Rattle.update_cmd.specs.Putting.{KeepsStore, UpdatesScale}
 use Rattle.update_cmd.specs.declared.fault.UpdateFault.{UpdateFault}
 use Rattle.update_cmd.specs.declared.fault.UpdateFault.TheVariants as fault
 use Rattle.update_cmd.specs.declared.refusal.UpdateRefusal.{UpdateRefusal}

@@ -4,14 +4,15 @@ use Rattle.std.specs.Prelude.{IsOkAnd}
 use Rattle.vol_base.specs.Outside.{Draft, Objects}
 use Rattle.vol_spec.specs.Types.{Bytes, Name, Writes}
 use Rattle.vol_spec.specs.declared.scale.Scale.{Scale}
-use Rattle.shard_writer.specs.Writing.{BeginsNext, Drops, DropsOrBegins}
+use Rattle.shard_writer.specs.Writing.{BeginsNext, Drops}
+use Rattle.shard_writer.specs.Works.{DropsOrBegins}
 use Rattle.updater.specs.Updates as updater
 use Rattle.updater.specs.Updates.{work_of}
 use Rattle.write_plan.specs.Stream.{writes_of}
 use Rattle.command_base.specs.Scales.{stored_scale}
 use Rattle.update_cmd.proofs.UpdatingSteps.{IsOf, updater_objects}
 use Rattle.update_cmd.specs.Answering.{BeginsUpdate, DropsOrPuts, ReadsWritable}
-use Rattle.update_cmd.specs.Updating.{DropsOrUpdates, HasUpdateJobs}
+use Rattle.update_cmd.specs.Putting.{DropsOrUpdates, HasUpdateJobs}
 
 -- the jobs of an updater are the objects of its writes
 pub updated_begun : (o now : Option Objects) (u : updater.Updates) (dataset : List ℕ) (s : Scale) (before after : Option Draft) → IsOf u dataset s → IfSome o (λ m. HasUpdateJobs m u dataset s)

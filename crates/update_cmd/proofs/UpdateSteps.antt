@@ -19,7 +19,8 @@ use Rattle.write_plan.proofs.KeySteps.{length-in_key_order}
 use Rattle.write_plan.specs.Plans.{Planned, pairs}
 use Rattle.write_plan.specs.declared.plan.PlanRefusal.{PlanRefusal}
 use Rattle.write_plan.specs.declared.plan.PlanRefusal.TheVariants as refusals
-use Rattle.update_cmd.specs.Updating.{HasUpdateJobs, IsLate, KeepsStore, PutsUpdateFront, Updates, UpdatesPlanned, UpdatesScale, not_planned, refused}
+use Rattle.update_cmd.specs.Updating.{PutsUpdateFront}
+use Rattle.update_cmd.specs.Putting.{HasUpdateJobs, IsLate, KeepsStore, Updates, UpdatesPlanned, UpdatesScale, not_planned, refused}
 use Rattle.update_cmd.specs.declared.fault.UpdateFault.{UpdateFault}
 use Rattle.update_cmd.specs.declared.fault.UpdateFault.TheVariants.{TooManyCells, BadShard, StoreFault, Damaged, OutOfMemory}
 

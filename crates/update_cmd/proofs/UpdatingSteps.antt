@@ -22,22 +22,24 @@ use Rattle.vol_spec.specs.declared.scale.Scale.{Scale}
 use Rattle.copier.specs.Held.{cells_of}
 use Rattle.copier.specs.HeldLaws.{held_jobs}
 use Rattle.shard_writer.proofs.PlannedSteps.{by_place, chunk_by, stored_by_key}
-use Rattle.shard_writer.specs.Writing as spared
-use Rattle.shard_writer.specs.Writing.{KnowsLens, PutsFront, PutsJobs, PutsSome, WritesAll, first_of_jobs, job_objects, joint_len, told_objects}
+use Rattle.shard_writer.specs.Works as spared
+use Rattle.shard_writer.specs.Writing.{PutsFront, joint_len}
+use Rattle.shard_writer.specs.Works.{KnowsLens, PutsJobs, PutsSome, WritesAll, first_of_jobs, job_objects, told_objects}
 use Rattle.shard_writer.specs.declared.written.Written.{Written}
 use Rattle.shard_writer.specs.declared.written.WriteFault.{WriteFault}
 use Rattle.shard_writer.specs.declared.written.WriteFault.TheVariants as writes
 use Rattle.write_plan.proofs.KeySteps.{distinct_cells, from_key_order, length-in_key_order, to_key_order}
 use Rattle.write_plan.specs.Jobs.{KeepsOthers}
 use Rattle.update_laws.specs.Overlaid.{after, after_cells, after_raw, overlaid}
-use Rattle.update_laws.specs.Updated.{CanUpdate}
+use Rattle.update_laws.specs.Laws.{CanUpdate}
 use Rattle.update_laws.proofs.NameSteps.{untouched_name}
 use Rattle.update_laws.proofs.OwnSteps.{fault_own, overlaid_read, own_fault, raw_own}
 use Rattle.update_laws.proofs.ReadSteps.{updated_sound, updated_value}
 use Rattle.update_laws.proofs.UpdateSteps.{AreInOrder-after}
 use Rattle.updater.specs.Updates as updater
 use Rattle.updater.specs.Updates.{IsApart, work_of}
-use Rattle.update_cmd.specs.Updating.{HasUpdateJobs, PutsUpdateFront, SparesFaulty, Updates, unwritten, update_fault, update_list}
+use Rattle.update_cmd.specs.Updating.{PutsUpdateFront, SparesFaulty, update_fault, update_list}
+use Rattle.update_cmd.specs.Putting.{HasUpdateJobs, Updates, unwritten}
 use Rattle.update_cmd.specs.declared.fault.UpdateFault.{UpdateFault}
 use Rattle.told_writer.specs.Told.{Wrote}
 

@@ -1,5 +1,5 @@
 -- What `update` answers over the objects that a store tells and the stream that a feed tells (this project's profile).
-use Rattle.std.specs.Prelude.{◌≡◌, ◌⊎◌, ◌≤◌, ◌<◌, ◌^◌, [], length, All, Option, Some, None, Result, Ok, Err, IfErr, IfOk, IfSome, IsOkAnd, IsSomeAnd}
+use Rattle.std.specs.Prelude.{◌≡◌, ◌⊎◌, ◌≤◌, ◌^◌, [], Option, Some, None, Result, Ok, Err, IfErr, IfOk, IfSome, IsOkAnd, IsSomeAnd}
 use Rattle.std.specs.Option.{option_map}
 use Rattle.vol_base.specs.Outside.{Draft, Objects, OnlyReads}
 use Rattle.vol_base.specs.declared.boxes.Box3.{Box3}
@@ -10,17 +10,16 @@ use Rattle.vol_spec.specs.Writable.{IsWritable}
 use Rattle.vol_spec.specs.declared.scale.Scale.{Scale}
 use Rattle.shard_writer.specs.Writing.{BeginsNext, Drops}
 use Rattle.shard_writer.specs.declared.written.Written.{Written}
-use Rattle.size_laws.specs.Further.{all_views}
 use Rattle.update_laws.specs.Judged.{refusal_in}
 use Rattle.update_laws.specs.Judged.Refusal.{BadShard as BadShardOf}
 use Rattle.update_laws.specs.Updated.{HasUpdates, ReadsUpdated, updated_in}
-use Rattle.view_writer.specs.Views.{first_wide}
+use Rattle.view_writer.specs.Views.{HasSeveralSizes, IsTooWide}
 use Rattle.write_plan.specs.Plans.{pairs}
 use Rattle.write_plan.specs.Stream.{writes_of}
 use Rattle.write_plan.specs.declared.fault.PlanFault.{PlanFault}
 use Rattle.write_cmd.specs.Storing.{Listing}
 use Rattle.command_base.specs.Ending.{Ends}
-use Rattle.command_base.specs.Lines.{written_line}
+use Rattle.told_writer.specs.Lines.{count_line}
 use Rattle.command_base.specs.Outlets.{Outlets}
 use Rattle.command_base.specs.Scales.{HasOneSize, IsWritableAlone, stored_scale}
 use Rattle.command_base.specs.declared.refusal.NoScale.{NoScale}
@@ -85,9 +84,9 @@ abbrev pub AnswersAll : Result Written UpdateRefusal → Result Scale NoScale �
     Listing → Name → Name → Type 0
 AnswersAll (Err (refused.NoScale why)) told m now list dataset key = (now ≡ Some m) × (told ≡ Err why)
 AnswersAll (Err (refused.TooManyVoxels voxels)) told m now list dataset key = (now ≡ Some m) ×
-    IsOkAnd told (λ s. first_wide (all_views s) ≡ Some voxels)
+    IsOkAnd told (λ s. IsTooWide s voxels)
 AnswersAll (Err refused.SeveralSizes) told m now list dataset key = (now ≡ Some m) ×
-    IsOkAnd told (λ s. All IsWritable (all_views s) × (0 < length s.more))
+    IsOkAnd told HasSeveralSizes
 AnswersAll (Err refused.StoreFault) told m now list dataset key = (now ≡ Some m) ⊎
     IsOkAnd told (λ s. UpdateFront m now (list s) dataset s)
 AnswersAll (Err refused.NoMemory) told m now list dataset key = (now ≡ Some m) ⊎
@@ -99,9 +98,8 @@ AnswersAll result told m now list dataset key = IsOkAnd told (λ s. IsWritableAl
 -- chunk size, and the feed is read only then
 abbrev pub Judges : Result Written UpdateRefusal → Result Scale NoScale → Type 0
 Judges (Err (refused.NoScale why)) told = told ≡ Err why
-Judges (Err (refused.TooManyVoxels voxels)) told =
-    IsOkAnd told (λ s. first_wide (all_views s) ≡ Some voxels)
-Judges (Err refused.SeveralSizes) told = IsOkAnd told (λ s. All IsWritable (all_views s) × (0 < length s.more))
+Judges (Err (refused.TooManyVoxels voxels)) told = IsOkAnd told (λ s. IsTooWide s voxels)
+Judges (Err refused.SeveralSizes) told = IsOkAnd told HasSeveralSizes
 Judges (Err refused.StoreFault) told = Unit {0}
 Judges (Err refused.NoMemory) told = Unit {0}
 Judges result told = IsOkAnd told IsWritableAlone
@@ -110,10 +108,8 @@ Judges result told = IsOkAnd told IsWritableAlone
 abbrev pub ReadsWritable : Result Scale UpdateRefusal → Result Scale NoScale → Type 0
 ReadsWritable (Ok s) told = (told ≡ Ok s) × IsWritableAlone s
 ReadsWritable (Err (refused.NoScale why)) told = told ≡ Err why
-ReadsWritable (Err (refused.TooManyVoxels voxels)) told =
-    IsOkAnd told (λ s. first_wide (all_views s) ≡ Some voxels)
-ReadsWritable (Err refused.SeveralSizes) told =
-    IsOkAnd told (λ s. All IsWritable (all_views s) × (0 < length s.more))
+ReadsWritable (Err (refused.TooManyVoxels voxels)) told = IsOkAnd told (λ s. IsTooWide s voxels)
+ReadsWritable (Err refused.SeveralSizes) told = IsOkAnd told HasSeveralSizes
 ReadsWritable (Err refused.StoreFault) told = Unit {0}
 ReadsWritable (Err refused.NoMemory) told = Unit {0}
 ReadsWritable (Err other) told = ⊥
@@ -159,10 +155,6 @@ pub record IsRight (answer : Result Written UpdateRefusal) (told now : Option Ob
       AnswersAll answer (stored_scale m dataset key) m now (writes_of bytes) dataset key))
   pub feed : KeepsFeed answer left_old left_new
   pub store : IfErr answer (λ refusal. LeavesStore refusal told now before after)
-
--- the line of what was written
-abbrev pub count_line : Written → Bytes
-count_line written = written_line written.objects written.cells
 
 -- what `update` answers is right, and is told: its line is printed, or the line of its refusal goes to the error outlet, with the
 -- refusal's status

@@ -1,4 +1,5 @@
 pub mod Answering
 pub mod Lines
+pub mod Putting
 pub mod Refusals
 pub mod Updating

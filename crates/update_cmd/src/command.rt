@@ -2,7 +2,7 @@
 ghost use Rattle.std.specs.Prelude.{◌≡◌, ◌≢◌, ◌⊎◌, ◌≤◌, ℕ, List, Err, Ok, None, Some, [], false, length, IfErr, IfOk, IfSome, OnOk};
 ghost use Rattle.std.specs.Option.{option_map};
 ghost use Rattle.vol_base.specs.Causes.{HasCauseOf, Rose};
-ghost use Rattle.vol_base.specs.Outside.{HaveBytes, Objects, OnlyReads};
+ghost use Rattle.vol_base.specs.Outside.{Objects, OnlyReads};
 ghost use Rattle.vol_spec.specs.Writable.{IsWritable};
 ghost use Rattle.write_plan.specs.Stream.{writes_of};
 ghost use Rattle.shard_writer.specs.Writing.{Drops};
@@ -41,7 +41,6 @@ fn read_writable<S: Source>(
         ReadsWritable result (stored_scale m dataset.now key.now)) }
     ensures writable { IfOk result IsWritable }
     ensures one { IfOk result HasOneSize }
-    ensures bytes { OnOk result (IfSome (S.objects store.old) HaveBytes) }
     ensures unfed { result ≢ Err UpdateRefusal.FeedFault }
     ensures kept { OnlyReads (S.objects store.old) (S.objects store.new) (S.draft store.old)
         (S.draft store.new) }
@@ -87,7 +86,6 @@ fn update_scale<R: Threads + Wait + Sync, S: Store, F: Feed, G: Gate + Sync>(
     requires dataset { length dataset.now ≤ 200 }
     requires writable { IsWritable scale.now }
     requires one { HasOneSize scale.now }
-    requires bytes { IfSome (S.objects store.old) HaveBytes }
     ensures judges { Judges result (Ok scale.now) }
     ensures answers { (key : List ℕ) → IfSome (S.objects store.old) (λ m.
         IfSome (F.left feed.old) (λ bytes. AnswersScale result m (S.objects store.new)

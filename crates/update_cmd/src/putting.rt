@@ -2,11 +2,10 @@
 ghost use Rattle.std.specs.Prelude.{◌≡◌, ◌≤◌, ◌^◌, All, Err, length, IfErr, IfSome, None, OnOk};
 ghost use Rattle.vol_base.specs.Bytes.{AreBytes};
 ghost use Rattle.vol_base.specs.Causes.{HasCauseOf};
-ghost use Rattle.vol_base.specs.Outside.{HaveBytes};
 ghost use Rattle.vol_spec.specs.Writable.{IsWritable};
 ghost use Rattle.shard_writer.specs.Writing.{Drops};
 ghost use Rattle.copier.specs.Held.{cells_of};
-ghost use Rattle.update_cmd.specs.Updating.{DropsOrUpdates, HasUpdateJobs, IsLate, Updates};
+ghost use Rattle.update_cmd.specs.Putting.{DropsOrUpdates, HasUpdateJobs, IsLate, Updates};
 
 use crate::UpdateFault;
 use command_base::Crew;
@@ -34,7 +33,6 @@ pub(crate) fn put_updates<R: Threads + Wait + Sync, S: Store, G: Gate + Sync>(
     requires to { updater.old.held.to ≡ scale.now }
     requires written { All (λ write. AreBytes write.1) updater.old.writes }
     requires jobs { IfSome (S.objects store.old) (λ m. HasUpdateJobs m updater.old dataset.now scale.now) }
-    requires bytes { IfSome (S.objects store.old) HaveBytes }
     ensures updates { IfSome (S.objects store.old) (λ m.
         Updates result m (S.objects store.new) dataset.now scale.now updater.old.writes) }
     ensures late { IfErr result IsLate }

@@ -2,7 +2,6 @@
 ghost use Rattle.std.specs.Prelude.{◌≡◌, ◌≤◌, ◌^◌, All, Err, length, IfErr, IfSome, None, OnOk, Some};
 ghost use Rattle.vol_base.specs.Bytes.{AreBytes};
 ghost use Rattle.vol_base.specs.Causes.{HasCauseOf};
-ghost use Rattle.vol_base.specs.Outside.{HaveBytes};
 ghost use Rattle.vol_spec.specs.Writable.{IsWritable};
 ghost use Rattle.command_base.specs.Scales.{HasOneSize};
 ghost use Rattle.cell_lists.specs.Lists.{AreDistinct, Lists};
@@ -10,7 +9,7 @@ ghost use Rattle.shard_writer.specs.Writing.{Drops};
 ghost use Rattle.update_laws.specs.Overlaid.{is_after};
 ghost use Rattle.write_plan.specs.Plans.{pairs};
 ghost use Rattle.write_plan.specs.WriteLists.{IsWriteOf};
-ghost use Rattle.update_cmd.specs.Updating.{DropsOrUpdates, IsLate, KeepsStore, Updates, UpdatesPlanned, UpdatesScale, not_planned, refused};
+ghost use Rattle.update_cmd.specs.Putting.{DropsOrUpdates, IsLate, KeepsStore, Updates, UpdatesPlanned, UpdatesScale, not_planned, refused};
 
 use crate::UpdateFault;
 use crate::putting::put_updates;
@@ -41,7 +40,6 @@ fn put_cells<R: Threads + Wait + Sync, S: Store, G: Gate + Sync>(
     requires written { All (λ write. AreBytes write.1) plan.writes }
     requires stored { IfSome (S.objects store.old) (λ m.
         Lists scale.now (is_after m dataset.now scale.now plan.writes) cells.items) }
-    requires bytes { IfSome (S.objects store.old) HaveBytes }
     ensures updates { IfSome (S.objects store.old) (λ m.
         Updates result m (S.objects store.new) dataset.now scale.now plan.writes) }
     ensures late { IfErr result IsLate }
@@ -90,7 +88,6 @@ fn update_planned<R: Threads + Wait + Sync, S: Store, G: Gate + Sync>(
     requires plan { plan.scale ≡ scale.now }
     requires few { pairs scale.now plan.writes ≤ 2 ^ 22 }
     requires written { All (λ write. AreBytes write.1) plan.writes }
-    requires bytes { IfSome (S.objects store.old) HaveBytes }
     ensures updates { IfSome (S.objects store.old) (λ m.
         UpdatesPlanned result m (S.objects store.new) dataset.now scale.now plan.writes) }
     ensures kept { IfErr result (λ fault. KeepsStore fault (S.objects store.old) (S.objects store.new)
@@ -140,8 +137,6 @@ pub fn update<R: Threads + Wait + Sync, S: Store, G: Gate + Sync>(
     requires writable { IsWritable scale.now }
     requires one { HasOneSize scale.now }
     requires fits { All (IsWriteOf scale.now) writes }
-    requires written { All (λ write. AreBytes write.1) writes }
-    requires bytes { IfSome (S.objects store.old) HaveBytes }
     ensures updates { IfSome (S.objects store.old) (λ m.
         UpdatesScale result m (S.objects store.new) dataset.now scale.now writes) }
     ensures kept { IfErr result (λ fault. KeepsStore fault (S.objects store.old) (S.objects store.new)

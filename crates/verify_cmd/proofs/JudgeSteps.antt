@@ -23,7 +23,7 @@ use Rattle.index_judge.specs.declared.fault.JudgeFault.TheVariants.{NotRead, Dam
 use Rattle.index_judge.specs.declared.judge.IndexJudge.{IndexJudge}
 use Rattle.verify_cmd.specs.Judges.{KnowsBy, KnowsIndexes}
 use Rattle.cutout.specs.Finding.{Finds}
-use Rattle.verify_cmd.specs.Verifying.{JudgesCell, index_of_cell}
+use Rattle.verify_cmd.specs.Parts.{JudgesCell, index_of_cell}
 
 -- the index of a cell, by a sharding or none
 abbrev index_by : Option Sharding → Objects → Name → Scale → Cell → Option Wrong

@@ -23,7 +23,8 @@ use Rattle.index_judge.specs.declared.fault.JudgeFault.TheVariants.{NotRead, Dam
 use Rattle.verify_cmd.specs.Counting.{counted}
 use Rattle.verify_cmd.specs.Verified.{IsUndamaged}
 use Rattle.view_judge.specs.Judging.{is_absent, is_stored}
-use Rattle.verify_cmd.specs.Verifying.{IsCellReport, JudgesCell, JudgesCells, first_wrong, flawed, found_at}
+use Rattle.verify_cmd.specs.Verifying.{first_wrong, flawed}
+use Rattle.verify_cmd.specs.Parts.{IsCellReport, JudgesCell, JudgesCells, found_at}
 use Rattle.verify_cmd.specs.declared.fault.VerifyFault.{VerifyFault}
 use Rattle.verify_cmd.specs.declared.report.Report.{Report}
 use Rattle.verify_cmd.proofs.JudgeSteps.{sound_chunk}

@@ -8,7 +8,8 @@ use Rattle.vol_spec.specs.Types.{Name}
 use Rattle.vol_spec.specs.declared.scale.Scale.{Scale}
 use Rattle.verify_cmd.proofs.PartSteps.{sound_first, sound_undamaged}
 use Rattle.verify_cmd.proofs.ViewSteps.{all_sound}
-use Rattle.verify_cmd.specs.Verifying.{CanJudge, IsTooMany, Verifies}
+use Rattle.verify_cmd.specs.Verifying.{CanJudge, IsTooMany}
+use Rattle.verify_cmd.specs.Parts.{Verifies}
 use Rattle.verify_cmd.specs.declared.fault.VerifyFault.{VerifyFault}
 use Rattle.verify_cmd.specs.declared.fault.VerifyFault.TheVariants as fault
 use Rattle.verify_cmd.specs.declared.report.Report.{Report}

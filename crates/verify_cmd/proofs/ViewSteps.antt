@@ -27,7 +27,8 @@ use Rattle.view_judge.specs.declared.fault.ViewFault.{ViewFault}
 use Rattle.view_judge.specs.declared.fault.ViewFault.TheVariants as views
 use Rattle.view_judge.specs.declared.report.ViewsReport.{ViewsReport}
 use Rattle.verify_cmd.specs.Counting.{joined}
-use Rattle.verify_cmd.specs.Verifying.{Counts, IsCellReport, IsReport, Verifies, first_wrong, found_in}
+use Rattle.verify_cmd.specs.Verifying.{IsReport, first_wrong}
+use Rattle.verify_cmd.specs.Parts.{Counts, IsCellReport, Verifies, found_in}
 use Rattle.verify_cmd.specs.declared.fault.VerifyFault.{VerifyFault}
 use Rattle.verify_cmd.specs.declared.report.Report.{Report}
 use Rattle.verify_cmd.proofs.PartSteps.{sound_first}

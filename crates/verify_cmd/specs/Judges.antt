@@ -7,7 +7,7 @@ use Rattle.vol_spec.specs.declared.sharding.Sharding.{Sharding}
 use Rattle.index_judge.specs.Knowing.{Knows, KnowsNothing}
 use Rattle.index_judge.specs.declared.judge.IndexJudge.{IndexJudge}
 use Rattle.cutout.specs.Serving.{IsFresh as KeepsNoIndex, Serves as ServesCells}
-use Rattle.cutout.specs.declared.origin.Origin.{Origin}
+use Rattle.vol_spec.specs.declared.stored_scale.StoredScale.{StoredScale}
 use Rattle.verify_cmd.specs.declared.cell.CellJudge.{CellJudge}
 
 -- what is remembered of the indexes of a scale, where it has shards
@@ -19,7 +19,7 @@ abbrev pub KnowsIndexes : Option Objects → Name → Scale → IndexJudge → T
 KnowsIndexes objects dataset s indexes = KnowsBy s.sharding objects dataset s indexes
 
 -- a judge reads the cells of a scale, and what it knows of indexes is what the objects say
-pub record Serves (objects : Option Objects) (origin : Origin) (judge : CellJudge) : Type 0 where
+pub record Serves (objects : Option Objects) (origin : StoredScale) (judge : CellJudge) : Type 0 where
   pub cells : ServesCells objects origin judge.cells
   pub knows : KnowsIndexes objects origin.dataset origin.scale judge.indexes
 

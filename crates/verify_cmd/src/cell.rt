@@ -1,19 +1,19 @@
 //! A judge of cells.
 ghost use Rattle.std.specs.Prelude.{◌*◌, IfOk, IfSome};
 ghost use Rattle.vol_spec.specs.Grid.{IsCell};
-ghost use Rattle.cutout.specs.Calls.{AsksFor};
+ghost use Rattle.vol_base.specs.Calls.{AsksFor};
 ghost use Rattle.cutout.specs.Keeping.{cell_cost};
 ghost use Rattle.index_judge.specs.Judging.{Says};
-ghost use Rattle.verify_cmd.specs.Verifying.{JudgesCell, index_of_cell};
+ghost use Rattle.verify_cmd.specs.Parts.{JudgesCell, index_of_cell};
 
 use chunk_grid::grid;
-use cutout::{CellReader, Origin};
+use cutout::CellReader;
 use index_judge::{IndexJudge, JudgeFault};
 use morton_code::code;
 use shard_index::place;
 use std::alloc::Global;
 use vol_base::{OutOfMemory, Source};
-use vol_spec::Scale;
+use vol_spec::{Scale, StoredScale};
 
 /// Judges the cells of a scale, one after the other, with memory for reading them, and for rows of indexes.
 /// What it keeps and remembers of indexes is of use only while the objects stay the same.
@@ -39,7 +39,7 @@ impl CellJudge {
     fn judge_index<S: Source>(
         &mut self,
         store: &mut S,
-        origin: &Origin,
+        origin: &StoredScale,
         cell: [u64; 3],
     ) -> Result<(), JudgeFault>
         requires cell { IsCell origin.now.scale cell }
@@ -65,7 +65,7 @@ impl CellJudge {
     pub(crate) fn judge<S: Source>(
         &mut self,
         store: &mut S,
-        origin: &Origin,
+        origin: &StoredScale,
         cell: [u64; 3],
     ) -> Result<bool, JudgeFault>
         requires cell { IsCell origin.now.scale cell }

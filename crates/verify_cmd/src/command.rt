@@ -3,7 +3,7 @@ ghost use Rattle.std.specs.Prelude.{◌≡◌, ◌≤◌, ◌+◌, ◌^◌, true
 ghost use Rattle.vol_base.specs.Causes.{Rose};
 ghost use Rattle.vol_base.specs.Outside.{Objects, OnlyReads};
 ghost use Rattle.vol_spec.specs.Grid.{whole as whole_of};
-ghost use Rattle.cutout.specs.Calls.{AsksFor, ReadsFrom};
+ghost use Rattle.vol_base.specs.Calls.{AsksFor, ReadsFrom};
 ghost use Rattle.command_base.specs.Ending.{EndsWell, IsCaused};
 ghost use Rattle.command_base.specs.Outlets.{outlets_of};
 ghost use Rattle.command_base.specs.Statuses.{prints, refuses};

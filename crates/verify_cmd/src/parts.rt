@@ -8,21 +8,21 @@ ghost use Rattle.size_laws.specs.Findings.{first_finding};
 ghost use Rattle.size_laws.specs.Further.{all_views, further};
 ghost use Rattle.size_laws.specs.Sizes.{AllSound};
 ghost use Rattle.view_judge.specs.Judging.{cells_of};
-ghost use Rattle.cutout.specs.Calls.{AsksFor, ReadsFrom};
+ghost use Rattle.vol_base.specs.Calls.{AsksFor, ReadsFrom};
 ghost use Rattle.verify_cmd.specs.Judges.{Serves};
 ghost use Rattle.verify_cmd.specs.Verified.{IsUndamaged};
-ghost use Rattle.verify_cmd.specs.Verifying.{CanJudge, Counts, first_wrong, found_at, found_in, IsBegun, IsTooMany, JudgesCells, part_cost, Verifies};
+ghost use Rattle.verify_cmd.specs.Verifying.{CanJudge, first_wrong, IsTooMany, part_cost};
+ghost use Rattle.verify_cmd.specs.Parts.{Counts, found_at, found_in, IsBegun, JudgesCells, Verifies};
 
 use crate::cell::CellJudge;
 use crate::report::{count_cell, join_reports};
 use crate::{Report, VerifyFault};
 use chunk_grid::{cells, count_cells, inside, tell_cells};
-use cutout::Origin;
 use index_judge::JudgeFault;
 use std::alloc::Global;
 use view_judge::{ViewFault, ViewJudge, count_view_cells};
 use vol_base::{Box3, Name, Source};
-use vol_spec::Scale;
+use vol_spec::{Scale, StoredScale};
 
 // The most cells that are judged at once, of all views together.
 const MOST_CELLS: u128 = 1 << 22;
@@ -85,7 +85,7 @@ fn place_view_fault(fault: ViewFault) -> VerifyFault
 fn judge_cells<S: Source>(
     judge: &mut CellJudge,
     store: &mut S,
-    origin: &Origin,
+    origin: &StoredScale,
     part: &Box3,
 ) -> Result<Report, VerifyFault>
     requires inside { Inside origin.now.scale part.now }
@@ -118,7 +118,7 @@ fn judge_views<S: Source>(
     judge: &mut CellJudge,
     others: &mut ViewJudge,
     store: &mut S,
-    origin: &Origin,
+    origin: &StoredScale,
     part: &Box3,
 ) -> Result<Report, VerifyFault>
     requires inside { Inside origin.now.scale part.now }
@@ -191,7 +191,7 @@ pub fn verify<S: Source>(
     let Ok(mut others) = ViewJudge::reserve(alloc, dataset, scale) else {
         return Err(VerifyFault::OutOfMemory);
     };
-    let origin = Origin::of(dataset, scale);
+    let origin = StoredScale::of(dataset, scale);
     judge_views(&mut judge, &mut others, store, &origin, part)
 }
 

@@ -1,8 +1,7 @@
 //! A box of a view, beside the first view.
 ghost use Rattle.std.specs.Prelude.{◌≡◌, ◌≢◌, ◌+◌, ◌≤◌, ◌^◌, length, IfSome, List, ℤ};
 ghost use Rattle.vol_base.specs.Boxes.{Covers};
-ghost use Rattle.vol_base.specs.Causes.{HasCauseOf};
-ghost use Rattle.vol_base.specs.Outside.{HaveBytes, OnlyReads};
+ghost use Rattle.vol_base.specs.Calls.{AsksFor};
 ghost use Rattle.vol_spec.specs.Costs.{cost};
 ghost use Rattle.vol_spec.specs.Grid.{Inside};
 ghost use Rattle.vol_spec.specs.Raw.{raw_len};
@@ -72,16 +71,12 @@ pub(crate) fn judge_box<S: Source>(
     requires found { raw_len part.now view.now.channels view.now.width ≤ length found.old }
     requires wanted { raw_len part.now view.now.channels view.now.width ≤ length wanted.old }
     requires limit { raw_len part.now view.now.channels view.now.width ≤ 2 ^ 30 }
-    requires bytes { IfSome (S.objects store.old) HaveBytes }
     ensures judged { IfSome (S.objects store.old) (λ m.
         JudgesBox result m first.old.dataset first.old.scale number view.now part.now) }
     ensures reader { reader.new ≡ reader.old }
     ensures first { first.new ≡ first.old }
-    ensures asked { IfSome (S.objects store.old) (λ m. S.asked store.new
-        ≤ S.asked store.old + pair_cost m first.old.dataset first.old.scale view.now part.now) }
-    ensures kept { OnlyReads (S.objects store.old) (S.objects store.new) (S.draft store.old)
-        (S.draft store.new) }
-    ensures cause { HasCauseOf ViewFault.StoreFault (S.faults store.old) (S.faults store.new) result }
+    ensures asks { AsksFor S.Source (λ m. pair_cost m first.old.dataset first.old.scale view.now part.now)
+        ViewFault.StoreFault store.old store.new result }
 {
     let len = byte_len(part, view.channels, view.width) as usize;
     let found = &mut found[..len];
@@ -113,15 +108,11 @@ pub(crate) fn compare_view<S: Source>(
     requires found { length found.old ≡ raw_len part.now view.now.channels view.now.width }
     requires wanted { length wanted.now ≡ raw_len part.now view.now.channels view.now.width }
     requires limit { raw_len part.now view.now.channels view.now.width ≤ 2 ^ 30 }
-    requires bytes { IfSome (S.objects store.old) HaveBytes }
     ensures judged { IfSome (S.objects store.old) (λ m.
         ComparesBox result m reader.old.dataset number view.now part.now wanted.now) }
     ensures reader { reader.new ≡ reader.old }
-    ensures asked { IfSome (S.objects store.old) (λ m.
-        S.asked store.new ≤ S.asked store.old + cost m reader.old.dataset view.now part.now) }
-    ensures kept { OnlyReads (S.objects store.old) (S.objects store.new) (S.draft store.old)
-        (S.draft store.new) }
-    ensures cause { HasCauseOf ViewFault.StoreFault (S.faults store.old) (S.faults store.new) result }
+    ensures asks { AsksFor S.Source (λ m. cost m reader.old.dataset view.now part.now) ViewFault.StoreFault
+        store.old store.new result }
 {
     match reader.cutout(store, part, found) {
         Ok(()) => compare_box(number, view, part, found, wanted),

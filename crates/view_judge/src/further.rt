@@ -1,8 +1,7 @@
 //! A further view of a scale.
 ghost use Rattle.std.specs.Prelude.{◌≡◌, ◌+◌, ◌≤◌, ◌^◌, length, IfErr, IfOk, IfSome, None};
 ghost use Rattle.std.specs.List.{sum_by};
-ghost use Rattle.vol_base.specs.Causes.{HasCauseOf};
-ghost use Rattle.vol_base.specs.Outside.{HaveBytes, OnlyReads};
+ghost use Rattle.vol_base.specs.Calls.{AsksFor, ReadsFrom};
 ghost use Rattle.vol_spec.specs.Costs.{cost};
 ghost use Rattle.vol_spec.specs.Grid.{cell_box as box_of, cells_in, Inside, IsCell, Meets};
 ghost use Rattle.vol_spec.specs.Raw.{raw_len};
@@ -75,12 +74,8 @@ impl FurtherView {
         ensures cells { IfOk result (λ report. report.cells ≡ length (cells_in self.now.scale part.now)) }
         ensures both { IfOk result (λ report. report.stored + report.absent ≡ report.cells) }
         ensures failed { IfErr result (λ fault. fault ≡ ViewFault.StoreFault) }
-        // What the objects hold is bytes.
-        ensures bytes { IfOk result (λ report. IfSome (S.objects store.old) HaveBytes) }
         ensures asked { S.asked store.new ≡ S.asked store.old }
-        ensures kept { OnlyReads (S.objects store.old) (S.objects store.new) (S.draft store.old)
-            (S.draft store.new) }
-        ensures cause { HasCauseOf ViewFault.StoreFault (S.faults store.old) (S.faults store.new) result }
+        ensures reads { ReadsFrom S.Source ViewFault.StoreFault store.old store.new result }
     {
         count_stored(store, &self.dataset, &self.scale, part)
     }
@@ -98,15 +93,11 @@ impl FurtherView {
         requires found { length found.old ≡ raw_len part.now self.old.scale.channels self.old.scale.width }
         requires wanted { length wanted.now ≡ raw_len part.now self.old.scale.channels self.old.scale.width }
         requires limit { raw_len part.now self.old.scale.channels self.old.scale.width ≤ 2 ^ 30 }
-        requires bytes { IfSome (S.objects store.old) HaveBytes }
         ensures judged { IfSome (S.objects store.old) (λ m.
             ComparesBox result m self.old.dataset number self.old.scale part.now wanted.now) }
         ensures same { self.new ≡ self.old }
-        ensures asked { IfSome (S.objects store.old) (λ m.
-            S.asked store.new ≤ S.asked store.old + cost m self.old.dataset self.old.scale part.now) }
-        ensures kept { OnlyReads (S.objects store.old) (S.objects store.new) (S.draft store.old)
-            (S.draft store.new) }
-        ensures cause { HasCauseOf ViewFault.StoreFault (S.faults store.old) (S.faults store.new) result }
+        ensures asks { AsksFor S.Source (λ m. cost m self.old.dataset self.old.scale part.now)
+            ViewFault.StoreFault store.old store.new result }
     {
         compare_view(
             number,
@@ -137,17 +128,12 @@ impl FurtherView {
         requires meets { Meets regions.now region part.now }
         requires found { HasRoom regions.now (length found.old) }
         requires wanted { HasRoom regions.now (length wanted.old) }
-        requires bytes { IfSome (S.objects store.old) HaveBytes }
         ensures judged { IfSome (S.objects store.old) (λ m. JudgesBox result m first.old.dataset first.old.scale
             number self.old.scale (common (box_of regions.now region) part.now)) }
         ensures same { self.new ≡ self.old }
         ensures first { first.new ≡ first.old }
-        ensures asked { IfSome (S.objects store.old) (λ m. S.asked store.new ≤ S.asked store.old
-            + pair_cost m first.old.dataset first.old.scale self.old.scale
-            (common (box_of regions.now region) part.now)) }
-        ensures kept { OnlyReads (S.objects store.old) (S.objects store.new) (S.draft store.old)
-            (S.draft store.new) }
-        ensures cause { HasCauseOf ViewFault.StoreFault (S.faults store.old) (S.faults store.new) result }
+        ensures asks { AsksFor S.Source (λ m. pair_cost m first.old.dataset first.old.scale self.old.scale
+            (common (box_of regions.now region) part.now)) ViewFault.StoreFault store.old store.new result }
     {
         let shared = shared_box(&cell_box(regions, region), part);
         judge_box(
@@ -178,17 +164,13 @@ impl FurtherView {
         requires grid { IsBeside self.old.scale regions.now }
         requires found { HasRoom regions.now (length found.old) }
         requires wanted { HasRoom regions.now (length wanted.old) }
-        requires bytes { IfSome (S.objects store.old) HaveBytes }
         ensures judged { IfSome (S.objects store.old) (λ m. JudgesOwn result m first.old.dataset
             first.old.scale number self.old.scale regions.now part.now) }
         ensures same { self.new ≡ self.old }
         ensures first { first.new ≡ first.old }
-        ensures asked { IfSome (S.objects store.old) (λ m. S.asked store.new ≤ S.asked store.old
-            + sum_by (λ region. pair_cost m first.old.dataset first.old.scale self.old.scale
-            (common (box_of regions.now region) part.now)) (cells_in regions.now part.now)) }
-        ensures kept { OnlyReads (S.objects store.old) (S.objects store.new) (S.draft store.old)
-            (S.draft store.new) }
-        ensures cause { HasCauseOf ViewFault.StoreFault (S.faults store.old) (S.faults store.new) result }
+        ensures asks { AsksFor S.Source (λ m. sum_by
+            (λ region. pair_cost m first.old.dataset first.old.scale self.old.scale (common (box_of regions.now region) part.now))
+            (cells_in regions.now part.now)) ViewFault.StoreFault store.old store.new result }
     {
         tell_cells(regions, part);
         for region in cells(regions, part) {
@@ -215,16 +197,12 @@ impl FurtherView {
         requires scale { scale.now ≡ first.old.scale }
         requires found { HasRoom (own_regions first.old.scale self.old.scale) (length found.old) }
         requires wanted { HasRoom (own_regions first.old.scale self.old.scale) (length wanted.old) }
-        requires bytes { IfSome (S.objects store.old) HaveBytes }
         ensures judged { IfSome (S.objects store.old) (λ m. JudgesOwn result m first.old.dataset
             first.old.scale number self.old.scale (own_regions first.old.scale self.old.scale) part.now) }
         ensures same { self.new ≡ self.old }
         ensures first { first.new ≡ first.old }
-        ensures asked { IfSome (S.objects store.old) (λ m. S.asked store.new ≤ S.asked store.old
-            + own_cost m first.old.dataset first.old.scale part.now self.old.scale) }
-        ensures kept { OnlyReads (S.objects store.old) (S.objects store.new) (S.draft store.old)
-            (S.draft store.new) }
-        ensures cause { HasCauseOf ViewFault.StoreFault (S.faults store.old) (S.faults store.new) result }
+        ensures asks { AsksFor S.Source (λ m. own_cost m first.old.dataset first.old.scale part.now
+            self.old.scale) ViewFault.StoreFault store.old store.new result }
     {
         let regions = find_own_regions(scale, &self.scale);
         self.judge_regions(number, first, &regions, store, part, found, wanted)
@@ -251,12 +229,8 @@ impl FurtherView {
             JudgesCell result m first.old.dataset first.old.scale number self.old.scale part.now cell) }
         ensures same { self.new ≡ self.old }
         ensures first { first.new ≡ first.old }
-        ensures asked { IfSome (S.objects store.old) (λ m. S.asked store.new ≤ S.asked store.old
-            + pair_cost m first.old.dataset first.old.scale self.old.scale
-            (common (box_of self.old.scale cell) part.now)) }
-        ensures kept { OnlyReads (S.objects store.old) (S.objects store.new) (S.draft store.old)
-            (S.draft store.new) }
-        ensures cause { HasCauseOf ViewFault.StoreFault (S.faults store.old) (S.faults store.new) result }
+        ensures asks { AsksFor S.Source (λ m. pair_cost m first.old.dataset first.old.scale self.old.scale
+            (common (box_of self.old.scale cell) part.now)) ViewFault.StoreFault store.old store.new result }
     {
         let is_stored = find_stored(store, &self.dataset, &self.scale, cell)?;
         let shared = shared_box(&cell_box(&self.scale, cell), part);
@@ -297,11 +271,8 @@ impl FurtherView {
         ensures both { IfOk result (λ report. report.stored + report.absent ≡ report.cells) }
         ensures same { self.new ≡ self.old }
         ensures first { first.new ≡ first.old }
-        ensures asked { IfSome (S.objects store.old) (λ m. S.asked store.new ≤ S.asked store.old
-            + cells_cost m first.old.dataset first.old.scale part.now self.old.scale) }
-        ensures kept { OnlyReads (S.objects store.old) (S.objects store.new) (S.draft store.old)
-            (S.draft store.new) }
-        ensures cause { HasCauseOf ViewFault.StoreFault (S.faults store.old) (S.faults store.new) result }
+        ensures asks { AsksFor S.Source (λ m. cells_cost m first.old.dataset first.old.scale part.now
+            self.old.scale) ViewFault.StoreFault store.old store.new result }
     {
         let mut report = NONE;
         tell_cells(&self.scale, part);

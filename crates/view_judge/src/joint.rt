@@ -1,8 +1,7 @@
 //! The further views of a scale beside the first one, by regions.
 ghost use Rattle.std.specs.Prelude.{◌≡◌, ◌+◌, ◌≤◌, ◌^◌, length, All, IfSome};
 ghost use Rattle.std.specs.List.{sum_by};
-ghost use Rattle.vol_base.specs.Causes.{HasCauseOf};
-ghost use Rattle.vol_base.specs.Outside.{HaveBytes, OnlyReads};
+ghost use Rattle.vol_base.specs.Calls.{AsksFor};
 ghost use Rattle.vol_spec.specs.Grid.{cell_box as box_of, Inside, IsCell, Meets};
 ghost use Rattle.vol_spec.specs.Raw.{raw_len};
 ghost use Rattle.size_laws.specs.Findings.{common};
@@ -35,16 +34,12 @@ fn judge_boxes<S: Source>(
     requires found { length found.old ≡ raw_len part.now first.old.scale.channels first.old.scale.width }
     requires wanted { length wanted.old ≡ raw_len part.now first.old.scale.channels first.old.scale.width }
     requires limit { raw_len part.now first.old.scale.channels first.old.scale.width ≤ 2 ^ 30 }
-    requires bytes { IfSome (S.objects store.old) HaveBytes }
     ensures judged { IfSome (S.objects store.old) (λ m.
         JudgesBoxes result m first.old.dataset first.old.scale part.now) }
     ensures first { first.new ≡ first.old }
     ensures further { further.new ≡ further.old }
-    ensures asked { IfSome (S.objects store.old) (λ m. S.asked store.new ≤ S.asked store.old
-        + joint_cost m first.old.dataset first.old.scale (further_of first.old.scale) part.now) }
-    ensures kept { OnlyReads (S.objects store.old) (S.objects store.new) (S.draft store.old)
-        (S.draft store.new) }
-    ensures cause { HasCauseOf ViewFault.StoreFault (S.faults store.old) (S.faults store.new) result }
+    ensures asks { AsksFor S.Source (λ m. joint_cost m first.old.dataset first.old.scale
+        (further_of first.old.scale) part.now) ViewFault.StoreFault store.old store.new result }
 {
     match first.cutout(store, part, wanted) {
         Ok(()) => {}
@@ -78,16 +73,12 @@ fn judge_region<S: Source>(
     requires meets { Meets regions.now region part.now }
     requires found { HasRoom regions.now (length found.old) }
     requires wanted { HasRoom regions.now (length wanted.old) }
-    requires bytes { IfSome (S.objects store.old) HaveBytes }
     ensures judged { IfSome (S.objects store.old) (λ m. JudgesBoxes result m first.old.dataset first.old.scale
         (common (box_of (regions_of first.old.scale) region) part.now)) }
     ensures first { first.new ≡ first.old }
     ensures further { further.new ≡ further.old }
-    ensures asked { IfSome (S.objects store.old) (λ m. S.asked store.new ≤ S.asked store.old
-        + region_cost m first.old.dataset first.old.scale part.now region) }
-    ensures kept { OnlyReads (S.objects store.old) (S.objects store.new) (S.draft store.old)
-        (S.draft store.new) }
-    ensures cause { HasCauseOf ViewFault.StoreFault (S.faults store.old) (S.faults store.new) result }
+    ensures asks { AsksFor S.Source (λ m. region_cost m first.old.dataset first.old.scale part.now region)
+        ViewFault.StoreFault store.old store.new result }
 {
     let shared = shared_box(&cell_box(regions, region), part);
     let len = byte_len(&shared, regions.channels, regions.width) as usize;
@@ -116,16 +107,12 @@ fn judge_regions<S: Source>(
     requires regions { regions.now ≡ regions_of first.old.scale }
     requires found { HasRoom regions.now (length found.old) }
     requires wanted { HasRoom regions.now (length wanted.old) }
-    requires bytes { IfSome (S.objects store.old) HaveBytes }
     ensures judged { IfSome (S.objects store.old) (λ m.
         JudgesRegions result m first.old.dataset first.old.scale part.now) }
     ensures first { first.new ≡ first.old }
     ensures further { further.new ≡ further.old }
-    ensures asked { IfSome (S.objects store.old) (λ m.
-        S.asked store.new ≤ S.asked store.old + regions_cost m first.old.dataset first.old.scale part.now) }
-    ensures kept { OnlyReads (S.objects store.old) (S.objects store.new) (S.draft store.old)
-        (S.draft store.new) }
-    ensures cause { HasCauseOf ViewFault.StoreFault (S.faults store.old) (S.faults store.new) result }
+    ensures asks { AsksFor S.Source (λ m. regions_cost m first.old.dataset first.old.scale part.now)
+        ViewFault.StoreFault store.old store.new result }
 {
     tell_cells(regions, part);
     for region in cells(regions, part) {
@@ -155,16 +142,12 @@ fn judge_apart<S: Source>(
         (further_of first.old.scale) }
     requires wanted { All (λ v. HasRoom (own_regions first.old.scale v) (length wanted.old))
         (further_of first.old.scale) }
-    requires bytes { IfSome (S.objects store.old) HaveBytes }
     ensures judged { IfSome (S.objects store.old) (λ m.
         ComparesAll result m first.old.dataset first.old.scale part.now) }
     ensures first { first.new ≡ first.old }
     ensures further { further.new ≡ further.old }
-    ensures asked { IfSome (S.objects store.old) (λ m. S.asked store.new ≤ S.asked store.old
-        + sum_by (own_cost m first.old.dataset first.old.scale part.now) (further_of first.old.scale)) }
-    ensures kept { OnlyReads (S.objects store.old) (S.objects store.new) (S.draft store.old)
-        (S.draft store.new) }
-    ensures cause { HasCauseOf ViewFault.StoreFault (S.faults store.old) (S.faults store.new) result }
+    ensures asks { AsksFor S.Source (λ m. sum_by (own_cost m first.old.dataset first.old.scale part.now)
+        (further_of first.old.scale)) ViewFault.StoreFault store.old store.new result }
 {
     let mut number = 0;
     while number < further.len() {
@@ -200,16 +183,12 @@ pub(crate) fn compare_views<S: Source>(
     requires scale { scale.now ≡ first.old.scale }
     requires found { HasRooms first.old.scale (length found.old) }
     requires wanted { HasRooms first.old.scale (length wanted.old) }
-    requires bytes { IfSome (S.objects store.old) HaveBytes }
     ensures judged { IfSome (S.objects store.old) (λ m.
         ComparesAll result m first.old.dataset first.old.scale part.now) }
     ensures first { first.new ≡ first.old }
     ensures further { further.new ≡ further.old }
-    ensures asked { IfSome (S.objects store.old) (λ m.
-        S.asked store.new ≤ S.asked store.old + compare_cost m first.old.dataset first.old.scale part.now) }
-    ensures kept { OnlyReads (S.objects store.old) (S.objects store.new) (S.draft store.old)
-        (S.draft store.new) }
-    ensures cause { HasCauseOf ViewFault.StoreFault (S.faults store.old) (S.faults store.new) result }
+    ensures asks { AsksFor S.Source (λ m. compare_cost m first.old.dataset first.old.scale part.now)
+        ViewFault.StoreFault store.old store.new result }
 {
     if !is_joint(scale) {
         return judge_apart(first, further, scale, store, part, found, wanted);

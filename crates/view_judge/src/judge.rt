@@ -1,8 +1,8 @@
 //! A judge of the further views of a scale.
 ghost use Rattle.std.specs.Prelude.{◌≡◌, ◌+◌, ◌≤◌, ◌^◌, length, All, IfErr, IfOk, IfSome};
 ghost use Rattle.std.specs.List.{sum_by};
-ghost use Rattle.vol_base.specs.Causes.{HasCauseOf};
-ghost use Rattle.vol_base.specs.Outside.{HaveBytes, OnlyReads};
+ghost use Rattle.vol_base.specs.Calls.{AsksFor, ReadsFrom};
+ghost use Rattle.vol_base.specs.Outside.{HaveBytes};
 ghost use Rattle.vol_spec.specs.Grid.{Inside};
 ghost use Rattle.vol_spec.specs.Verdicts.{Sound};
 ghost use Rattle.size_laws.specs.Further.{further as further_of};
@@ -97,11 +97,8 @@ fn judge_views<S: Source>(
     ensures both { IfOk result (λ report. report.stored + report.absent ≡ report.cells) }
     ensures first { first.new ≡ first.old }
     ensures further { further.new ≡ further.old }
-    ensures asked { IfSome (S.objects store.old) (λ m. S.asked store.new ≤ S.asked store.old
-        + sum_by (cells_cost m first.old.dataset first.old.scale part.now) (further_of first.old.scale)) }
-    ensures kept { OnlyReads (S.objects store.old) (S.objects store.new) (S.draft store.old)
-        (S.draft store.new) }
-    ensures cause { HasCauseOf ViewFault.StoreFault (S.faults store.old) (S.faults store.new) result }
+    ensures asks { AsksFor S.Source (λ m. sum_by (cells_cost m first.old.dataset first.old.scale part.now)
+        (further_of first.old.scale)) ViewFault.StoreFault store.old store.new result }
 {
     let mut report = NONE;
     let mut k = 0;
@@ -134,7 +131,6 @@ fn judge_all<S: Source>(
     requires few { cells_of (further_of first.old.scale) part.now ≤ 2 ^ 22 }
     requires found { HasRooms first.old.scale (length found.old) }
     requires wanted { HasRooms first.old.scale (length wanted.old) }
-    requires bytes { IfSome (S.objects store.old) HaveBytes }
     ensures judged { IfSome (S.objects store.old) (λ m.
         JudgesAll result m first.old.dataset first.old.scale part.now) }
     ensures first { first.new ≡ first.old }
@@ -144,9 +140,7 @@ fn judge_all<S: Source>(
     // Where nothing is wrong only the regions were read.
     ensures asked_once { IfOk result (λ done. IfSome (S.objects store.old) (λ m.
         S.asked store.new ≤ S.asked store.old + compare_cost m first.old.dataset first.old.scale part.now)) }
-    ensures kept { OnlyReads (S.objects store.old) (S.objects store.new) (S.draft store.old)
-        (S.draft store.new) }
-    ensures cause { HasCauseOf ViewFault.StoreFault (S.faults store.old) (S.faults store.new) result }
+    ensures reads { ReadsFrom S.Source ViewFault.StoreFault store.old store.new result }
 {
     match compare_views(first, further, scale, store, part, found, wanted) {
         Ok(()) => Ok(()),
@@ -189,13 +183,8 @@ impl ViewJudge {
         ensures cells { IfOk result (λ report. report.cells ≡ cells_of (further_of self.now.scale) part.now) }
         ensures both { IfOk result (λ report. report.stored + report.absent ≡ report.cells) }
         ensures failed { IfErr result (λ fault. fault ≡ ViewFault.StoreFault) }
-        // What the objects hold is bytes.
-        ensures bytes { IfOk result (λ report. 1 ≤ length self.now.scale.more →
-            IfSome (S.objects store.old) HaveBytes) }
         ensures asked { S.asked store.new ≡ S.asked store.old }
-        ensures kept { OnlyReads (S.objects store.old) (S.objects store.new) (S.draft store.old)
-            (S.draft store.new) }
-        ensures cause { HasCauseOf ViewFault.StoreFault (S.faults store.old) (S.faults store.new) result }
+        ensures reads { ReadsFrom S.Source ViewFault.StoreFault store.old store.new result }
     {
         let mut report = NONE;
         for view in &self.further {
@@ -218,8 +207,6 @@ impl ViewJudge {
         ensures cells { IfOk result (λ report. report.cells ≡ cells_of (further_of self.old.scale) part.now) }
         ensures both { IfOk result (λ report. report.stored + report.absent ≡ report.cells) }
         ensures same { self.new ≡ self.old }
-        ensures kept { OnlyReads (S.objects store.old) (S.objects store.new) (S.draft store.old)
-            (S.draft store.new) }
         // It asks for no more than what the regions cost in the views that are compared there, and the cells in their view
         // and in the first one.
         ensures asked { IfSome (S.objects store.old) (λ m. S.asked store.new
@@ -227,7 +214,7 @@ impl ViewJudge {
         // Where nothing is wrong it asks for the regions alone.
         ensures asked_once { IfOk result (λ report. IfSome (S.objects store.old) (λ m. S.asked store.new
             ≤ S.asked store.old + compare_cost m self.old.dataset self.old.scale part.now)) }
-        ensures cause { HasCauseOf ViewFault.StoreFault (S.faults store.old) (S.faults store.new) result }
+        ensures reads { ReadsFrom S.Source ViewFault.StoreFault store.old store.new result }
     {
         if self.further.is_empty() {
             return Ok(NONE);

@@ -1,7 +1,6 @@
 //! Whether the chunks of cells are stored.
 ghost use Rattle.std.specs.Prelude.{◌≡◌, ◌+◌, ◌≤◌, ◌^◌, length, IfErr, IfOk, IfSome};
-ghost use Rattle.vol_base.specs.Causes.{HasCauseOf};
-ghost use Rattle.vol_base.specs.Outside.{HaveBytes, OnlyReads};
+ghost use Rattle.vol_base.specs.Calls.{ReadsFrom};
 ghost use Rattle.vol_spec.specs.Grid.{cells_in, Inside, IsCell};
 ghost use Rattle.view_judge.specs.Answers.{AreNamed, is_named};
 
@@ -23,12 +22,8 @@ pub(crate) fn find_stored<S: Source>(
     ensures found { IfOk result (λ stored. IfSome (S.objects store.old) (λ m.
         stored ≡ is_named m dataset.now view.now cell)) }
     ensures failed { IfErr result (λ fault. fault ≡ ViewFault.StoreFault) }
-    // What the objects hold is bytes.
-    ensures bytes { IfSome (S.objects store.old) HaveBytes }
     ensures asked { S.asked store.new ≡ S.asked store.old }
-    ensures kept { OnlyReads (S.objects store.old) (S.objects store.new) (S.draft store.old)
-        (S.draft store.new) }
-    ensures cause { HasCauseOf ViewFault.StoreFault (S.faults store.old) (S.faults store.new) result }
+    ensures reads { ReadsFrom S.Source ViewFault.StoreFault store.old store.new result }
 {
     match store.size(&object_name(dataset, view, cell)) {
         Ok(len) => Ok(len.is_some()),
@@ -51,12 +46,8 @@ pub(crate) fn count_stored<S: Source>(
     ensures cells { IfOk result (λ report. report.cells ≡ length (cells_in view.now part.now)) }
     ensures both { IfOk result (λ report. report.stored + report.absent ≡ report.cells) }
     ensures failed { IfErr result (λ fault. fault ≡ ViewFault.StoreFault) }
-    // What the objects hold is bytes.
-    ensures bytes { IfOk result (λ report. IfSome (S.objects store.old) HaveBytes) }
     ensures asked { S.asked store.new ≡ S.asked store.old }
-    ensures kept { OnlyReads (S.objects store.old) (S.objects store.new) (S.draft store.old)
-        (S.draft store.new) }
-    ensures cause { HasCauseOf ViewFault.StoreFault (S.faults store.old) (S.faults store.new) result }
+    ensures reads { ReadsFrom S.Source ViewFault.StoreFault store.old store.new result }
 {
     let mut report = NONE;
     tell_cells(view, part);

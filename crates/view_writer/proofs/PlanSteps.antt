@@ -1,5 +1,5 @@
 -- What a plan's objects are.
-use Rattle.std.proofs.Common.{◌≡◌, ◌∙◌, ℕ, ◌+◌, ◌^◌, ◌≤◌, List, [], ◌∷◌, Bool, true, false, length, map, sum, Option, Some, None, refl, ap, sym, subst, arith}
+use Rattle.std.proofs.Common.{◌≡◌, ◌∙◌, ◌+◌, ◌^◌, ◌≤◌, List, [], ◌∷◌, Bool, true, false, length, map, sum, Option, Some, None, refl, ap, subst, arith}
 use Rattle.std.specs.Prelude.{◌||◌, cond, filter}
 use Rattle.std.specs.List.{list_any}
 use Rattle.std.proofs.lemmas.List.Sums.{sum_by-cons}
@@ -11,7 +11,8 @@ use Rattle.vol_spec.specs.StoredLists.{stored_list}
 use Rattle.vol_spec.specs.Types.{Listed, Name, Writes}
 use Rattle.vol_spec.specs.declared.scale.Scale.{Scale}
 use Rattle.shard_writer.proofs.PlannedSteps.{planned_len, planned_objects}
-use Rattle.shard_writer.specs.Writing.{job_objects, joint_len, KnowsLens, PutsFront, PutsJobs, PutsSome, told_objects}
+use Rattle.shard_writer.specs.Writing.{joint_len, PutsFront}
+use Rattle.shard_writer.specs.Works.{job_objects, KnowsLens, PutsJobs, PutsSome, told_objects}
 use Rattle.shard_writer.specs.declared.written.Written.{Written}
 use Rattle.write_plan.specs.Plans.{pairs, Planned, planned_cells, work_of}
 use Rattle.view_writer.specs.Views.{IsFront, IsPut, of_view}

@@ -1,5 +1,5 @@
 -- What writing all views of a scale puts into a store, and the limits of views (this project's).
-use Rattle.std.specs.Prelude.{◌≡◌, ◌^◌, ℕ, List, length, map, nat_lt, Option, Some, None, IfSome, if◌then◌else◌}
+use Rattle.std.specs.Prelude.{◌≡◌, ◌^◌, ◌<◌, ℕ, List, All, length, map, nat_lt, Option, Some, None, IfSome, if◌then◌else◌}
 use Rattle.std.specs.List.{sum_by}
 use Rattle.vol_base.specs.Outside.{Objects}
 use Rattle.vol_spec.specs.BoxValues.{first_some}
@@ -7,8 +7,9 @@ use Rattle.vol_spec.specs.LastWrite.{zeros}
 use Rattle.vol_spec.specs.StoredCells.{chunks_of, met_cells, put_in}
 use Rattle.vol_spec.specs.StoredLists.{stored_list}
 use Rattle.vol_spec.specs.Types.{Listed, Name, Writes}
-use Rattle.vol_spec.specs.Writable.{padded}
+use Rattle.vol_spec.specs.Writable.{IsWritable, padded}
 use Rattle.vol_spec.specs.declared.scale.Scale.{Scale}
+use Rattle.size_laws.specs.Further.{all_views}
 use Rattle.write_plan.specs.Plans.{pairs}
 use Rattle.shard_writer.specs.Writing.{PutsFront, joint_len}
 use Rattle.shard_writer.specs.declared.written.Written.{Written}
@@ -28,6 +29,14 @@ first_many views writes = first_over (λ v. pairs v writes) views
 -- and so many padded voxels times channels has the first view that passes the writing limit
 abbrev pub first_wide : List Scale → Option ℕ
 first_wide views = first_over padded views
+
+-- so many has a scale one of whose views passes it
+abbrev pub IsTooWide : Scale → ℕ → Type 0
+IsTooWide s voxels = first_wide (all_views s) ≡ Some voxels
+
+-- a scale of several chunk sizes, each view of which keeps the writing limit
+abbrev pub HasSeveralSizes : Scale → Type 0
+HasSeveralSizes s = All IsWritable (all_views s) × (0 < length s.more)
 
 -- the objects of one view
 abbrev pub of_view : Name → Scale → Writes → Listed

@@ -7,7 +7,7 @@ use Rattle.std.specs.Ordering.{nat_cmp}
 use Rattle.std.specs.Cmp.Lexicographic.{slice_cmp, nat_list_cmp_total}
 use Rattle.std.proofs.lemmas.Map.Text.{is_eq-slice_cmp}
 use Rattle.vol_base.specs.Stored.{objects_of}
-use Rattle.vol_base.specs.declared.memory.Object.{Object}
+use Rattle.vol_base.specs.declared.object.Object.{Object}
 
 one_on : (o : Object) (os : List Object) (name : List ℕ) → map.get (objects_of (o ∷ os)) name ≡ cond (bytes_eq name o.name) (Some o.bytes.items) (map.get (objects_of os) name)
 one_on o os name =

@@ -3,7 +3,6 @@ pub mod Clamps
 pub mod Found
 pub mod Gained
 pub mod GridBits
-pub mod Held
 pub mod Joined
 pub mod NameBytes
 pub mod Numbers

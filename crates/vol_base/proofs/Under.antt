@@ -8,7 +8,7 @@ use Rattle.std.specs.FinMap.Entries.{by_order}
 use Rattle.std.specs.Ordering.{nat_cmp}
 use Rattle.std.specs.Cmp.Lexicographic.{slice_cmp, nat_list_cmp_total}
 use Rattle.vol_base.specs.Stored.{objects_of}
-use Rattle.vol_base.specs.declared.memory.Object.{Object}
+use Rattle.vol_base.specs.declared.object.Object.{Object}
 
 again : (a b : Bool) → (a || b) ≡ (a || (a || b))
 again true b = refl

@@ -3,10 +3,12 @@ pub mod BoxKept
 pub mod BoxText
 pub mod Boxes
 pub mod Bytes
+pub mod Calls
 pub mod Causes
 pub mod FaultTexts
 pub mod Gains
 pub mod Grids
+pub mod Held
 pub mod Memory
 pub mod Names
 pub mod Outside

@@ -3,11 +3,12 @@ use Rattle.std.specs.Prelude.{ℕ, IsTrue, ◌+◌, ◌-◌, ◌^◌, min, Bool,
 use Rattle.std.specs.Option.{option_map}
 use Rattle.std.specs.List.{list_any}
 use Rattle.std.specs.Prelude.{refl}
-use Rattle.std.specs.FinMap as map
-use Rattle.std.specs.Coded.{Coded, code_by, coded×, coded_ℕ, coded_list, coded_option}
+use Rattle.std.specs.Coded.{Coded, code_by, coded×, coded_ℕ, coded_list}
+use Rattle.vol_base.specs.declared.memory.MemoryStore.{MemoryStore}
 use Rattle.vol_base.specs.declared.outside.StoreRefusal.{StoreRefusal}
 use Rattle.vol_base.specs.declared.outside.StoreRefusal.TheVariants.{Failed, OutOfMemory}
 use Rattle.vol_base.specs.Outside.{Objects, Draft, IsTold}
+use Rattle.vol_base.specs.Stored.{objects_of, writing_of}
 
 -- a store in memory
 pub record Memory : Type 0 where
@@ -18,8 +19,26 @@ pub record Memory : Type 0 where
   pub calls : ℕ
   pub failing : List ℕ
 
+-- a store as it is seen
+abbrev pub seen : MemoryStore → Memory
+seen s = record {
+  objects = objects_of s.objects.items;
+  writing = writing_of s.writing;
+  asked = s.asked;
+  faults = s.faults;
+  calls = s.calls;
+  failing = s.failing.items;
+}
+
 abbrev pub draft_of : Memory → Option Draft
 draft_of m = option_map (λ d. record { len = length d.1; told = Some d }) m.writing
+
+-- its objects, and the one that is being written
+abbrev pub stored : MemoryStore → Option Objects
+stored s = Some (seen s).objects
+
+abbrev pub drafted : MemoryStore → Option Draft
+drafted s = draft_of (seen s)
 
 -- whether the next call fails
 abbrev pub fails : Memory → Bool
@@ -49,23 +68,6 @@ refused OutOfMemory m = called m
 
 abbrev pub bytes_code : Coded (List ℕ)
 bytes_code = coded_list coded_ℕ
-
-abbrev pub memory_code : Coded Memory
-memory_code =
-    code_by (Objects × (Option (List ℕ × List ℕ) × (ℕ × (ℕ × (ℕ × List ℕ)))))
-    (coded× (map.code bytes_code bytes_code) (coded× (coded_option (coded× bytes_code bytes_code))
-    (coded× coded_ℕ (coded× coded_ℕ (coded× coded_ℕ bytes_code)))))
-    (λ m. (m.objects, (m.writing, (m.asked, (m.faults, (m.calls, m.failing))))))
-    (λ p. record {
-      objects = p.0;
-      writing = p.1.0;
-      asked = p.1.1.0;
-      faults = p.1.1.1.0;
-      calls =
-          p.1.1.1.1.0;
-      failing = p.1.1.1.1.1;
-    })
-    (λ _. refl)
 
 -- what an outlet in memory is, seen from outside
 pub record Written : Type 0 where

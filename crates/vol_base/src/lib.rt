@@ -10,6 +10,7 @@ mod grid;
 mod link;
 mod memory;
 mod name;
+mod object;
 mod outlet;
 mod outside;
 mod whole;

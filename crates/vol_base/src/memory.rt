@@ -6,19 +6,12 @@ ghost use Rattle.vol_base.specs.Stored.{objects_of};
 ghost use Rattle.std.specs.Prelude.{◌↔◌, IsErr, IfErr, nat_eq, List, drop};
 ghost use Rattle.std.specs.List.{list_any};
 ghost use Rattle.vol_base.specs.Causes.{HasCause, HasCauseOf, counted, is_count};
-ghost use Rattle.vol_base.specs.Outside.{HaveBytes, KeepsRest, OnlyReads, Reads, part, asked_after, is_under, any_under, begun, appended, patched, finished, overwritten};
+ghost use Rattle.vol_base.specs.Outside.{KeepsRest, OnlyReads, Reads, part, asked_after, is_under, any_under, begun, appended, patched, finished, overwritten};
 
 use crate::calls::tick;
+use crate::object::{Object, Unfinished};
 use crate::{Failed, Got, Name, OutOfMemory, Source, Store, StoreRefusal, tell_bytes};
 use std::alloc::{AllocError, Global};
-use std::marker::Model;
-
-/// An object of a store in memory.
-#[derive(Drop)]
-pub struct Object {
-    name: Name,
-    bytes: Vec<u8>,
-}
 
 // The bytes of the newest object of this name.
 fn lookup<'a>(objects: &'a [Object], name: &Name) -> Option<&'a [u8]>
@@ -39,7 +32,6 @@ fn put_newest(objects: &mut Vec<Object>, name: Name, bytes: Vec<u8>) -> Result<(
     ensures ok { OnOk result (objects_of objects.new.items
         ≡ map.insert (objects_of objects.old.items) name bytes.items) }
     ensures err { OnErr result (objects.new.items ≡ objects.old.items) }
-    ensures bytes { HaveBytes (objects_of objects.old.items) → HaveBytes (objects_of objects.new.items) }
 {
     tell_bytes(&bytes);
     objects.insert(0, Object { name, bytes })?;
@@ -75,43 +67,22 @@ fn read_part(bytes: &[u8], at: u64, out: &mut [u8]) -> u64
 pub struct MemoryStore {
     alloc: Global,
     objects: Vec<Object>,
-    writing: Option<Object>,
+    writing: Option<Unfinished>,
     asked: u64,
     faults: u64,
     calls: u64,
     failing: Vec<u64>,
 }
 
-impl Model for MemoryStore {
-    ghost use Rattle.vol_base.specs.Memory.{Memory, memory_code};
-    ghost use Rattle.vol_base.specs.Outside.{HaveBytes};
-    ghost use Rattle.vol_base.specs.Stored.{objects_of, writing_of};
-
-    ghost Value = { Memory };
-
-    ghost coded = { memory_code };
-
-    ghost view = { λ s. record {
-      objects = objects_of s.objects.items;
-      writing = writing_of s.writing;
-      asked = s.asked;
-      faults = s.faults;
-      calls = s.calls;
-      failing = s.failing.items;
-    } };
-
-    ghost invariant = { λ s. HaveBytes (objects_of s.objects.items) };
-}
-
 impl MemoryStore {
     ghost use Rattle.std.specs.Prelude.{◌≡◌, OnOk, OnErr, None};
     ghost use Rattle.std.specs.Option.{option_map};
     ghost use Rattle.std.specs.FinMap as map;
-    ghost use Rattle.vol_base.specs.Memory.{Memory};
+    ghost use Rattle.vol_base.specs.Memory.{seen};
 
     /// No objects, and the numbers of the calls that fail.
     pub fn new(alloc: Global, failing: Vec<u64>) -> MemoryStore
-        ensures { result ≡ record {
+        ensures { seen result ≡ record {
           objects = map.empty;
           writing = None;
           asked = 0;
@@ -134,11 +105,11 @@ impl MemoryStore {
 
     /// Puts or replaces an object. It is no call that can fail but for want of memory.
     pub fn put(&mut self, name: &Name, bytes: Vec<u8>) -> Result<(), OutOfMemory>
-        ensures ok { OnOk result (self.new ≡ record self.old {
+        ensures ok { OnOk result (seen self.new ≡ record (seen self.old) {
           objects =
-              map.insert self.old.objects name.now bytes.items;
+              map.insert (seen self.old).objects name.now bytes.items;
         }) }
-        ensures err { OnErr result (self.new ≡ self.old) }
+        ensures err { OnErr result (seen self.new ≡ seen self.old) }
     {
         match put_newest(&mut self.objects, name.duplicate(), bytes) {
             Ok(()) => Ok(()),
@@ -155,7 +126,7 @@ impl MemoryStore {
 
     /// The bytes of an object.
     pub fn get(&self, name: &Name) -> Option<&[u8]>
-        ensures { option_map (λ b. b.now) result ≡ map.get self.now.objects name.now }
+        ensures { option_map (λ b. b.now) result ≡ map.get (seen self.now).objects name.now }
     {
         lookup(&self.objects, name)
     }
@@ -163,31 +134,32 @@ impl MemoryStore {
 
 impl Source for MemoryStore {
     ghost use Rattle.std.specs.Prelude.{Some};
-    ghost use Rattle.vol_base.specs.Memory.{called, draft_of, failed, fails};
+    ghost use Rattle.vol_base.specs.Held.{all_bytes};
+    ghost use Rattle.vol_base.specs.Memory.{called, drafted, failed, fails, seen, stored};
 
-    ghost objects = { λ m. Some m.objects };
+    ghost objects = { stored };
 
-    ghost draft = { draft_of };
+    ghost draft = { drafted };
 
     ghost history = { λ _. [] };
 
-    ghost asked = { λ m. counted m.asked };
+    ghost asked = { λ s. counted s.asked };
 
-    ghost faults = { λ m. counted m.faults };
+    ghost faults = { λ s. counted s.faults };
 
-    ghost counts = { λ m. (is_count m.asked, is_count m.faults) };
+    ghost counts = { λ s. (is_count s.asked, is_count s.faults) };
+
+    ghost bytes = { λ s. all_bytes s.objects.items };
 
     fn size(&mut self, name: &Name) -> Result<Option<u64>, Failed>
-        ensures found { IfOk result (λ size. IfSome (Some self.old.objects) (λ m.
+        ensures found { IfOk result (λ size. IfSome (stored self.old) (λ m.
             size ≡ option_map length (map.get m name.now))) }
-        ensures bytes { HaveBytes self.old.objects }
-        ensures kept { OnlyReads (Some self.old.objects) (Some self.new.objects) (draft_of self.old)
-            (draft_of self.new) }
+        ensures kept { OnlyReads (stored self.old) (stored self.new) (drafted self.old) (drafted self.new) }
         ensures asked { counted self.new.asked ≡ counted self.old.asked }
         ensures cause { HasCause (counted self.old.faults) (counted self.new.faults) result }
-        ensures fails { IsErr result ↔ IsTrue (fails self.old) }
-        ensures ok { OnOk result (self.new ≡ called self.old) }
-        ensures err { OnErr result (self.new ≡ failed self.old) }
+        ensures fails { IsErr result ↔ IsTrue (fails (seen self.old)) }
+        ensures ok { OnOk result (seen self.new ≡ called (seen self.old)) }
+        ensures err { OnErr result (seen self.new ≡ failed (seen self.old)) }
     {
         tick(&mut self.calls, &mut self.faults, &self.failing)?;
         match lookup(&self.objects, name) {
@@ -198,23 +170,21 @@ impl Source for MemoryStore {
 
     fn read_at(&mut self, name: &Name, at: u64, out: &mut [u8]) -> Result<Got, Failed>
         requires { at + length out.old < 2 ^ 64 }
-        ensures read { IfOk result (λ got. IfSome (Some self.old.objects) (λ m.
+        ensures read { IfOk result (λ got. IfSome (stored self.old) (λ m.
             Reads (map.get m name.now) at out.old out.new got)) }
         ensures rest { IfOk result (KeepsRest out.old out.new) }
-        ensures bytes { HaveBytes self.old.objects }
-        ensures kept { OnlyReads (Some self.old.objects) (Some self.new.objects) (draft_of self.old)
-            (draft_of self.new) }
+        ensures kept { OnlyReads (stored self.old) (stored self.new) (drafted self.old) (drafted self.new) }
         ensures asked { OnOk result (counted self.new.asked
             ≡ asked_after (counted self.old.asked) (length out.old)) }
         ensures asked_err { OnErr result ((counted self.old.asked ≤ counted self.new.asked) ×
             (counted self.new.asked ≤ counted self.old.asked + length out.old)) }
         ensures cause { HasCause (counted self.old.faults) (counted self.new.faults) result }
-        ensures fails { IsErr result ↔ IsTrue (fails self.old) }
-        ensures ok { OnOk result (self.new ≡ record (called self.old) {
+        ensures fails { IsErr result ↔ IsTrue (fails (seen self.old)) }
+        ensures ok { OnOk result (seen self.new ≡ record (called (seen self.old)) {
           asked =
               asked_after self.old.asked (length out.old);
         }) }
-        ensures err { OnErr result (self.new ≡ failed self.old) }
+        ensures err { OnErr result (seen self.new ≡ failed (seen self.old)) }
     {
         tick(&mut self.calls, &mut self.faults, &self.failing)?;
         self.asked = self.asked.saturating_add(out.len() as u64);
@@ -248,41 +218,39 @@ fn under(folder: &[u8], name: &[u8]) -> bool
 }
 
 impl Store for MemoryStore {
-    ghost use Rattle.vol_base.specs.Memory.{called, draft_of, failed, fails, FailsAs, memory_tells, refused};
+    ghost use Rattle.vol_base.specs.Memory.{called, drafted, failed, fails, FailsAs, memory_tells, refused, seen, stored};
 
-    ghost tells = { memory_tells };
+    ghost tells = { λ s. memory_tells (seen s) };
 
     fn any_under(&mut self, folder: &Name) -> Result<bool, Failed>
-        ensures found { IfOk result (λ found. IfSome (Some self.old.objects) (λ m.
+        ensures found { IfOk result (λ found. IfSome (stored self.old) (λ m.
             found ≡ any_under m folder.now)) }
-        ensures bytes { HaveBytes self.old.objects }
-        ensures kept { OnlyReads (Some self.old.objects) (Some self.new.objects) (draft_of self.old)
-            (draft_of self.new) }
+        ensures kept { OnlyReads (stored self.old) (stored self.new) (drafted self.old) (drafted self.new) }
         ensures asked { counted self.new.asked ≡ counted self.old.asked }
         ensures cause { HasCause (counted self.old.faults) (counted self.new.faults) result }
-        ensures fails { IsErr result ↔ IsTrue (fails self.old) }
-        ensures ok { OnOk result (self.new ≡ called self.old) }
-        ensures err { OnErr result (self.new ≡ failed self.old) }
+        ensures fails { IsErr result ↔ IsTrue (fails (seen self.old)) }
+        ensures ok { OnOk result (seen self.new ≡ called (seen self.old)) }
+        ensures err { OnErr result (seen self.new ≡ failed (seen self.old)) }
     {
         tick(&mut self.calls, &mut self.faults, &self.failing)?;
         Ok(any_in(&self.objects, folder))
     }
 
     fn begin(&mut self, name: &Name) -> Result<(), StoreRefusal>
-        ensures begun { OnOk result (draft_of self.new ≡ Some (begun (Some self.old.objects) name.now)) }
-        ensures refused { OnErr result (draft_of self.new ≡ None) }
-        ensures objects { Some self.new.objects ≡ Some self.old.objects }
+        ensures begun { OnOk result (drafted self.new ≡ Some (begun (stored self.old) name.now)) }
+        ensures refused { OnErr result (drafted self.new ≡ None) }
+        ensures objects { stored self.new ≡ stored self.old }
         ensures asked { counted self.new.asked ≡ counted self.old.asked }
         ensures cause { HasCauseOf StoreRefusal.Failed (counted self.old.faults) (counted self.new.faults) result }
-        ensures fails { IsErr result ↔ IsTrue (fails self.old) }
-        ensures ok { OnOk result (self.new ≡ record (called self.old) { writing = Some (name.now, []) }) }
-        ensures err { OnErr result (self.new ≡ record (failed self.old) { writing = None }) }
+        ensures fails { IsErr result ↔ IsTrue (fails (seen self.old)) }
+        ensures ok { OnOk result (seen self.new ≡ record (called (seen self.old)) { writing = Some (name.now, []) }) }
+        ensures err { OnErr result (seen self.new ≡ record (failed (seen self.old)) { writing = None }) }
     {
         self.writing = None;
         if tick(&mut self.calls, &mut self.faults, &self.failing).is_err() {
             return Err(StoreRefusal::Failed);
         }
-        self.writing = Some(Object {
+        self.writing = Some(Unfinished {
             name: name.duplicate(),
             bytes: Vec::new(self.alloc),
         });
@@ -290,21 +258,21 @@ impl Store for MemoryStore {
     }
 
     fn append(&mut self, piece: &[u8]) -> Result<(), StoreRefusal>
-        requires { IsSome (draft_of self.old) }
-        ensures appended { OnOk result (draft_of self.new
-            ≡ option_map (λ d. appended d piece.now) (draft_of self.old)) }
-        ensures refused { OnErr result (draft_of self.new ≡ None) }
-        ensures objects { Some self.new.objects ≡ Some self.old.objects }
+        requires { IsSome (drafted self.old) }
+        ensures appended { OnOk result (drafted self.new
+            ≡ option_map (λ d. appended d piece.now) (drafted self.old)) }
+        ensures refused { OnErr result (drafted self.new ≡ None) }
+        ensures objects { stored self.new ≡ stored self.old }
         ensures asked { counted self.new.asked ≡ counted self.old.asked }
         ensures cause { HasCauseOf StoreRefusal.Failed (counted self.old.faults) (counted self.new.faults) result }
-        ensures fails { IsTrue (fails self.old) → IsErr result }
-        ensures refusal { IfErr result (λ refusal. FailsAs refusal (fails self.old)) }
-        ensures ok { OnOk result (self.new ≡ record (called self.old) {
+        ensures fails { IsTrue (fails (seen self.old)) → IsErr result }
+        ensures refusal { IfErr result (λ refusal. FailsAs refusal (fails (seen self.old))) }
+        ensures ok { OnOk result (seen self.new ≡ record (called (seen self.old)) {
           writing =
-              option_map (λ d. (d.0, d.1 ++ piece.now)) self.old.writing;
+              option_map (λ d. (d.0, d.1 ++ piece.now)) (seen self.old).writing;
         }) }
-        ensures err { IfErr result (λ refusal. self.new
-            ≡ record (refused refusal self.old) { writing = None }) }
+        ensures err { IfErr result (λ refusal. seen self.new
+            ≡ record (refused refusal (seen self.old)) { writing = None }) }
     {
         let Some(object) = self.writing.take() else {
             return Ok(());
@@ -322,20 +290,20 @@ impl Store for MemoryStore {
     }
 
     fn patch_front(&mut self, at: u64, piece: &[u8]) -> Result<(), StoreRefusal>
-        requires written { IsSome (draft_of self.old) }
-        requires within { IfSome (draft_of self.old) (λ d. at + length piece.now ≤ d.len) }
-        ensures patched { OnOk result (draft_of self.new
-            ≡ option_map (λ d. patched d at piece.now) (draft_of self.old)) }
-        ensures refused { OnErr result (draft_of self.new ≡ None) }
-        ensures objects { Some self.new.objects ≡ Some self.old.objects }
+        requires written { IsSome (drafted self.old) }
+        requires within { IfSome (drafted self.old) (λ d. at + length piece.now ≤ d.len) }
+        ensures patched { OnOk result (drafted self.new
+            ≡ option_map (λ d. patched d at piece.now) (drafted self.old)) }
+        ensures refused { OnErr result (drafted self.new ≡ None) }
+        ensures objects { stored self.new ≡ stored self.old }
         ensures asked { counted self.new.asked ≡ counted self.old.asked }
         ensures cause { HasCauseOf StoreRefusal.Failed (counted self.old.faults) (counted self.new.faults) result }
-        ensures fails { IsErr result ↔ IsTrue (fails self.old) }
-        ensures ok { OnOk result (self.new ≡ record (called self.old) {
+        ensures fails { IsErr result ↔ IsTrue (fails (seen self.old)) }
+        ensures ok { OnOk result (seen self.new ≡ record (called (seen self.old)) {
           writing =
-              option_map (λ d. (d.0, overwritten d.1 at piece.now)) self.old.writing;
+              option_map (λ d. (d.0, overwritten d.1 at piece.now)) (seen self.old).writing;
         }) }
-        ensures err { OnErr result (self.new ≡ record (failed self.old) { writing = None }) }
+        ensures err { OnErr result (seen self.new ≡ record (failed (seen self.old)) { writing = None }) }
     {
         let Some(object) = self.writing.take() else {
             return Ok(());
@@ -351,22 +319,22 @@ impl Store for MemoryStore {
     }
 
     fn finish(&mut self) -> Result<(), StoreRefusal>
-        requires { IsSome (draft_of self.old) }
-        ensures finished { OnOk result (IfSome (draft_of self.old) (λ d.
-            Some self.new.objects ≡ option_map (finished d.told) (Some self.old.objects))) }
-        ensures draft { draft_of self.new ≡ None }
-        ensures refused { OnErr result (Some self.new.objects ≡ Some self.old.objects) }
+        requires { IsSome (drafted self.old) }
+        ensures finished { OnOk result (IfSome (drafted self.old) (λ d.
+            stored self.new ≡ option_map (finished d.told) (stored self.old))) }
+        ensures draft { drafted self.new ≡ None }
+        ensures refused { OnErr result (stored self.new ≡ stored self.old) }
         ensures asked { counted self.new.asked ≡ counted self.old.asked }
         ensures cause { HasCauseOf StoreRefusal.Failed (counted self.old.faults) (counted self.new.faults) result }
-        ensures fails { IsTrue (fails self.old) → IsErr result }
-        ensures refusal { IfErr result (λ refusal. FailsAs refusal (fails self.old)) }
-        ensures ok { OnOk result (self.new ≡ record (called self.old) {
+        ensures fails { IsTrue (fails (seen self.old)) → IsErr result }
+        ensures refusal { IfErr result (λ refusal. FailsAs refusal (fails (seen self.old))) }
+        ensures ok { OnOk result (seen self.new ≡ record (called (seen self.old)) {
           objects =
-              finished self.old.writing self.old.objects;
+              finished (seen self.old).writing (seen self.old).objects;
           writing = None;
         }) }
-        ensures err { IfErr result (λ refusal. self.new
-            ≡ record (refused refusal self.old) { writing = None }) }
+        ensures err { IfErr result (λ refusal. seen self.new
+            ≡ record (refused refusal (seen self.old)) { writing = None }) }
     {
         let Some(object) = self.writing.take() else {
             return Ok(());

@@ -54,7 +54,6 @@ pub trait Source {
     fn size(&mut self, name: &Name) -> Result<Option<u64>, Failed>
         ensures found { IfOk result (λ size. IfSome (objects self.old) (λ m.
             size ≡ option_map length (map.get m name.now))) }
-        ensures bytes { IfSome (objects self.old) HaveBytes }
         ensures kept { OnlyReads (objects self.old) (objects self.new) (draft self.old) (draft self.new) }
         ensures history { history self.new ≡ history self.old }
         ensures asked { asked self.new ≡ asked self.old }
@@ -67,7 +66,6 @@ pub trait Source {
         ensures read { IfOk result (λ got. IfSome (objects self.old) (λ m.
             Reads (map.get m name.now) at out.old out.new got)) }
         ensures rest { IfOk result (KeepsRest out.old out.new) }
-        ensures bytes { IfSome (objects self.old) HaveBytes }
         ensures kept { OnlyReads (objects self.old) (objects self.new) (draft self.old) (draft self.new) }
         ensures history { history self.new ≡ history self.old }
         ensures asked { OnOk result (asked self.new ≡ asked_after (asked self.old) (length out.old)) }
@@ -77,6 +75,9 @@ pub trait Source {
 
     /// Both counts are at most 2^64 - 1.
     ghost counts: { (s : Self) → IsCount (asked s) × IsCount (faults s) };
+
+    /// Objects that are told hold bytes.
+    ghost bytes: { (s : Self) → IfSome (objects s) HaveBytes };
 }
 
 /// A source that objects can be put into, one being written at a time.
@@ -85,7 +86,6 @@ pub trait Store: Source {
     fn any_under(&mut self, folder: &Name) -> Result<bool, Failed>
         ensures found { IfOk result (λ found. IfSome (Self.objects self.old) (λ m.
             found ≡ any_under m folder.now)) }
-        ensures bytes { IfSome (Self.objects self.old) HaveBytes }
         ensures kept { OnlyReads (Self.objects self.old) (Self.objects self.new) (Self.draft self.old)
             (Self.draft self.new) }
         ensures history { Self.history self.new ≡ Self.history self.old }

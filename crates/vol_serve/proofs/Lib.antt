@@ -1,4 +1,2 @@
 mod Closings
 mod LimitSteps
-mod NumberSteps
-mod PrefixSteps

@@ -4,7 +4,8 @@ use Rattle.std.specs.Prelude.{◌&&◌, nat_le, option_and_then, if◌then◌els
 use Rattle.std.specs.Option.{option_or}
 use Rattle.std.proofs.lemmas.Bool.{and_parts}
 use Rattle.std.proofs.lemmas.Bool.Decides.{nat_tests}
-use Rattle.vol_serve.specs.Words.{KeepsLimits, connection_count, connections_in, dataset_in, hall_line, in_four, number, port_in, serving_of, value_after, worker_count, workers_in}
+use Rattle.vol_serve.specs.Words.{KeepsLimits, connections_in, dataset_in, hall_line, in_four, port_in, serving_of, workers_in}
+use Rattle.line_words.specs.Words.{connection_count, number, value_after, worker_count}
 
 -- a number that passes a test keeps to it
 kept : (P : ℕ → Type 0) (test : ℕ → Bool) → ((n : ℕ) → test n ≡ true → P n) → (n : ℕ) (b : Bool) → test n ≡ b → IfSome (if b then Some n else None) P

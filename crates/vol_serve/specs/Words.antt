@@ -1,48 +1,14 @@
 -- The words of `vol_serve` (this project's profile).
-use Rattle.std.specs.Prelude.{ℕ, ◌≤◌, ◌&&◌, ◌||◌, ◌==◌, not, Bool, List, [], ◌∷◌, length, drop, slice_index, nat_eq, nat_le, Option, Some, None, option_and_then, if◌then◌else◌, codes}
-use Rattle.std.specs.Char.{is_ascii_digit}
-use Rattle.std.specs.List.{list_all, starts_with}
+use Rattle.std.specs.Prelude.{ℕ, ◌≤◌, List, [], ◌∷◌, Option, Some, None, option_and_then, if◌then◌else◌, codes}
 use Rattle.std.specs.Option.{option_or}
-use Rattle.std.specs.Str.Parse.{digits_value}
-use Rattle.vol_base.specs.Names.{is_name}
+use Rattle.line_words.specs.Words.{connection_count, is_plain, port_number, short_name, value_after, worker_count}
 use Rattle.vol_serve.specs.declared.words.Serving.{Serving}
 
--- a plain word isn't empty and doesn't begin with `-`
-abbrev pub is_plain : List ℕ → Bool
-is_plain word = nat_le 1 (length word) && not (slice_index word 0 == 45)
-
 -- DATASET: a plain word that is a name of at most 200 bytes
-abbrev pub short_name : List ℕ → Option (List ℕ)
-short_name word = if is_name word && nat_le (length word) 200 then Some word else None
-
 abbrev pub dataset_in : List ℕ → Option (List ℕ)
 dataset_in word = if is_plain word then short_name word else None
 
--- a number: `0`, or a digit 1 to 9 that at most nine digits follow
-abbrev pub is_number : List ℕ → Bool
-is_number word = list_all is_ascii_digit word && (nat_le 1 (length word) && nat_le (length word) 10) &&
-    (length word == 1 || not (slice_index word 0 == 48))
-
-abbrev pub number : List ℕ → Option ℕ
-number word = if is_number word then Some (digits_value 10 word) else None
-
--- what follows `--name=` in a word that begins so
-abbrev pub value_after : List ℕ → List ℕ → Option (List ℕ)
-value_after option word = if starts_with nat_eq word option then Some (drop (length option) word) else None
-
--- P: 0 to 65535
-abbrev pub port_number : List ℕ → Option ℕ
-port_number value = option_and_then (λ n. if nat_le n 65535 then Some n else None) (number value)
-
--- N: 1 to 65536
-abbrev pub connection_count : List ℕ → Option ℕ
-connection_count value = option_and_then (λ n. if nat_le 1 n && nat_le n 65536 then Some n else None)
-    (number value)
-
--- W: 1 to 16
-abbrev pub worker_count : List ℕ → Option ℕ
-worker_count value = option_and_then (λ n. if nat_le 1 n && nat_le n 16 then Some n else None) (number value)
-
+-- `--port=P`, `--connections=N` and `--workers=W`
 abbrev pub port_in : List ℕ → Option ℕ
 port_in word = option_and_then port_number (value_after (codes "--port=") word)
 
@@ -56,6 +22,7 @@ workers_in word = option_and_then worker_count (value_after (codes "--workers=")
 abbrev pub in_four : {A : Type 0} → (List ℕ → Option A) → List ℕ → List ℕ → List ℕ → List ℕ → Option A
 in_four find a b c d = option_or (option_or (option_or (find a) (find b)) (find c)) (find d)
 
+-- all four of them
 abbrev pub serving_of : Option (List ℕ) → Option ℕ → Option ℕ → Option ℕ → Option Serving
 serving_of (Some dataset) (Some port) (Some connections) (Some workers) =
     Some (record { dataset = dataset; port = port; connections = connections; workers = workers })

@@ -9,6 +9,7 @@ mod seg_shape;
 mod sharding;
 mod sizes;
 mod span;
+mod stored_scale;
 
 pub use encoding::Encoding;
 pub use entry::Entry;
@@ -18,3 +19,4 @@ pub use seg_shape::SegShape;
 pub use sharding::{HashKind, ShardPlace, Sharding};
 pub use sizes::ChunkSizes;
 pub use span::ChunkSpan;
+pub use stored_scale::StoredScale;

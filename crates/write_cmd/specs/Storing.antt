@@ -16,11 +16,11 @@ use Rattle.shard_writer.specs.declared.written.Written.{Written}
 use Rattle.write_plan.specs.Stream.{writes_of}
 use Rattle.write_plan.specs.declared.fault.PlanFault.{PlanFault}
 use Rattle.command_base.specs.Ending.{Ends}
-use Rattle.command_base.specs.Lines.{written_line}
 use Rattle.command_base.specs.Outlets.{Outlets}
+use Rattle.told_writer.specs.Lines.{count_line}
 use Rattle.size_laws.specs.Further.{all_views, further, written_views}
 use Rattle.size_laws.specs.Sizes.{AllSound, stored_all}
-use Rattle.view_writer.specs.Views.{cells_all, first_many, first_wide}
+use Rattle.view_writer.specs.Views.{cells_all, first_many, IsTooWide}
 use Rattle.command_base.specs.Scales.{stored_scale}
 use Rattle.command_base.specs.Statuses.{puts}
 use Rattle.command_base.specs.declared.refusal.NoScale.{NoScale}
@@ -92,7 +92,7 @@ PutsWrites (Err other) m now dataset s writes = ⊥
 -- what judging the writing limit answers
 abbrev pub JudgesLimit : Result ⊤ WriteRefusal → Scale → Type 0
 JudgesLimit (Ok done) s = All IsWritable (all_views s)
-JudgesLimit (Err (refused.TooManyVoxels voxels)) s = first_wide (all_views s) ≡ Some voxels
+JudgesLimit (Err (refused.TooManyVoxels voxels)) s = IsTooWide s voxels
 JudgesLimit (Err other) s = ⊥
 
 -- what writing a scale answers, and what stands after it
@@ -126,8 +126,7 @@ WritesAll result told m now list dataset key = IsOkAnd told (λ s.
 -- feed is read only then
 abbrev pub Judges : Result Written WriteRefusal → Result Scale NoScale → Objects → Name → Type 0
 Judges (Err (refused.NoScale why)) told m dataset = told ≡ Err why
-Judges (Err (refused.TooManyVoxels voxels)) told m dataset =
-    IsOkAnd told (λ s. first_wide (all_views s) ≡ Some voxels)
+Judges (Err (refused.TooManyVoxels voxels)) told m dataset = IsOkAnd told (λ s. IsTooWide s voxels)
 Judges (Err refused.NotEmpty) told m dataset = IsOkAnd told (AreFull m dataset)
 Judges (Err refused.StoreFault) told m dataset = Unit {0}
 Judges (Err refused.NoMemory) told m dataset = Unit {0}
@@ -168,10 +167,6 @@ pub record IsRight (answer : Result Written WriteRefusal) (told now : Option Obj
       WritesAll answer (stored_scale m dataset key) m now (writes_of bytes) dataset key))
   pub feed : KeepsFeed answer left_old left_new
   pub same : IfErr answer (λ refusal. puts (write_status refusal) ≡ false → now ≡ told)
-
--- the line of what was written
-abbrev pub count_line : Written → Bytes
-count_line written = written_line written.objects written.cells
 
 -- what `write` answers is right, and is told: its line is printed, or the line of its refusal goes to the error outlet, with the
 -- refusal's status

@@ -6,6 +6,7 @@ use Rattle.std.specs.Option.{option_map}
 use Rattle.std.proofs.lemmas.Grind.{not_there}
 use Rattle.std.proofs.lemmas.List.{length-map}
 use Rattle.std.proofs.lemmas.List.Elements.{All-weaker}
+use Rattle.vol_base.specs.Bytes.{AreBytes}
 use Rattle.vol_spec.specs.Limits.{IsWidth}
 use Rattle.vol_spec.specs.declared.scale.Scale.{Scale}
 use Rattle.write_plan.specs.Reading.{end_at, ended}
@@ -52,15 +53,20 @@ pub some_width : (w : ℕ) → ∥ IsWidth w ∥₁ → 0 < w
 some_width zero h = absurd (not_there h no_width)
 some_width (suc n) h = omega arith
 
-write_of_scale : (s : Scale) (w : BoxWrite) → IsWriteOf s w → IsWrite w
-write_of_scale s w h = record {
+write_of_scale : (s : Scale) (w : BoxWrite) → IsWriteOf s w → AreBytes w.1 → IsWrite w
+write_of_scale s w h bytes = record {
   some = h.inside.some;
+  bytes = bytes;
   fits = (s.channels, s.width, omega (arith, s.some_channels), some_width s.width s.width_ok, h.bytes);
 }
 
-pub are_writes : (s : Scale) (ws : List Write) (count : ℕ) → length ws ≡ count → count ≤ 65536 → total (writes_in ws) ≤ 2 ^ 30 → All (IsWriteOf s) (writes_in ws) → AreWrites (writes_in ws)
-are_writes s ws count e c t h = record {
+pub are_writes : (s : Scale) (ws : List Write) (count : ℕ) → length ws ≡ count → count ≤ 65536 → total (writes_in ws) ≤ 2 ^ 30 → All (IsWriteOf s) (writes_in ws) → All (λ (w : BoxWrite). AreBytes w.1) (writes_in ws) → AreWrites (writes_in ws)
+are_writes s ws count e c t h bytes = record {
   count = let l : length (writes_in ws) ≡ length ws = length-map ws _ in omega arith;
   small = t;
-  each = All-weaker (IsWriteOf s) IsWrite (write_of_scale s) (writes_in ws) h;
+  each = λ k w is. write_of_scale s _ (h k w is) (bytes k w is);
 }
+
+-- the bytes of writes are bytes
+pub writes_bytes : (ws : List BoxWrite) → AreWrites ws → All (λ (w : BoxWrite). AreBytes w.1) ws
+writes_bytes ws h = All-weaker IsWrite (λ w. AreBytes w.1) (λ w is. is.bytes) ws h.each

@@ -1,6 +1,7 @@
 -- Writes of boxes (this project's).
 use Rattle.std.specs.Prelude.{◌≡◌, ℕ, ◌<◌, ◌≤◌, ◌^◌, List, [], length, map, slice_index_or, sum}
 use Rattle.std.specs.List.{All}
+use Rattle.vol_base.specs.Bytes.{AreBytes}
 use Rattle.vol_base.specs.declared.boxes.Box3.{Box3}
 use Rattle.vol_base.specs.Boxes.{IsSome}
 use Rattle.vol_spec.specs.Grid.{Inside}
@@ -26,9 +27,10 @@ write_of ws n = slice_index_or ws n (record { begin = []; size = [] }, [])
 abbrev pub total : List BoxWrite → ℕ
 total ws = sum (map (λ w. length w.1) ws)
 
--- no axis of the box is empty, and the bytes are those of its values, for some channels and some width
+-- no axis of the box is empty, and the bytes are bytes, those of its values, for some channels and some width
 pub record IsWrite (w : BoxWrite) : Type 0 where
   pub some : IsSome w.0
+  pub bytes : AreBytes w.1
   pub fits : (channels width : ℕ) × (0 < channels) × (0 < width) × (length w.1 ≡ raw_len w.0 channels width)
 
 -- at most 65,536 writes, with at most 2^30 bytes of values (this project's limits)

@@ -1,5 +1,6 @@
 //! Plans of overlapping writes.
 ghost use Rattle.std.specs.Prelude.{◌≡◌, ◌<◌, ◌^◌, ◌↔◌, ℕ, Err, All, IfOk, length};
+ghost use Rattle.vol_base.specs.Bytes.{AreBytes};
 ghost use Rattle.vol_spec.specs.Encodings.{raw_size};
 ghost use Rattle.vol_spec.specs.Grid.{IsCell, cell_box};
 ghost use Rattle.vol_spec.specs.Raw.{raw_at};
@@ -60,6 +61,7 @@ impl Plan {
     pub fn of(alloc: Global, scale: &Scale, writes: Writes) -> Result<Plan, PlanRefusal>
         requires { All (IsWriteOf scale.now) writes }
         ensures plan { IfOk result (λ plan. plan ≡ record { scale = scale.now; writes = writes }) }
+        ensures bytes { IfOk result (λ plan. All (λ w. AreBytes w.1) plan.writes) }
         ensures too_many { (cells : ℕ) → (result ≡ Err (PlanRefusal.TooManyCells cells)) ↔
             ((2 ^ 22 < count_of scale.now writes) × (cells ≡ count_of scale.now writes)) }
     {

@@ -3,7 +3,7 @@ use Rattle.vol_spec.proofs.Told.{from_told, in_told}
 use Rattle.command_base.specs.Scales.{judged_info, ReadsScale, stored_scale}
 use Rattle.info_doc.specs.Info.{scale_in}
 use Rattle.command_base.proofs.Choices.{err_is}
-use Rattle.command_base.proofs.InfoSteps.{failed_info, front_of, judged_cause, long_info, on_ok}
+use Rattle.command_base.proofs.InfoSteps.{failed_info, front_of, judged_cause, long_info}
 use Rattle.command_base.proofs.info.read_on.Goals as goal
 
 pub returns-in_err-more-clause-read : goal.returns-in_err-more-clause-read
@@ -22,9 +22,6 @@ returns-clause-read g c =
     (c.deref-2.ensures.value ∙ c.in_ok-extend_from_slice.ensures.items
     ∙ ap (λ xs. c.args.document.items ++ xs) (ap (take c.in_ok-more.more) c.deref.ensures.value ∙ front_of c.in_ok-more.more _ c.read_piece.new.piece _ (omega (arith, c.deref_mut.ensures.len, c.in_ok-more.ensures.few)) (omega (arith, c.read_piece.auto.piece, c.in_ok-more.ensures.few))))
     c.judge_info.ensures.judged))
-
-pub returns-clause-bytes : goal.returns-clause-bytes
-returns-clause-bytes g c = on_ok c.judge_info.result _ c.in_ok-more.ensures.bytes
 
 pub returns-clause-cause : goal.returns-clause-cause
 returns-clause-cause g c = judged_cause c.judge_info.result c.in_ok-more.more _ _ c.judge_info.ensures.unasked c.in_ok-more.ensures.cause

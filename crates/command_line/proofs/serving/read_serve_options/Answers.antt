@@ -1,6 +1,6 @@
 use Rattle.std.proofs.Common.{◌≡◌, IfOk, false, codes, subst, rules}
 use Rattle.command_line.specs.Parsers.{is_given}
-use Rattle.command_line.specs.Words.{value_after}
+use Rattle.line_words.specs.Words.{value_after}
 use Rattle.command_line.proofs.ServeSteps.{port_second}
 use Rattle.command_line.proofs.serving.read_serve_options.Goals as goal
 

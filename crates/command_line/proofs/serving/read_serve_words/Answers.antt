@@ -1,6 +1,6 @@
 use Rattle.std.proofs.Common.{◌≡◌, ◌∙◌, true, false, ap, codes, option_and_then, refl, rules}
 use Rattle.command_line.specs.Parsers.{is_given, serve_by}
-use Rattle.command_line.specs.Words.{port_number, short_name, value_after}
+use Rattle.line_words.specs.Words.{port_number, short_name, value_after}
 use Rattle.command_line.proofs.ParserSteps.{serve_finds_words, value_behind}
 use Rattle.command_line.proofs.ServeSteps.{without_connections}
 use Rattle.command_line.proofs.serving.read_serve_words.Goals as goal

@@ -1,6 +1,6 @@
 use Rattle.std.proofs.Common.{◌∙◌, ap, map, string_bytes, Global}
 use Rattle.std.specs.List.{list_all}
-use Rattle.command_line.specs.Words.{is_plain}
+use Rattle.line_words.specs.Words.{is_plain}
 use Rattle.command_line.proofs.SortSteps.{filter_all}
 use Rattle.command_line.proofs.words.read_command.Goals as goal
 

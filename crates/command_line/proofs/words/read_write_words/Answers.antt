@@ -1,6 +1,7 @@
 use Rattle.std.proofs.Common.{◌≡◌, ◌∙◌, true, false, ap, codes, option_and_then, sym, rules}
 use Rattle.command_line.specs.Parsers.{is_given, write_by}
-use Rattle.command_line.specs.Words.{short_name, value_after, worker_count, write_of}
+use Rattle.command_line.specs.Words.{write_of}
+use Rattle.line_words.specs.Words.{short_name, value_after, worker_count}
 use Rattle.command_line.proofs.LineSteps.{without_value}
 use Rattle.command_line.proofs.ParserSteps.{value_behind, write_finds_word}
 use Rattle.command_line.proofs.words.read_write_words.Goals as goal

@@ -1,6 +1,6 @@
 use Rattle.std.proofs.Common.{◌≡◌, Global, map, take, not, string_bytes}
 use Rattle.std.specs.Prelude.{filter}
-use Rattle.command_line.specs.Words.{is_plain}
+use Rattle.line_words.specs.Words.{is_plain}
 use Rattle.command_line.proofs.words.sort_words.Given as goal
 
 -- the words so far are sorted

@@ -47,10 +47,10 @@ loop-cell-preserved g c = record {
       c.mark_source.new.marks (ap (λ r. r.dataset) c.loop-cell.invariant.same) (ap (λ r. r.scale) c.loop-cell.invariant.same ∙ c.requires.source) c.place.ensures.positions (from_told _ _ m (c.loop-cell.invariant.kept.same_objects ∙ told) c.in-Ok.ensures.marks));
   same = c.mark_source.ensures.same ∙ c.loop-cell.invariant.same;
   kept = record {
-    same_objects = c.mark_source.ensures.kept.same_objects ∙ c.loop-cell.invariant.kept.same_objects;
-    same_draft = c.mark_source.ensures.kept.same_draft ∙ c.loop-cell.invariant.kept.same_draft;
+    same_objects = c.mark_source.ensures.reads.kept.same_objects ∙ c.loop-cell.invariant.kept.same_objects;
+    same_draft = c.mark_source.ensures.reads.kept.same_draft ∙ c.loop-cell.invariant.kept.same_draft;
   };
-  later = omega (arith, c.in-Ok.ensures.cause.stands, c.loop-cell.invariant.later);
+  later = omega (arith, c.in-Ok.ensures.reads.cause.stands, c.loop-cell.invariant.later);
 }
 
 pub returns-clause-marks : goal.returns-clause-marks

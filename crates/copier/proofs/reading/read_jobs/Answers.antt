@@ -49,10 +49,10 @@ loop-k-preserved g c =
           c.args.reader.now c.loop-k.reader c.read_frame.new.reader c.loop-k.invariant.same here (c.loop-k.invariant.run m told) (from_told _ _ m (c.loop-k.invariant.kept.same_objects ∙ told) c.in-Ok.ensures.run);
       keeps = subst (λ o. KeepsIndex o c.read_frame.new.reader) c.loop-k.invariant.kept.same_objects c.read_frame.ensures.keeps;
       kept = record {
-        same_objects = c.read_frame.ensures.kept.same_objects ∙ c.loop-k.invariant.kept.same_objects;
-        same_draft = c.read_frame.ensures.kept.same_draft ∙ c.loop-k.invariant.kept.same_draft;
+        same_objects = c.read_frame.ensures.reads.kept.same_objects ∙ c.loop-k.invariant.kept.same_objects;
+        same_draft = c.read_frame.ensures.reads.kept.same_draft ∙ c.loop-k.invariant.kept.same_draft;
       };
-      later = omega (arith, c.in-Ok.ensures.cause.stands, c.loop-k.invariant.later);
+      later = omega (arith, c.in-Ok.ensures.reads.cause.stands, c.loop-k.invariant.later);
     }
 
 pub loop-k-init : goal.loop-k-init

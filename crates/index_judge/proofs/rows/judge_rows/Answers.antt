@@ -39,11 +39,11 @@ loop-walk-preserved g c = record {
       (held_at columns c.rows-first.result c.loop-walk.walk.rows c.count_next-count.result c.read_rows.new.ids c.read_rows.new.starts c.read_rows.new.sizes c.rows-first.ensures (c.in-Ok.ensures.read object now fits))
       (omega (arith, c.rows-first.ensures, c.count_next-count.ensures.within)));
   kept = record {
-    same_objects = c.in-Ok.ensures.kept.same_objects ∙ c.loop-walk.invariant.kept.same_objects;
-    same_draft = c.in-Ok.ensures.kept.same_draft ∙ c.loop-walk.invariant.kept.same_draft;
+    same_objects = c.in-Ok.ensures.reads.kept.same_objects ∙ c.loop-walk.invariant.kept.same_objects;
+    same_draft = c.in-Ok.ensures.reads.kept.same_draft ∙ c.loop-walk.invariant.kept.same_draft;
   };
   asked = omega (arith, c.in-Ok-judge_columns.ensures.rows, c.read_rows.ensures.asked, c.loop-walk.invariant.asked);
-  later = omega (arith, c.in-Ok.ensures.cause.stands, c.loop-walk.invariant.later);
+  later = omega (arith, c.in-Ok.ensures.reads.cause.stands, c.loop-walk.invariant.later);
 }
 
 pub returns-clause-judged : goal.returns-clause-judged

@@ -11,10 +11,10 @@ loop-minishard-preserved g c = record {
       c.in-Ok-true.is c.in-Ok-true.field-0-test c.loop-minishard.invariant.kept.same_objects c.loop-minishard.invariant.past c.keep_minishard.ensures.keeps;
   own = front_more c.args.scale.now c.args.sharding.now c.args.plan.now.writes c.args.shard c.loop-minishard.minishard c.args.found.now c.loop-minishard.found c.keep_minishard.new.found c.loop-minishard.invariant.own c.in-Ok-true.ensures.own;
   kept = record {
-    same_objects = c.in-Ok-true.ensures.kept.same_objects ∙ c.loop-minishard.invariant.kept.same_objects;
-    same_draft = c.in-Ok-true.ensures.kept.same_draft ∙ c.loop-minishard.invariant.kept.same_draft;
+    same_objects = c.in-Ok-true.ensures.reads.kept.same_objects ∙ c.loop-minishard.invariant.kept.same_objects;
+    same_draft = c.in-Ok-true.ensures.reads.kept.same_draft ∙ c.loop-minishard.invariant.kept.same_draft;
   };
-  later = omega (arith, c.in-Ok-true.ensures.cause.stands, c.loop-minishard.invariant.later);
+  later = omega (arith, c.in-Ok-true.ensures.reads.cause.stands, c.loop-minishard.invariant.later);
 }
 
 pub returns-in-Ok-false-clause-keeps : goal.returns-in-Ok-false-clause-keeps

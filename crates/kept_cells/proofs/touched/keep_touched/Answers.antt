@@ -39,10 +39,10 @@ loop-shard-preserved g c =
       own = shards_more c.args.scale.now c.args.sharding.now c.args.plan.now.writes (touched_shards c.args.scale.now c.args.sharding.now c.args.plan.now.writes) k (get_or c.args.shards.now k 0) c.loop-shard.found c.judge_shard.new.found
           (touched_up c.args.scale.now c.args.sharding.now c.args.plan.now.writes) (omega (arith, len, c.loop-shard-test.true)) (ap (λ xs. get_or xs k 0) c.requires.shards) c.loop-shard.invariant.own c.in-Ok.ensures.own;
       kept = record {
-        same_objects = c.in-Ok.ensures.kept.same_objects ∙ c.loop-shard.invariant.kept.same_objects;
-        same_draft = c.in-Ok.ensures.kept.same_draft ∙ c.loop-shard.invariant.kept.same_draft;
+        same_objects = c.in-Ok.ensures.reads.kept.same_objects ∙ c.loop-shard.invariant.kept.same_objects;
+        same_draft = c.in-Ok.ensures.reads.kept.same_draft ∙ c.loop-shard.invariant.kept.same_draft;
       };
-      later = omega (arith, c.in-Ok.ensures.cause.stands, c.loop-shard.invariant.later);
+      later = omega (arith, c.in-Ok.ensures.reads.cause.stands, c.loop-shard.invariant.later);
     }
 
 pub returns-clause-judged : goal.returns-clause-judged

@@ -1,5 +1,5 @@
 use Rattle.std.proofs.Common.{◌≡◌, false}
-use Rattle.vol_base.specs.Outside.{HaveBytes, any_under}
+use Rattle.vol_base.specs.Outside.{any_under}
 use Rattle.vol_spec.specs.CellNames.{folder_of}
 use Rattle.make_scale.proofs.AnswerSteps.{few_cells, folder_judged, folder_kept, folder_told, scales_judged, scales_kept, scales_told, told_in}
 use Rattle.make_scale.proofs.scale.make_scale.Goals as goal
@@ -25,20 +25,17 @@ returns-in-Err-judge_folder-clause-judges g c =
 pub returns-in-Err-judge_folder-clause-makes : goal.returns-in-Err-judge_folder-clause-makes
 returns-in-Err-judge_folder-clause-makes g c =
     folder_told (λ m. g.M.Making.says c.args.making.now m (g.S.Source.objects c.judge_folder.new.store) c.args.from_dataset.now c.args.from.now c.args.to_dataset.now c.args.to.now) c.in-Err-judge_folder.refusal (g.S.Source.objects c.args.store.now)
-    (g.S.Source.objects c.judge_folder.new.store) c.args.to_dataset.now c.args.to.now c.in-Err-judge_folder.ensures.early c.judge_folder.ensures.kept.same_objects c.in-Err-judge_folder.ensures.empty
+    (g.S.Source.objects c.judge_folder.new.store) c.args.to_dataset.now c.args.to.now c.in-Err-judge_folder.ensures.early c.judge_folder.ensures.reads.kept.same_objects c.in-Err-judge_folder.ensures.empty
 
 pub returns-in-Err-judge_folder-clause-kept : goal.returns-in-Err-judge_folder-clause-kept
 returns-in-Err-judge_folder-clause-kept g c =
     folder_kept c.in-Err-judge_folder.refusal (g.S.Source.objects c.args.store.now) (g.S.Source.objects c.judge_folder.new.store) (g.S.Source.draft c.args.store.now) (g.S.Source.draft c.judge_folder.new.store)
-    c.in-Err-judge_folder.ensures.early c.judge_folder.ensures.kept
+    c.in-Err-judge_folder.ensures.early c.judge_folder.ensures.reads.kept
 
 pub write_made-requires-clause-few : goal.write_made-requires-clause-few
 write_made-requires-clause-few g c κs within = few_cells c.args.from.now c.args.to.now c.in-Ok.ensures.judges.1
 
 pub write_made-requires-clause-empty : goal.write_made-requires-clause-empty
 write_made-requires-clause-empty g c κs within =
-    told_in (g.S.Source.objects c.args.store.now) (g.S.Source.objects c.judge_folder.new.store) (λ m. any_under m (folder_of c.args.to_dataset.now c.args.to.now) ≡ false) c.judge_folder.ensures.kept.same_objects
+    told_in (g.S.Source.objects c.args.store.now) (g.S.Source.objects c.judge_folder.new.store) (λ m. any_under m (folder_of c.args.to_dataset.now c.args.to.now) ≡ false) c.judge_folder.ensures.reads.kept.same_objects
     c.in-Ok-judge_folder.ensures.empty
-
-pub write_made-requires-clause-bytes : goal.write_made-requires-clause-bytes
-write_made-requires-clause-bytes g c κs within = told_in (g.S.Source.objects c.args.store.now) (g.S.Source.objects c.judge_folder.new.store) HaveBytes c.judge_folder.ensures.kept.same_objects c.judge_folder.ensures.bytes

@@ -61,8 +61,8 @@ loop-k-init g c =
       keeps = c.cut_source.ensures.keeps;
       room = c.cut_source.ensures.room;
       ahead = c.requires.ahead;
-      kept = c.cut_source.ensures.kept;
-      later = omega (arith, c.in-Ok.ensures.cause.stands);
+      kept = c.cut_source.ensures.reads.kept;
+      later = omega (arith, c.in-Ok.ensures.reads.cause.stands);
     }
 
 pub reduce_and_read-requires-clause-next : goal.reduce_and_read-requires-clause-next
@@ -85,7 +85,7 @@ returns-in-Err-reduce_and_read-clause-read g c =
     read_failed (reductions_of c.args.method m c.args.reader.now.opened.dataset c.args.from.now c.args.to.now) c.args.to.now (cells_in c.args.jobs.now) c.args.first (c.loop-k.k + 1) c.args.count
     (map (λ f. f.items) (slice_set c.loop-k.frames c.loop-k.k c.reduce_and_read.new.frame)) _ c.get-in-loop-k.result.cell [] c.in-Err-reduce_and_read.fault here (omega (arith, c.loop-k-test.true))
     (next_read m c.args.method c.args.reader.now.opened.dataset c.args.from.now c.args.to.now (cells_in c.args.jobs.now) c.args.first c.loop-k.k c.loop-k.frames c.reduce_and_read.new.frame c.loop-k.cell c.loop-k.buffer.items c.loop-k.buffer.items c.requires.next c.loop-k.invariant.own
-    (from_told _ _ m told c.requires.bytes) c.loop-k.invariant.cell inside refl c.reduce_and_read.ensures.reduced (c.loop-k.invariant.cut m told) (c.loop-k.invariant.read m told))
+    (from_told _ _ m told (g.met.S.Source.bytes c.args.store.now)) c.loop-k.invariant.cell inside refl c.reduce_and_read.ensures.reduced (c.loop-k.invariant.cut m told) (c.loop-k.invariant.read m told))
     (failed_one m c.args.method c.args.reader.now.opened.dataset c.args.from.now c.args.to.now c.get-in-loop-k.result.cell c.reduce_and_read.new.buffer.items [] c.in-Err-reduce_and_read.fault
     (subst (λ (r : Opened). CutsBox (Err c.in-Err-reduce_and_read.fault) m r.dataset c.args.from.now (source_box c.args.from.now c.args.to.now c.get-in-loop-k.result.cell) c.reduce_and_read.new.buffer.items) c.loop-k.invariant.same
     (from_told _ _ m (c.loop-k.invariant.kept.same_objects ∙ told) c.in-Err-reduce_and_read.ensures.cut))))
@@ -93,11 +93,17 @@ returns-in-Err-reduce_and_read-clause-read g c =
 pub returns-in-Err-reduce_and_read-clause-each : goal.returns-in-Err-reduce_and_read-clause-each
 returns-in-Err-reduce_and_read-clause-each g c = holds_set c.args.to.now c.loop-k.frames c.loop-k.k _ c.loop-k.invariant.each c.reduce_and_read.ensures.holds
 
-pub returns-in-Err-reduce_and_read-clause-cause : goal.returns-in-Err-reduce_and_read-clause-cause
-returns-in-Err-reduce_and_read-clause-cause g c = record {
-  later = omega (arith, c.reduce_and_read.ensures.cause.later, c.loop-k.invariant.later);
-  failed = λ told. subst (λ n. Rose n (g.S.Source.faults c.reduce_and_read.new.store)) c.loop-k.invariant.later (c.in-Err-reduce_and_read.ensures.cause.failed told);
-  stands = tt;
+pub returns-in-Err-reduce_and_read-clause-reads : goal.returns-in-Err-reduce_and_read-clause-reads
+returns-in-Err-reduce_and_read-clause-reads g c = record {
+  kept = record {
+    same_objects = c.reduce_and_read.ensures.reads.kept.same_objects ∙ c.loop-k.invariant.kept.same_objects;
+    same_draft = c.reduce_and_read.ensures.reads.kept.same_draft ∙ c.loop-k.invariant.kept.same_draft;
+  };
+  cause = record {
+    later = omega (arith, c.reduce_and_read.ensures.reads.cause.later, c.loop-k.invariant.later);
+    failed = λ told. subst (λ n. Rose n (g.S.Source.faults c.reduce_and_read.new.store)) c.loop-k.invariant.later (c.in-Err-reduce_and_read.ensures.reads.cause.failed told);
+    stands = tt;
+  };
 }
 
 pub loop-k-preserved : goal.loop-k-preserved
@@ -114,7 +120,7 @@ loop-k-preserved g c =
       frames = length-set c.loop-k.frames c.loop-k.k _ ∙ c.loop-k.invariant.frames;
       read = λ m told.
           next_read m c.args.method c.args.reader.now.opened.dataset c.args.from.now c.args.to.now (cells_in c.args.jobs.now) c.args.first c.loop-k.k c.loop-k.frames c.reduce_and_read.new.frame c.loop-k.cell c.loop-k.buffer.items c.loop-k.buffer.items c.requires.next c.loop-k.invariant.own
-          (from_told _ _ m told c.requires.bytes) c.loop-k.invariant.cell inside refl c.reduce_and_read.ensures.reduced (c.loop-k.invariant.cut m told) (c.loop-k.invariant.read m told);
+          (from_told _ _ m told (g.met.S.Source.bytes c.args.store.now)) c.loop-k.invariant.cell inside refl c.reduce_and_read.ensures.reduced (c.loop-k.invariant.cut m told) (c.loop-k.invariant.read m told);
       cut = λ m told.
           subst (λ (r : Opened). CutsBox (Ok tt) m r.dataset c.args.from.now (source_box c.args.from.now c.args.to.now c.get-in-loop-k.result.cell) c.reduce_and_read.new.buffer.items) c.loop-k.invariant.same
           (from_told _ _ m (c.loop-k.invariant.kept.same_objects ∙ told) c.in-Ok-reduce_and_read.ensures.cut);
@@ -124,10 +130,10 @@ loop-k-preserved g c =
       room = c.reduce_and_read.ensures.room;
       ahead = c.reduce_and_read.ensures.ahead;
       kept = record {
-        same_objects = c.reduce_and_read.ensures.kept.same_objects ∙ c.loop-k.invariant.kept.same_objects;
-        same_draft = c.reduce_and_read.ensures.kept.same_draft ∙ c.loop-k.invariant.kept.same_draft;
+        same_objects = c.reduce_and_read.ensures.reads.kept.same_objects ∙ c.loop-k.invariant.kept.same_objects;
+        same_draft = c.reduce_and_read.ensures.reads.kept.same_draft ∙ c.loop-k.invariant.kept.same_draft;
       };
-      later = omega (arith, c.in-Ok-reduce_and_read.ensures.cause.stands, c.loop-k.invariant.later);
+      later = omega (arith, c.in-Ok-reduce_and_read.ensures.reads.cause.stands, c.loop-k.invariant.later);
     }
 
 pub reduce_source-requires-clause-holds : goal.reduce_source-requires-clause-holds
@@ -142,7 +148,7 @@ returns-clause-read g c =
     in_told _ _ (λ m told.
     subst (λ n. AreRead (reductions_of c.args.method m c.args.reader.now.opened.dataset c.args.from.now c.args.to.now) c.args.to.now (cells_in c.args.jobs.now) c.args.first n (map (λ f. f.items) (slice_set c.loop-k.frames (c.args.count - 1) c.reduce_source.new.frame))) all
     (next_read m c.args.method c.args.reader.now.opened.dataset c.args.from.now c.args.to.now (cells_in c.args.jobs.now) c.args.first (c.args.count - 1) c.loop-k.frames c.reduce_source.new.frame c.loop-k.cell c.loop-k.buffer.items c.deref.result.now c.requires.next c.loop-k.invariant.own
-    (from_told _ _ m told c.requires.bytes) (c.loop-k.invariant.cell ∙ ap (λ k. cell_of (cells_in c.args.jobs.now) (c.args.first + k)) done) inside c.deref.ensures.value c.reduce_source.ensures.reduced (c.loop-k.invariant.cut m told)
+    (from_told _ _ m told (g.met.S.Source.bytes c.args.store.now)) (c.loop-k.invariant.cell ∙ ap (λ k. cell_of (cells_in c.args.jobs.now) (c.args.first + k)) done) inside c.deref.ensures.value c.reduce_source.ensures.reduced (c.loop-k.invariant.cut m told)
     (subst (λ n. AreRead (reductions_of c.args.method m c.args.reader.now.opened.dataset c.args.from.now c.args.to.now) c.args.to.now (cells_in c.args.jobs.now) c.args.first n (map (λ f. f.items) c.loop-k.frames)) done (c.loop-k.invariant.read m told))))
 
 pub returns-clause-filled : goal.returns-clause-filled
@@ -156,5 +162,8 @@ returns-clause-filled g c =
 pub returns-clause-each : goal.returns-clause-each
 returns-clause-each g c = holds_set c.args.to.now c.loop-k.frames (c.args.count - 1) _ c.loop-k.invariant.each c.reduce_source.ensures.holds
 
-pub returns-clause-cause : goal.returns-clause-cause
-returns-clause-cause g c = record { later = omega (arith, c.loop-k.invariant.later); failed = λ told. absurd (cc told); stands = c.loop-k.invariant.later }
+pub returns-clause-reads : goal.returns-clause-reads
+returns-clause-reads g c = record {
+  kept = c.loop-k.invariant.kept;
+  cause = record { later = omega (arith, c.loop-k.invariant.later); failed = λ told. absurd (cc told); stands = c.loop-k.invariant.later };
+}

@@ -45,10 +45,10 @@ loop-walk-preserved g c = record {
       (omega (arith, c.rows-first.ensures, c.count_next-count.ensures.within)));
   added = c.in-Ok-keep_columns.ensures.added c.args.kept.now.items c.loop-walk.invariant.added;
   kept = record {
-    same_objects = c.in-Ok.ensures.kept.same_objects ∙ c.loop-walk.invariant.kept.same_objects;
-    same_draft = c.in-Ok.ensures.kept.same_draft ∙ c.loop-walk.invariant.kept.same_draft;
+    same_objects = c.in-Ok.ensures.reads.kept.same_objects ∙ c.loop-walk.invariant.kept.same_objects;
+    same_draft = c.in-Ok.ensures.reads.kept.same_draft ∙ c.loop-walk.invariant.kept.same_draft;
   };
-  later = omega (arith, c.in-Ok.ensures.cause.stands, c.loop-walk.invariant.later);
+  later = omega (arith, c.in-Ok.ensures.reads.cause.stands, c.loop-walk.invariant.later);
 }
 
 pub returns-clause-keeps : goal.returns-clause-keeps

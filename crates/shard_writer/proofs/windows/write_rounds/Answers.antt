@@ -1,7 +1,7 @@
 use Rattle.std.proofs.Common.{◌≡◌, ◌≤◌, Ok, arith, inr, refl, subst}
 use Rattle.vol_base.specs.declared.outside.StoreRefusal.{StoreRefusal}
 use Rattle.shard_writer.specs.Plain.{ready_objects}
-use Rattle.shard_writer.specs.Writing.{Puts}
+use Rattle.shard_writer.specs.Works.{Puts}
 use Rattle.shard_writer.proofs.RoundPuts.{ready_more, ready_none, ready_stopped}
 use Rattle.shard_writer.proofs.RoundSteps.{prepared_part}
 use Rattle.shard_writer.proofs.WindowSteps.{drops_on}

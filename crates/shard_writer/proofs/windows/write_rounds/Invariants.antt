@@ -2,7 +2,8 @@ use Rattle.std.proofs.Common.{◌≡◌, ◌-◌, ◌*◌, ◌^◌, ◌≤◌, O
 use Rattle.vol_base.specs.declared.outside.StoreRefusal.{StoreRefusal}
 use Rattle.shard_writer.specs.Plain.{ready_objects}
 use Rattle.shard_writer.specs.Serving.{ServesRounds}
-use Rattle.shard_writer.specs.Writing.{Drops, Puts}
+use Rattle.shard_writer.specs.Writing.{Drops}
+use Rattle.shard_writer.specs.Works.{Puts}
 use Rattle.shard_writer.proofs.windows.write_rounds.Given as goal
 
 abbrev pub invariant-loop-begin : goal.invariant-loop-begin

@@ -1,8 +1,12 @@
 use Rattle.chunk_grid.proofs.NameSteps.{cell_name-box}
 use Rattle.size_laws.proofs.FindingLaw.{sound_from, sound_none}
+use Rattle.size_laws.proofs.ViewLaws.{first_says}
 use Rattle.size_laws.proofs.Law.{all_faultless, all_outside, own_values, written_all_sound}
 use Rattle.std.proofs.Common.{◌∙◌, sym}
 use Rattle.size_laws.proofs.views.tell_views.Goals as goal
+
+pub returns-clause-first : goal.returns-clause-first
+returns-clause-first c = first_says c.args.dataset.now c.args.scale.now
 
 pub returns-clause-names : goal.returns-clause-names
 returns-clause-names c u v a b hu hv ha hb e = cell_name-box c.args.dataset.now u v a b (hu.keys ∙ sym hv.keys) ha hb e

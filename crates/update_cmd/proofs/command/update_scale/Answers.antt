@@ -8,7 +8,7 @@ use Rattle.update_cmd.proofs.command.update_scale.Goals as goal
 pub returns-in-Ok-clause-answers : goal.returns-in-Ok-clause-answers
 returns-in-Ok-clause-answers g c key =
     made_told c.in-Ok.written (g.S.Source.objects c.args.store.now) (g.S.Source.objects c.update.new.store) (g.F.Feed.left c.args.feed.now) c.args.dataset.now key c.args.scale.now c.in_ok-writes.writes
-    c.in_ok-writes.ensures.exact (c.requires.writable, c.requires.one) c.in_ok-writes.ensures.bytes c.requires.bytes c.in-Ok.ensures.updates
+    c.in_ok-writes.ensures.exact (c.requires.writable, c.requires.one) c.in_ok-writes.ensures.bytes (g.met.S.Source.bytes c.args.store.now) c.in-Ok.ensures.updates
 
 pub returns-in-Err-clause-answers : goal.returns-in-Err-clause-answers
 returns-in-Err-clause-answers g c key =

@@ -1,12 +1,7 @@
-use Rattle.vol_base.specs.Outside.{HaveBytes}
 use Rattle.update_cmd.proofs.AnswerSteps.{drops_read, drops_unread, key_judges, key_told, leaves_read, unread_feed, unread_judges, unread_leaves, unread_told}
 use Rattle.update_cmd.proofs.BegunSteps.{begun_stored}
-use Rattle.update_cmd.proofs.UpdateSteps.{told_in}
 use Rattle.write_cmd.proofs.WriteSteps.{takes_none}
 use Rattle.update_cmd.proofs.command.update_stored.Goals as goal
-
-pub update_scale-requires-clause-bytes : goal.update_scale-requires-clause-bytes
-update_scale-requires-clause-bytes g c κs within = told_in (g.S.Source.objects c.args.store.now) (g.S.Source.objects c.read_writable.new.store) HaveBytes c.read_writable.ensures.kept.same_objects c.in-Ok.ensures.bytes
 
 pub returns-in-Ok-clause-judges : goal.returns-in-Ok-clause-judges
 returns-in-Ok-clause-judges g c = key_judges c.update_scale.result (g.S.Source.objects c.args.store.now) c.args.dataset.now c.args.key.now c.in-Ok.scale c.in-Ok.ensures.read c.update_scale.ensures.judges

@@ -1,6 +1,4 @@
 use Rattle.std.proofs.Common.{◌≤◌, ◌^◌, ap, subst, sym}
-use Rattle.std.specs.Prelude.{All}
-use Rattle.vol_base.specs.Bytes.{AreBytes}
 use Rattle.write_cmd.proofs.PlanSteps.{few_pairs}
 use Rattle.write_plan.specs.Plans.{Planned, pairs}
 use Rattle.update_cmd.proofs.BegunSteps.{begun_as}
@@ -10,10 +8,6 @@ use Rattle.update_cmd.proofs.updating.update.Goals as goal
 pub update_planned-requires-clause-few : goal.update_planned-requires-clause-few
 update_planned-requires-clause-few g c κs within =
     subst (λ ws. pairs c.args.scale.now ws ≤ 2 ^ 22) (ap (λ (p : Planned). p.writes) (sym c.in-Ok.ensures.plan)) (few_pairs c.in-Ok.plan (pairs c.args.scale.now c.args.writes) (2 ^ 22) c.in-Ok.ensures.too_many)
-
-pub update_planned-requires-clause-written : goal.update_planned-requires-clause-written
-update_planned-requires-clause-written g c κs within =
-    subst (λ ws. All (λ write. AreBytes write.1) ws) (ap (λ (p : Planned). p.writes) (sym c.in-Ok.ensures.plan)) c.requires.written
 
 pub returns-in-Ok-clause-updates : goal.returns-in-Ok-clause-updates
 returns-in-Ok-clause-updates g c =

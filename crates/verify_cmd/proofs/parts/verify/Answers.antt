@@ -3,7 +3,8 @@ use Rattle.vol_spec.specs.Grid.{Inside}
 use Rattle.size_laws.specs.Further.{all_views}
 use Rattle.view_judge.specs.Judging.{cells_of}
 use Rattle.verify_cmd.specs.Judges.{IsFresh}
-use Rattle.verify_cmd.specs.Verifying.{part_cost, Verifies}
+use Rattle.verify_cmd.specs.Verifying.{part_cost}
+use Rattle.verify_cmd.specs.Parts.{Verifies}
 use Rattle.verify_cmd.proofs.ServeSteps.{fresh_serves}
 use Rattle.verify_cmd.proofs.ViewSteps.{counts_both, counts_cells}
 use Rattle.verify_cmd.proofs.parts.verify.Goals as goal

@@ -1,4 +1,4 @@
-use Rattle.std.proofs.Common.{set, ◌≤◌, ◌∙◌, ◌+◌, Err, Ok, ap, arith, get_or, length, refl, sym}
+use Rattle.std.proofs.Common.{set, ◌≤◌, ◌∙◌, ◌+◌, Err, Ok, ap, arith, get_or, length, refl, sym, rules}
 use Rattle.std.proofs.lemmas.List.{set-get_or}
 use borrow.Author.Count.{below_more}
 use Rattle.vol_spec.proofs.Told.{in_told}
@@ -48,12 +48,12 @@ loop-number-preserved g c =
       asked =
           asked_more (g.S.Source.objects c.args.store.now) c.args.first.now.scale (λ m. own_cost m c.args.first.now.dataset c.args.first.now.scale c.args.part.now) (g.S.Source.objects c.args.store.now) c.loop-number.number _ _ _ below refl c.loop-number.invariant.asked
           (moved_told (λ m f r. g.S.Source.asked c.judge_own.new.store ≤ g.S.Source.asked c.loop-number.store + own_cost m f.dataset f.scale c.args.part.now r.scale) (g.S.Source.objects c.args.store.now) (g.S.Source.objects c.loop-number.store) c.loop-number.first _ c.args.first.now _ c.loop-number.invariant.kept.same_objects c.loop-number.invariant.first (next_is c.args.first.now c.loop-number.first c.loop-number.further c.loop-number.number c.index-further-number.result c.args.part.now c.loop-number.invariant.first (c.loop-number.invariant.views ∙ c.requires.views) c.loop-number-test.true)
-          c.judge_own.ensures.asked);
+          c.judge_own.ensures.asks.asked);
       kept = record {
-        same_objects = c.judge_own.ensures.kept.same_objects ∙ c.loop-number.invariant.kept.same_objects;
-        same_draft = c.judge_own.ensures.kept.same_draft ∙ c.loop-number.invariant.kept.same_draft;
+        same_objects = c.judge_own.ensures.asks.reads.kept.same_objects ∙ c.loop-number.invariant.kept.same_objects;
+        same_draft = c.judge_own.ensures.asks.reads.kept.same_draft ∙ c.loop-number.invariant.kept.same_draft;
       };
-      later = c.in-Ok.ensures.cause.stands ∙ c.loop-number.invariant.later;
+      later = c.in-Ok.ensures.asks.reads.cause.stands ∙ c.loop-number.invariant.later;
     }
 
 pub returns-in-Err-clause-judged : goal.returns-in-Err-clause-judged
@@ -63,11 +63,14 @@ returns-in-Err-clause-judged g c =
     c.in-Err.ensures.judged m told in
     record { region = wrong.0; some = wrong.1; within = wrong.2; judged = (c.loop-number.number, (let below = next_below c.args.first.now c.loop-number.first c.loop-number.further c.loop-number.number c.index-further-number.result c.args.part.now c.loop-number.invariant.first (c.loop-number.invariant.views ∙ c.requires.views) c.loop-number-test.true in let n = further_length c.args.first.now.scale in omega (arith, below, n)), wrong.3) })
 
-pub returns-in-Err-clause-asked : goal.returns-in-Err-clause-asked
-returns-in-Err-clause-asked g c =
-    asked_next (g.S.Source.objects c.args.store.now) c.args.first.now.scale (λ m. own_cost m c.args.first.now.dataset c.args.first.now.scale c.args.part.now) (g.S.Source.objects c.args.store.now) c.loop-number.number _ _ _ (next_below c.args.first.now c.loop-number.first c.loop-number.further c.loop-number.number c.index-further-number.result c.args.part.now c.loop-number.invariant.first (c.loop-number.invariant.views ∙ c.requires.views) c.loop-number-test.true) refl c.loop-number.invariant.asked
-    (moved_told (λ m f r. g.S.Source.asked c.judge_own.new.store ≤ g.S.Source.asked c.loop-number.store + own_cost m f.dataset f.scale c.args.part.now r.scale) (g.S.Source.objects c.args.store.now) (g.S.Source.objects c.loop-number.store) c.loop-number.first _ c.args.first.now _ c.loop-number.invariant.kept.same_objects c.loop-number.invariant.first (next_is c.args.first.now c.loop-number.first c.loop-number.further c.loop-number.number c.index-further-number.result c.args.part.now c.loop-number.invariant.first (c.loop-number.invariant.views ∙ c.requires.views) c.loop-number-test.true)
-    c.judge_own.ensures.asked)
+pub returns-in-Err-clause-asks : goal.returns-in-Err-clause-asks
+returns-in-Err-clause-asks g c = record {
+  asked =
+      asked_next (g.S.Source.objects c.args.store.now) c.args.first.now.scale (λ m. own_cost m c.args.first.now.dataset c.args.first.now.scale c.args.part.now) (g.S.Source.objects c.args.store.now) c.loop-number.number _ _ _ (next_below c.args.first.now c.loop-number.first c.loop-number.further c.loop-number.number c.index-further-number.result c.args.part.now c.loop-number.invariant.first (c.loop-number.invariant.views ∙ c.requires.views) c.loop-number-test.true) refl c.loop-number.invariant.asked
+      (moved_told (λ m f r. g.S.Source.asked c.judge_own.new.store ≤ g.S.Source.asked c.loop-number.store + own_cost m f.dataset f.scale c.args.part.now r.scale) (g.S.Source.objects c.args.store.now) (g.S.Source.objects c.loop-number.store) c.loop-number.first _ c.args.first.now _ c.loop-number.invariant.kept.same_objects c.loop-number.invariant.first (next_is c.args.first.now c.loop-number.first c.loop-number.further c.loop-number.number c.index-further-number.result c.args.part.now c.loop-number.invariant.first (c.loop-number.invariant.views ∙ c.requires.views) c.loop-number-test.true)
+      c.judge_own.ensures.asks.asked);
+  reads = search rules;
+}
 
 pub returns-clause-judged : goal.returns-clause-judged
 returns-clause-judged g c =
@@ -78,5 +81,8 @@ returns-clause-judged g c =
     let end = c.loop-number-test.false in
     omega (arith, l, n, len, end)))
 
-pub returns-clause-asked : goal.returns-clause-asked
-returns-clause-asked g c = asked_all (g.S.Source.objects c.args.store.now) c.args.first.now.scale (λ m. own_cost m c.args.first.now.dataset c.args.first.now.scale c.args.part.now) c.loop-number.number _ _ c.loop-number.invariant.asked
+pub returns-clause-asks : goal.returns-clause-asks
+returns-clause-asks g c = record {
+  asked = asked_all (g.S.Source.objects c.args.store.now) c.args.first.now.scale (λ m. own_cost m c.args.first.now.dataset c.args.first.now.scale c.args.part.now) c.loop-number.number _ _ c.loop-number.invariant.asked;
+  reads = record { kept = c.loop-number.invariant.kept; cause = record { later = omega (arith, c.loop-number.invariant.later); failed = λ told. absurd (cc told); stands = c.loop-number.invariant.later } };
+}

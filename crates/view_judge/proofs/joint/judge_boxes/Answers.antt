@@ -1,4 +1,4 @@
-use Rattle.std.proofs.Common.{set, ◌≤◌, ◌∙◌, ◌+◌, ◌^◌, Err, Ok, ap, arith, get_or, refl, subst}
+use Rattle.std.proofs.Common.{set, ◌≤◌, ◌∙◌, ◌+◌, ◌^◌, Err, Ok, ap, arith, get_or, refl, subst, rules}
 use Rattle.std.proofs.lemmas.List.{set-get_or}
 use borrow.Author.Count.{below_more}
 use Rattle.vol_spec.proofs.Told.{in_told}
@@ -35,12 +35,15 @@ returns-in-Err-compare-clause-judged g c =
           c.in-Ok.ensures.cut c.in-Err-compare.ensures.judged m told,
     ))
 
-pub returns-in-Err-compare-clause-asked : goal.returns-in-Err-compare-clause-asked
-returns-in-Err-compare-clause-asked g c =
-    asked_jointly (g.S.Source.objects c.args.store.now) c.args.first.now.dataset c.args.first.now.scale c.args.part.now _ _ _ (some_views c.args.first.now.dataset c.args.first.now.scale c.args.further.now c.requires.views.views c.requires.views.some) c.cutout.ensures.asked
-    (asked_next (g.S.Source.objects c.args.store.now) c.args.first.now.scale (λ m v. cost m c.args.first.now.dataset v c.args.part.now) (g.S.Source.objects c.args.store.now) c.loop-k.k _ _ _ (next_below c.args.first.now c.args.first.now c.loop-k.further c.loop-k.k c.index-further-k.result c.args.part.now refl (c.loop-k.invariant.views ∙ c.requires.views.views) c.loop-k-test.true) refl c.loop-k.invariant.asked
-    (moved_told (λ m f r. g.S.Source.asked c.compare.new.store ≤ g.S.Source.asked c.loop-k.store + cost m r.dataset r.scale c.args.part.now) (g.S.Source.objects c.args.store.now) (g.S.Source.objects c.loop-k.store) c.args.first.now _ c.args.first.now _ c.loop-k.invariant.kept.same_objects refl (next_is c.args.first.now c.args.first.now c.loop-k.further c.loop-k.k c.index-further-k.result c.args.part.now refl (c.loop-k.invariant.views ∙ c.requires.views.views) c.loop-k-test.true)
-    c.compare.ensures.asked))
+pub returns-in-Err-compare-clause-asks : goal.returns-in-Err-compare-clause-asks
+returns-in-Err-compare-clause-asks g c = record {
+  asked =
+      asked_jointly (g.S.Source.objects c.args.store.now) c.args.first.now.dataset c.args.first.now.scale c.args.part.now _ _ _ (some_views c.args.first.now.dataset c.args.first.now.scale c.args.further.now c.requires.views.views c.requires.views.some) c.cutout.ensures.asked
+      (asked_next (g.S.Source.objects c.args.store.now) c.args.first.now.scale (λ m v. cost m c.args.first.now.dataset v c.args.part.now) (g.S.Source.objects c.args.store.now) c.loop-k.k _ _ _ (next_below c.args.first.now c.args.first.now c.loop-k.further c.loop-k.k c.index-further-k.result c.args.part.now refl (c.loop-k.invariant.views ∙ c.requires.views.views) c.loop-k-test.true) refl c.loop-k.invariant.asked
+      (moved_told (λ m f r. g.S.Source.asked c.compare.new.store ≤ g.S.Source.asked c.loop-k.store + cost m r.dataset r.scale c.args.part.now) (g.S.Source.objects c.args.store.now) (g.S.Source.objects c.loop-k.store) c.args.first.now _ c.args.first.now _ c.loop-k.invariant.kept.same_objects refl (next_is c.args.first.now c.args.first.now c.loop-k.further c.loop-k.k c.index-further-k.result c.args.part.now refl (c.loop-k.invariant.views ∙ c.requires.views.views) c.loop-k-test.true)
+      c.compare.ensures.asks.asked));
+  reads = search rules;
+}
 
 pub loop-k-preserved : goal.loop-k-preserved
 loop-k-preserved g c =
@@ -55,12 +58,12 @@ loop-k-preserved g c =
       asked =
           asked_more (g.S.Source.objects c.args.store.now) c.args.first.now.scale (λ m v. cost m c.args.first.now.dataset v c.args.part.now) (g.S.Source.objects c.args.store.now) c.loop-k.k _ _ _ below refl c.loop-k.invariant.asked
           (moved_told (λ m f r. g.S.Source.asked c.compare.new.store ≤ g.S.Source.asked c.loop-k.store + cost m r.dataset r.scale c.args.part.now) (g.S.Source.objects c.args.store.now) (g.S.Source.objects c.loop-k.store) c.args.first.now _ c.args.first.now _ c.loop-k.invariant.kept.same_objects refl (next_is c.args.first.now c.args.first.now c.loop-k.further c.loop-k.k c.index-further-k.result c.args.part.now refl (c.loop-k.invariant.views ∙ c.requires.views.views) c.loop-k-test.true)
-          c.compare.ensures.asked);
+          c.compare.ensures.asks.asked);
       kept = record {
-        same_objects = c.compare.ensures.kept.same_objects ∙ c.loop-k.invariant.kept.same_objects;
-        same_draft = c.compare.ensures.kept.same_draft ∙ c.loop-k.invariant.kept.same_draft;
+        same_objects = c.compare.ensures.asks.reads.kept.same_objects ∙ c.loop-k.invariant.kept.same_objects;
+        same_draft = c.compare.ensures.asks.reads.kept.same_draft ∙ c.loop-k.invariant.kept.same_draft;
       };
-      later = c.in-Ok-compare.ensures.cause.stands ∙ c.loop-k.invariant.later;
+      later = c.in-Ok-compare.ensures.asks.reads.cause.stands ∙ c.loop-k.invariant.later;
     }
 
 pub returns-clause-judged : goal.returns-clause-judged
@@ -72,7 +75,10 @@ returns-clause-judged g c =
     let end = c.loop-k-test.false in
     omega (arith, l, n, len, end)))
 
-pub returns-clause-asked : goal.returns-clause-asked
-returns-clause-asked g c =
-    asked_jointly (g.S.Source.objects c.args.store.now) c.args.first.now.dataset c.args.first.now.scale c.args.part.now _ _ _ (some_views c.args.first.now.dataset c.args.first.now.scale c.args.further.now c.requires.views.views c.requires.views.some) c.cutout.ensures.asked
-    (asked_all (g.S.Source.objects c.args.store.now) c.args.first.now.scale (λ m v. cost m c.args.first.now.dataset v c.args.part.now) c.loop-k.k _ _ c.loop-k.invariant.asked)
+pub returns-clause-asks : goal.returns-clause-asks
+returns-clause-asks g c = record {
+  asked =
+      asked_jointly (g.S.Source.objects c.args.store.now) c.args.first.now.dataset c.args.first.now.scale c.args.part.now _ _ _ (some_views c.args.first.now.dataset c.args.first.now.scale c.args.further.now c.requires.views.views c.requires.views.some) c.cutout.ensures.asked
+      (asked_all (g.S.Source.objects c.args.store.now) c.args.first.now.scale (λ m v. cost m c.args.first.now.dataset v c.args.part.now) c.loop-k.k _ _ c.loop-k.invariant.asked);
+  reads = search rules;
+}

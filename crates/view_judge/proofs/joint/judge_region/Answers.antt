@@ -1,6 +1,11 @@
-use Rattle.std.proofs.Common.{arith, length, subst, sym}
+use Rattle.std.proofs.Common.{◌+◌, ◌≤◌, ◌∙◌, IfSome, ap, arith, length, subst, sym}
 use Rattle.vol_base.specs.Boxes.{Covers}
+use Rattle.vol_spec.specs.Grid.{cell_box}
+use Rattle.vol_spec.specs.declared.scale.Scale.{Scale}
+use Rattle.size_laws.specs.Findings.{common}
+use Rattle.size_laws.specs.Further.{further}
 use Rattle.view_judge.proofs.JointSteps.{region_few, region_fits, region_front, region_inside, region_len}
+use Rattle.view_judge.specs.Judging.{joint_cost}
 use Rattle.view_judge.proofs.joint.judge_region.Goals as goal
 
 pub shared_box-shared-requires : goal.shared_box-shared-requires
@@ -50,3 +55,13 @@ judge_boxes-requires-clause-found g c =
 pub judge_boxes-requires-clause-wanted : goal.judge_boxes-requires-clause-wanted
 judge_boxes-requires-clause-wanted g c =
     region_front c.args.first.now.scale c.args.regions.now c.args.part.now c.args.region c.cell_box.result c.shared_box-shared.result c.requires.regions c.requires.views.inside c.requires.region c.requires.meets c.cell_box.ensures.positions c.shared_box-shared.ensures c.byte_len-len.result c.args.wanted.now c.requires.wanted c.byte_len-len.ensures
+
+pub returns-clause-asks : goal.returns-clause-asks
+returns-clause-asks g c = record {
+  asked =
+      let was = g.S.Source.asked c.args.store.now in
+      let now = g.S.Source.asked c.judge_boxes.new.store in
+      subst (λ b. IfSome (g.S.Source.objects c.args.store.now) (λ m. now ≤ was + joint_cost m c.args.first.now.dataset c.args.first.now.scale (further c.args.first.now.scale) b))
+      (c.shared_box-shared.ensures ∙ ap (λ x. common x c.args.part.now) (c.cell_box.ensures.positions ∙ ap (λ (r : Scale). cell_box r c.args.region) c.requires.regions)) c.judge_boxes.ensures.asks.asked;
+  reads = c.judge_boxes.ensures.asks.reads;
+}

@@ -1,4 +1,4 @@
-use Rattle.std.proofs.Common.{◌≤◌, ◌∙◌, ◌+◌, Err, Ok, ap, refl, subst, sym}
+use Rattle.std.proofs.Common.{◌≤◌, ◌∙◌, ◌+◌, Err, Ok, ap, refl, subst, sym, rules, arith}
 use Rattle.std.proofs.lemmas.List.Elements.{All-contains, All-nil, All-push}
 use Rattle.vol_spec.proofs.Told.{in_told}
 use Rattle.vol_spec.specs.Grid.{cell_box, cells_in, Inside, IsCell, Meets}
@@ -58,12 +58,12 @@ loop-region-preserved g c = record {
   further = c.judge_region.ensures.further ∙ c.loop-region.invariant.further;
   asked =
       asked_more (g.S.Source.objects c.args.store.now) (λ m. region_cost m c.args.first.now.dataset c.args.first.now.scale c.args.part.now) (g.S.Source.objects c.args.store.now) c.loop-region.yielded c.in-Some.region _ _ _ refl c.loop-region.invariant.asked
-      (moved_told (λ m f r. g.S.Source.asked c.judge_region.new.store ≤ g.S.Source.asked c.loop-region.store + region_cost m f.dataset f.scale c.args.part.now c.in-Some.region) (g.S.Source.objects c.args.store.now) (g.S.Source.objects c.loop-region.store) c.loop-region.first c.loop-region.first c.args.first.now c.args.first.now c.loop-region.invariant.kept.same_objects c.loop-region.invariant.first c.loop-region.invariant.first c.judge_region.ensures.asked);
+      (moved_told (λ m f r. g.S.Source.asked c.judge_region.new.store ≤ g.S.Source.asked c.loop-region.store + region_cost m f.dataset f.scale c.args.part.now c.in-Some.region) (g.S.Source.objects c.args.store.now) (g.S.Source.objects c.loop-region.store) c.loop-region.first c.loop-region.first c.args.first.now c.args.first.now c.loop-region.invariant.kept.same_objects c.loop-region.invariant.first c.loop-region.invariant.first c.judge_region.ensures.asks.asked);
   kept = record {
-    same_objects = c.judge_region.ensures.kept.same_objects ∙ c.loop-region.invariant.kept.same_objects;
-    same_draft = c.judge_region.ensures.kept.same_draft ∙ c.loop-region.invariant.kept.same_draft;
+    same_objects = c.judge_region.ensures.asks.reads.kept.same_objects ∙ c.loop-region.invariant.kept.same_objects;
+    same_draft = c.judge_region.ensures.asks.reads.kept.same_draft ∙ c.loop-region.invariant.kept.same_draft;
   };
-  later = c.in-Ok.ensures.cause.stands ∙ c.loop-region.invariant.later;
+  later = c.in-Ok.ensures.asks.reads.cause.stands ∙ c.loop-region.invariant.later;
 }
 
 pub returns-in-Err-clause-judged : goal.returns-in-Err-clause-judged
@@ -76,11 +76,14 @@ returns-in-Err-clause-judged g c =
     (moved (λ m f r. JudgesBoxes (Err c.in-Err.wrong) m f.dataset f.scale (common (cell_box (regions f.scale) c.in-Some.region) c.args.part.now)) (g.S.Source.objects c.args.store.now) (g.S.Source.objects c.loop-region.store) c.loop-region.first c.loop-region.first c.args.first.now c.args.first.now c.loop-region.invariant.kept.same_objects c.loop-region.invariant.first c.loop-region.invariant.first
     c.in-Err.ensures.judged m told))
 
-pub returns-in-Err-clause-asked : goal.returns-in-Err-clause-asked
-returns-in-Err-clause-asked g c =
-    asked_next (g.S.Source.objects c.args.store.now) (λ m. region_cost m c.args.first.now.dataset c.args.first.now.scale c.args.part.now) (g.S.Source.objects c.args.store.now) c.loop-region.yielded c.loop-region.region-iterator c.next.new.self (cells_in (regions c.args.first.now.scale) c.args.part.now) c.in-Some.region _ _ _ refl c.in-Some.ensures.steps
-    (c.loop-region.invariant.left ∙ ap (λ (r : Scale). cells_in r c.args.part.now) c.requires.regions) c.loop-region.invariant.asked
-    (moved_told (λ m f r. g.S.Source.asked c.judge_region.new.store ≤ g.S.Source.asked c.loop-region.store + region_cost m f.dataset f.scale c.args.part.now c.in-Some.region) (g.S.Source.objects c.args.store.now) (g.S.Source.objects c.loop-region.store) c.loop-region.first c.loop-region.first c.args.first.now c.args.first.now c.loop-region.invariant.kept.same_objects c.loop-region.invariant.first c.loop-region.invariant.first c.judge_region.ensures.asked)
+pub returns-in-Err-clause-asks : goal.returns-in-Err-clause-asks
+returns-in-Err-clause-asks g c = record {
+  asked =
+      asked_next (g.S.Source.objects c.args.store.now) (λ m. region_cost m c.args.first.now.dataset c.args.first.now.scale c.args.part.now) (g.S.Source.objects c.args.store.now) c.loop-region.yielded c.loop-region.region-iterator c.next.new.self (cells_in (regions c.args.first.now.scale) c.args.part.now) c.in-Some.region _ _ _ refl c.in-Some.ensures.steps
+      (c.loop-region.invariant.left ∙ ap (λ (r : Scale). cells_in r c.args.part.now) c.requires.regions) c.loop-region.invariant.asked
+      (moved_told (λ m f r. g.S.Source.asked c.judge_region.new.store ≤ g.S.Source.asked c.loop-region.store + region_cost m f.dataset f.scale c.args.part.now c.in-Some.region) (g.S.Source.objects c.args.store.now) (g.S.Source.objects c.loop-region.store) c.loop-region.first c.loop-region.first c.args.first.now c.args.first.now c.loop-region.invariant.kept.same_objects c.loop-region.invariant.first c.loop-region.invariant.first c.judge_region.ensures.asks.asked);
+  reads = search rules;
+}
 
 pub returns-clause-judged : goal.returns-clause-judged
 returns-clause-judged g c =
@@ -89,7 +92,10 @@ returns-clause-judged g c =
     (at_end c.loop-region.yielded c.loop-region.region-iterator (cells_in c.args.regions.now c.args.part.now) c.in-None.ensures.steps.0 c.loop-region.invariant.left
     ∙ ap (λ (r : Scale). cells_in r c.args.part.now) c.requires.regions) (c.loop-region.invariant.agree m told))
 
-pub returns-clause-asked : goal.returns-clause-asked
-returns-clause-asked g c =
-    asked_all (g.S.Source.objects c.args.store.now) (λ m. region_cost m c.args.first.now.dataset c.args.first.now.scale c.args.part.now) c.loop-region.yielded c.loop-region.region-iterator (cells_in (regions c.args.first.now.scale) c.args.part.now) _ _
-    (c.loop-region.invariant.left ∙ ap (λ (r : Scale). cells_in r c.args.part.now) c.requires.regions) c.loop-region.invariant.asked
+pub returns-clause-asks : goal.returns-clause-asks
+returns-clause-asks g c = record {
+  asked =
+      asked_all (g.S.Source.objects c.args.store.now) (λ m. region_cost m c.args.first.now.dataset c.args.first.now.scale c.args.part.now) c.loop-region.yielded c.loop-region.region-iterator (cells_in (regions c.args.first.now.scale) c.args.part.now) _ _
+      (c.loop-region.invariant.left ∙ ap (λ (r : Scale). cells_in r c.args.part.now) c.requires.regions) c.loop-region.invariant.asked;
+  reads = record { kept = c.loop-region.invariant.kept; cause = record { later = omega (arith, c.loop-region.invariant.later); failed = λ told. absurd (cc told); stands = c.loop-region.invariant.later } };
+}

@@ -1,4 +1,4 @@
-use Rattle.std.proofs.Common.{set, ◌≤◌, ◌∙◌, ◌+◌, Err, Ok, arith, ap, length, refl}
+use Rattle.std.proofs.Common.{set, ◌≤◌, ◌∙◌, ◌+◌, Err, Ok, arith, ap, length, refl, rules}
 use Rattle.std.proofs.lemmas.List.{set-get_or}
 use Rattle.vol_spec.proofs.Told.{in_told}
 use Rattle.vol_spec.specs.Grid.{cells_in}
@@ -64,12 +64,12 @@ loop-k-preserved g c =
       first = c.judge_cells.ensures.first ∙ c.loop-k.invariant.first;
       asked = asked_more (g.S.Source.objects c.args.store.now) c.args.first.now.scale (λ m. cells_cost m c.args.first.now.dataset c.args.first.now.scale c.args.part.now) (g.S.Source.objects c.args.store.now) c.loop-k.k _ _ _ below refl c.loop-k.invariant.asked
           (moved_told (λ m f r. g.S.Source.asked c.judge_cells.new.store ≤ g.S.Source.asked c.loop-k.store + cells_cost m f.dataset f.scale c.args.part.now r.scale) (g.S.Source.objects c.args.store.now) (g.S.Source.objects c.loop-k.store) c.loop-k.first _ c.args.first.now _ c.loop-k.invariant.kept.same_objects c.loop-k.invariant.first (next_is c.args.first.now c.loop-k.first c.loop-k.further c.loop-k.k c.index-further-k.result c.args.part.now c.loop-k.invariant.first (c.loop-k.invariant.views ∙ c.requires.views) c.loop-k-test.true)
-          c.judge_cells.ensures.asked);
+          c.judge_cells.ensures.asks.asked);
       kept = record {
-        same_objects = c.judge_cells.ensures.kept.same_objects ∙ c.loop-k.invariant.kept.same_objects;
-        same_draft = c.judge_cells.ensures.kept.same_draft ∙ c.loop-k.invariant.kept.same_draft;
+        same_objects = c.judge_cells.ensures.asks.reads.kept.same_objects ∙ c.loop-k.invariant.kept.same_objects;
+        same_draft = c.judge_cells.ensures.asks.reads.kept.same_draft ∙ c.loop-k.invariant.kept.same_draft;
       };
-      later = c.in-Ok.ensures.cause.stands ∙ c.loop-k.invariant.later;
+      later = c.in-Ok.ensures.asks.reads.cause.stands ∙ c.loop-k.invariant.later;
     }
 
 pub returns-in-Err-clause-found : goal.returns-in-Err-clause-found
@@ -78,11 +78,14 @@ returns-in-Err-clause-found g c =
     (moved (λ m f r. JudgesView (Err c.in-Err.fault) m f.dataset f.scale (c.loop-k.k + 1) r.scale c.args.part.now (cells_in r.scale c.args.part.now)) (g.S.Source.objects c.args.store.now) (g.S.Source.objects c.loop-k.store) c.loop-k.first _ c.args.first.now _ c.loop-k.invariant.kept.same_objects c.loop-k.invariant.first (next_is c.args.first.now c.loop-k.first c.loop-k.further c.loop-k.k c.index-further-k.result c.args.part.now c.loop-k.invariant.first (c.loop-k.invariant.views ∙ c.requires.views) c.loop-k-test.true)
     c.in-Err.ensures.judged m told) sound)
 
-pub returns-in-Err-clause-asked : goal.returns-in-Err-clause-asked
-returns-in-Err-clause-asked g c =
-    asked_next (g.S.Source.objects c.args.store.now) c.args.first.now.scale (λ m. cells_cost m c.args.first.now.dataset c.args.first.now.scale c.args.part.now) (g.S.Source.objects c.args.store.now) c.loop-k.k _ _ _ (next_below c.args.first.now c.loop-k.first c.loop-k.further c.loop-k.k c.index-further-k.result c.args.part.now c.loop-k.invariant.first (c.loop-k.invariant.views ∙ c.requires.views) c.loop-k-test.true) refl c.loop-k.invariant.asked
-    (moved_told (λ m f r. g.S.Source.asked c.judge_cells.new.store ≤ g.S.Source.asked c.loop-k.store + cells_cost m f.dataset f.scale c.args.part.now r.scale) (g.S.Source.objects c.args.store.now) (g.S.Source.objects c.loop-k.store) c.loop-k.first _ c.args.first.now _ c.loop-k.invariant.kept.same_objects c.loop-k.invariant.first (next_is c.args.first.now c.loop-k.first c.loop-k.further c.loop-k.k c.index-further-k.result c.args.part.now c.loop-k.invariant.first (c.loop-k.invariant.views ∙ c.requires.views) c.loop-k-test.true)
-    c.judge_cells.ensures.asked)
+pub returns-in-Err-clause-asks : goal.returns-in-Err-clause-asks
+returns-in-Err-clause-asks g c = record {
+  asked =
+      asked_next (g.S.Source.objects c.args.store.now) c.args.first.now.scale (λ m. cells_cost m c.args.first.now.dataset c.args.first.now.scale c.args.part.now) (g.S.Source.objects c.args.store.now) c.loop-k.k _ _ _ (next_below c.args.first.now c.loop-k.first c.loop-k.further c.loop-k.k c.index-further-k.result c.args.part.now c.loop-k.invariant.first (c.loop-k.invariant.views ∙ c.requires.views) c.loop-k-test.true) refl c.loop-k.invariant.asked
+      (moved_told (λ m f r. g.S.Source.asked c.judge_cells.new.store ≤ g.S.Source.asked c.loop-k.store + cells_cost m f.dataset f.scale c.args.part.now r.scale) (g.S.Source.objects c.args.store.now) (g.S.Source.objects c.loop-k.store) c.loop-k.first _ c.args.first.now _ c.loop-k.invariant.kept.same_objects c.loop-k.invariant.first (next_is c.args.first.now c.loop-k.first c.loop-k.further c.loop-k.k c.index-further-k.result c.args.part.now c.loop-k.invariant.first (c.loop-k.invariant.views ∙ c.requires.views) c.loop-k-test.true)
+      c.judge_cells.ensures.asks.asked);
+  reads = search rules;
+}
 
 pub returns-clause-found : goal.returns-clause-found
 returns-clause-found g c =
@@ -94,5 +97,8 @@ returns-clause-cells g c =
     cells_all c.args.first.now.scale c.args.part.now c.loop-k.k c.loop-k.report.cells
     (let n = opened_length c.args.first.now.dataset c.args.first.now.scale c.loop-k.further (c.loop-k.invariant.views ∙ c.requires.views) in let h = c.loop-k-test.false in omega (arith, n, h)) c.loop-k.invariant.cells
 
-pub returns-clause-asked : goal.returns-clause-asked
-returns-clause-asked g c = asked_all (g.S.Source.objects c.args.store.now) c.args.first.now.scale (λ m. cells_cost m c.args.first.now.dataset c.args.first.now.scale c.args.part.now) c.loop-k.k _ _ c.loop-k.invariant.asked
+pub returns-clause-asks : goal.returns-clause-asks
+returns-clause-asks g c = record {
+  asked = asked_all (g.S.Source.objects c.args.store.now) c.args.first.now.scale (λ m. cells_cost m c.args.first.now.dataset c.args.first.now.scale c.args.part.now) c.loop-k.k _ _ c.loop-k.invariant.asked;
+  reads = search rules;
+}

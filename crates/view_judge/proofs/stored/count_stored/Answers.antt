@@ -1,7 +1,6 @@
 use Rattle.std.proofs.Common.{◌∙◌, ◌+◌, IfSome, ap, arith, length, refl, subst, sym}
 use Rattle.std.proofs.lemmas.List.{length-append}
 use Rattle.std.proofs.lemmas.List.Elements.{All-contains}
-use Rattle.vol_base.specs.Outside.{HaveBytes}
 use Rattle.vol_spec.proofs.Told.{from_told, in_told}
 use Rattle.vol_spec.specs.Grid.{IsCell, cells_in}
 use Rattle.chunk_grid.proofs.Walked.{at_end, here, one_on}
@@ -16,7 +15,6 @@ loop-cell-init g c = record {
   cells = refl;
   both = refl;
   named = λ m told. record { stored = refl; absent = refl };
-  bytes = λ some. absurd (omega (arith, some));
   asked = refl;
   kept = record { same_objects = refl; same_draft = refl };
   later = refl;
@@ -38,13 +36,12 @@ loop-cell-preserved g c =
       named = λ m told.
           named_more m c.args.dataset.now c.args.view.now c.loop-cell.yielded c.in-Some.cell c.loop-cell.report c.one_cell.result c.add-report.result c.in-Ok.is_stored sum one (c.loop-cell.invariant.named m told)
           (from_told (g.S.Source.objects c.loop-cell.store) _ m (c.loop-cell.invariant.kept.same_objects ∙ told) c.in-Ok.ensures.found);
-      bytes = λ some. subst (λ o. IfSome o HaveBytes) c.loop-cell.invariant.kept.same_objects c.find_stored.ensures.bytes;
       asked = c.find_stored.ensures.asked ∙ c.loop-cell.invariant.asked;
       kept = record {
-        same_objects = c.find_stored.ensures.kept.same_objects ∙ c.loop-cell.invariant.kept.same_objects;
-        same_draft = c.find_stored.ensures.kept.same_draft ∙ c.loop-cell.invariant.kept.same_draft;
+        same_objects = c.find_stored.ensures.reads.kept.same_objects ∙ c.loop-cell.invariant.kept.same_objects;
+        same_draft = c.find_stored.ensures.reads.kept.same_draft ∙ c.loop-cell.invariant.kept.same_draft;
       };
-      later = c.in-Ok.ensures.cause.stands ∙ c.loop-cell.invariant.later;
+      later = c.in-Ok.ensures.reads.cause.stands ∙ c.loop-cell.invariant.later;
     }
 
 pub returns-clause-named : goal.returns-clause-named
@@ -56,9 +53,3 @@ returns-clause-named g c =
 pub returns-clause-cells : goal.returns-clause-cells
 returns-clause-cells g c =
     c.loop-cell.invariant.cells ∙ ap length (at_end c.loop-cell.yielded c.loop-cell.cell-iterator (cells_in c.args.view.now c.args.part.now) c.in-None.ensures.steps.0 c.loop-cell.invariant.left)
-
-pub returns-clause-bytes : goal.returns-clause-bytes
-returns-clause-bytes g c =
-    let some = some_cell c.args.view.now c.args.part.now c.requires.inside in
-    let all = ap length (at_end c.loop-cell.yielded c.loop-cell.cell-iterator (cells_in c.args.view.now c.args.part.now) c.in-None.ensures.steps.0 c.loop-cell.invariant.left) in
-    c.loop-cell.invariant.bytes (omega (arith, some, all))

@@ -1,5 +1,5 @@
 use Rattle.std.proofs.Common.{◌≡◌, ◌≤◌, ◌+◌, ◌++◌, length, IfSome, Some}
-use Rattle.vol_base.specs.Outside.{HaveBytes, Objects, OnlyReads}
+use Rattle.vol_base.specs.Outside.{Objects, OnlyReads}
 use Rattle.vol_spec.specs.Grid.{cells_in}
 use Rattle.view_judge.specs.Answers.{AreNamed}
 use Rattle.view_judge.proofs.stored.count_stored.Given as goal
@@ -10,7 +10,6 @@ invariant-loop-cell g l = record {
   cells : l.report.cells ≡ length l.yielded;
   both : l.report.stored + l.report.absent ≡ l.report.cells;
   named : (m : Objects) → g.S.Source.objects l.fn.store ≡ Some m → AreNamed m l.dataset l.view l.yielded l.report;
-  bytes : 1 ≤ length l.yielded → IfSome (g.S.Source.objects l.fn.store) HaveBytes;
   asked : g.S.Source.asked l.store ≡ g.S.Source.asked l.fn.store;
   kept : OnlyReads (g.S.Source.objects l.fn.store) (g.S.Source.objects l.store) (g.S.Source.draft l.fn.store) (g.S.Source.draft l.store);
   later : g.S.Source.faults l.store ≡ g.S.Source.faults l.fn.store;

@@ -1,6 +1,4 @@
 use Rattle.std.proofs.Common.{◌≡◌, ◌<◌, ◌≤◌, ◌+◌, ◌^◌, ◌∙◌, Some, refl, ap, sym, arith}
-use Rattle.std.specs.Prelude.{not, nat_le}
-use Rattle.std.proofs.lemmas.Bool.Decides.{nat_tests}
 use Rattle.vol_spec.specs.Views.{view}
 use Rattle.vol_spec.specs.Writable.{padded}
 use Rattle.size_laws.specs.Further.{all_views}

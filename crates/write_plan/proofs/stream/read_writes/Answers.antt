@@ -53,4 +53,4 @@ returns-clause-took g c =
 
 pub invariant_of-result : goal.invariant_of-result
 invariant_of-result g c =
-    are_writes c.args.scale.now c.in_ok-items.items.items c.in_ok-count.count (omega (arith, c.in_ok-items.ensures.fit.len, length-map c.in_ok-items.items.items write_in)) c.in_ok-count.ensures.small c.in_ok-items.ensures.fit.small c.in_ok-items.ensures.fit.fit
+    are_writes c.args.scale.now c.in_ok-items.items.items c.in_ok-count.count (omega (arith, c.in_ok-items.ensures.fit.len, length-map c.in_ok-items.items.items write_in)) c.in_ok-count.ensures.small c.in_ok-items.ensures.fit.small c.in_ok-items.ensures.fit.fit c.in_ok-items.ensures.fit.bytes

@@ -122,7 +122,7 @@ pub read_jobs-requires-clause-keeps : goal.read_jobs-requires-clause-keeps
 read_jobs-requires-clause-keeps g c = subst (λ h. Keeps h (g.S.Source.objects c.args.store.now)) (sym c.self.view_is) c.requires.keeps
 
 pub returns-in-Ok-clause-keeps : goal.returns-in-Ok-clause-keeps
-returns-in-Ok-clause-keeps g c = subst (λ o. KeepsIndex o c.read_jobs.new.reader) (sym c.read_jobs.ensures.kept.same_objects) c.read_jobs.ensures.keeps
+returns-in-Ok-clause-keeps g c = subst (λ o. KeepsIndex o c.read_jobs.new.reader) (sym c.read_jobs.ensures.reads.kept.same_objects) c.read_jobs.ensures.keeps
 
 pub returns-in-Ok-clause-asked : goal.returns-in-Ok-clause-asked
 returns-in-Ok-clause-asked g c =
@@ -130,7 +130,7 @@ returns-in-Ok-clause-asked g c =
     asked_held (g.S.Source.objects c.args.store.now) true h c.args.self.now c.self.inside.reader.shards c.read_jobs.new.reader.shards (cells_in c.self.inside.jobs) c.args.from (c.args.to - c.args.from) _ _ c.self.view_is (held_of h c.self.inside.jobs c.self.invariant.held.jobs_are) c.in-Ok.ensures.run
 
 pub returns-in-Err-clause-keeps : goal.returns-in-Err-clause-keeps
-returns-in-Err-clause-keeps g c = subst (λ o. KeepsIndex o c.read_jobs.new.reader) (sym c.read_jobs.ensures.kept.same_objects) c.read_jobs.ensures.keeps
+returns-in-Err-clause-keeps g c = subst (λ o. KeepsIndex o c.read_jobs.new.reader) (sym c.read_jobs.ensures.reads.kept.same_objects) c.read_jobs.ensures.keeps
 
 pub returns-in-Err-clause-asked : goal.returns-in-Err-clause-asked
 returns-in-Err-clause-asked g c =

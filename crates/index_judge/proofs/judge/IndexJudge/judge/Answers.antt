@@ -1,4 +1,4 @@
-use Rattle.std.proofs.Common.{Contains, Err, Ok, subst}
+use Rattle.std.proofs.Common.{Contains, Err, Ok, subst, rules}
 use Rattle.vol_spec.specs.ShardNames.{shard_name}
 use Rattle.index_judge.specs.Keys.{keys}
 use Rattle.index_judge.specs.declared.key.IndexKey.{IndexKey}
@@ -37,16 +37,25 @@ returns-clause-knows g c =
     (named (g.S.Source.objects c.args.store.now) c.shard_name-name.result (shard_name c.args.dataset.now c.args.scale.now c.args.home.now.shard) c.args.sharding.now c.args.home.now.shard c.args.home.now.minishard (Ok c.in-Ok.field-0) c.shard_name-name.ensures c.in-Ok.ensures.judged)
     c.note_judged.ensures
 
-pub returns-then-was_judged-clause-asked : goal.returns-then-was_judged-clause-asked
-returns-then-was_judged-clause-asked g c =
-    asked_nothing (g.S.Source.objects c.args.store.now) (shard_name c.args.dataset.now c.args.scale.now c.args.home.now.shard) c.args.sharding.now c.args.home.now.minishard (g.S.Source.asked c.args.store.now)
+pub returns-then-was_judged-clause-asks : goal.returns-then-was_judged-clause-asks
+returns-then-was_judged-clause-asks g c = record {
+  asked =
+      asked_nothing (g.S.Source.objects c.args.store.now) (shard_name c.args.dataset.now c.args.scale.now c.args.home.now.shard) c.args.sharding.now c.args.home.now.minishard (g.S.Source.asked c.args.store.now);
+  reads = search rules;
+}
 
-pub returns-in-Err-clause-asked : goal.returns-in-Err-clause-asked
-returns-in-Err-clause-asked g c =
-    asked_named (g.S.Source.objects c.args.store.now) c.shard_name-name.result (shard_name c.args.dataset.now c.args.scale.now c.args.home.now.shard) c.args.sharding.now c.args.home.now.minishard (g.S.Source.asked c.args.store.now)
-    (g.S.Source.asked c.judge_anew.new.store) c.shard_name-name.ensures c.judge_anew.ensures.asked
+pub returns-in-Err-clause-asks : goal.returns-in-Err-clause-asks
+returns-in-Err-clause-asks g c = record {
+  asked =
+      asked_named (g.S.Source.objects c.args.store.now) c.shard_name-name.result (shard_name c.args.dataset.now c.args.scale.now c.args.home.now.shard) c.args.sharding.now c.args.home.now.minishard (g.S.Source.asked c.args.store.now)
+      (g.S.Source.asked c.judge_anew.new.store) c.shard_name-name.ensures c.judge_anew.ensures.asks.asked;
+  reads = search rules;
+}
 
-pub returns-clause-asked : goal.returns-clause-asked
-returns-clause-asked g c =
-    asked_named (g.S.Source.objects c.args.store.now) c.shard_name-name.result (shard_name c.args.dataset.now c.args.scale.now c.args.home.now.shard) c.args.sharding.now c.args.home.now.minishard (g.S.Source.asked c.args.store.now)
-    (g.S.Source.asked c.judge_anew.new.store) c.shard_name-name.ensures c.judge_anew.ensures.asked
+pub returns-clause-asks : goal.returns-clause-asks
+returns-clause-asks g c = record {
+  asked =
+      asked_named (g.S.Source.objects c.args.store.now) c.shard_name-name.result (shard_name c.args.dataset.now c.args.scale.now c.args.home.now.shard) c.args.sharding.now c.args.home.now.minishard (g.S.Source.asked c.args.store.now)
+      (g.S.Source.asked c.judge_anew.new.store) c.shard_name-name.ensures c.judge_anew.ensures.asks.asked;
+  reads = search rules;
+}

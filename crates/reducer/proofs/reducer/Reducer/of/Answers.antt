@@ -50,5 +50,8 @@ returns-clause-jobs g c =
     (held_told (g.S.Source.objects c.args.store.now) (λ m. reduced_cells m c.args.dataset.now c.args.from.now c.args.to.now) c.args.to.now c.in-Ok-find_placed.cells.items c.in-Ok-of.jobs c.in-Ok-find_placed.ensures.order c.in-Ok-of.ensures.jobs
     (subst (λ name. IfSome (g.S.Source.objects c.args.store.now) (λ m. c.in-Ok-find_placed.cells.items ≡ reduced_cells m name c.args.from.now c.args.to.now)) c.in-Ok.ensures.dataset c.in-Ok-find_placed.ensures.made))
 
-pub returns-clause-cause : goal.returns-clause-cause
-returns-clause-cause g c = record { later = c.find_placed.ensures.cause.later; failed = λ told. absurd (cc told); stands = c.in-Ok-find_placed.ensures.cause.stands }
+pub returns-clause-reads : goal.returns-clause-reads
+returns-clause-reads g c = record {
+  kept = c.find_placed.ensures.reads.kept;
+  cause = record { later = c.find_placed.ensures.reads.cause.later; failed = λ told. absurd (cc told); stands = c.in-Ok-find_placed.ensures.reads.cause.stands };
+}

@@ -2,14 +2,12 @@ use Rattle.std.proofs.Common.{◌≡◌, ◌≤◌, ◌<◌, ℕ, List, Some, If
 use Rattle.std.specs.Prelude.{All}
 use Rattle.std.specs.Vec.{with_items}
 use Rattle.std.proofs.lemmas.List.{length-map}
-use Rattle.vol_base.specs.Outside.{HaveBytes}
 use Rattle.cutout.specs.Opened.{Opened}
 use Rattle.write_plan.specs.Jobs.{Prepares, cells_in, jobs_fault, window_of}
-use Rattle.copier.specs.Held.{Held, Holds, ReadsAll, cells_of, holding}
+use Rattle.copier.specs.Held.{Held, Holds, cells_of, holding}
 use Rattle.copier.proofs.HeldSteps.{all_cells, held_again, held_len, held_of, prepare_of, ready_held, ready_some, same_items}
 use Rattle.reducer.specs.Reading.{reductions_of}
 use Rattle.reducer.specs.Works.{IsApart, IsReduction, Reduction, raw_of, ready_of, work_of}
-use Rattle.reducer.proofs.JobSteps.{ok_stands}
 use Rattle.reducer.proofs.reducer.ReducerChunks.prepare.Goals as goal
 
 pub reduce_jobs-requires-clause-source : goal.reduce_jobs-requires-clause-source
@@ -19,9 +17,6 @@ pub reduce_jobs-requires-clause-cells : goal.reduce_jobs-requires-clause-cells
 reduce_jobs-requires-clause-cells g c =
     let h : Held = holding c.self.inside.reader.opened.dataset c.self.inside.from c.self.inside.to c.self.inside.jobs c.self.inside.first c.self.inside.count c.self.inside.frames.items in
     all_cells h c.self.inside.jobs c.self.invariant.1.held.jobs_are
-
-pub reduce_jobs-requires-clause-bytes : goal.reduce_jobs-requires-clause-bytes
-reduce_jobs-requires-clause-bytes g c = subst (λ o. IfSome o HaveBytes) (sym c.size.ensures.kept.same_objects) c.size.ensures.bytes
 
 pub reduce_jobs-requires-clause-each : goal.reduce_jobs-requires-clause-each
 reduce_jobs-requires-clause-each g c = subst (All (Holds c.self.inside.to)) (sym c.deref_mut.ensures.value) c.self.invariant.1.held.each
@@ -87,8 +82,7 @@ returns-in-Err-clause-answer g c =
     subst (λ (x : Reduction). IfSome (g.S.Source.objects c.args.store.now) (λ m. Prepares (Err c.in-Err.fault) (jobs_fault (work_of x) m c.args.from (c.args.to - c.args.from)))) c.self.view_is
     (prepare_of (g.S.Source.objects c.args.store.now) (Err c.in-Err.fault) (λ m. reductions_of c.self.inside.method m h.dataset h.from h.to) h (cells_in c.self.inside.jobs) c.args.from (c.args.to - c.args.from) _
     (held_of h c.self.inside.jobs c.self.invariant.1.held.jobs_are)
-    (subst (λ o. IfSome o (λ m. ReadsAll (Err c.in-Err.fault) (reductions_of c.self.inside.method m h.dataset h.from h.to) h.to (cells_in c.self.inside.jobs) c.args.from (c.args.to - c.args.from) (map (λ f. f.items) c.reduce_jobs.new.frames)))
-    c.size.ensures.kept.same_objects c.in-Err.ensures.read))
+    c.in-Err.ensures.read)
 
 pub returns-in-Ok-clause-answer : goal.returns-in-Ok-clause-answer
 returns-in-Ok-clause-answer g c =
@@ -96,8 +90,7 @@ returns-in-Ok-clause-answer g c =
     subst (λ (x : Reduction). IfSome (g.S.Source.objects c.args.store.now) (λ m. Prepares (Ok tt) (jobs_fault (work_of x) m c.args.from (c.args.to - c.args.from)))) c.self.view_is
     (prepare_of (g.S.Source.objects c.args.store.now) (Ok tt) (λ m. reductions_of c.self.inside.method m h.dataset h.from h.to) h (cells_in c.self.inside.jobs) c.args.from (c.args.to - c.args.from) _
     (held_of h c.self.inside.jobs c.self.invariant.1.held.jobs_are)
-    (subst (λ o. IfSome o (λ m. ReadsAll (Ok tt) (reductions_of c.self.inside.method m h.dataset h.from h.to) h.to (cells_in c.self.inside.jobs) c.args.from (c.args.to - c.args.from) (map (λ f. f.items) c.reduce_jobs.new.frames)))
-    c.size.ensures.kept.same_objects c.in-Ok.ensures.read))
+    c.in-Ok.ensures.read)
 
 pub returns-in-Ok-clause-prepared : goal.returns-in-Ok-clause-prepared
 returns-in-Ok-clause-prepared g c job low high =
@@ -113,8 +106,7 @@ returns-in-Ok-clause-ready g c =
     (ready_held (g.S.Source.objects c.args.store.now) (λ m. reductions_of c.self.inside.method m h.dataset h.from h.to) h (cells_in c.self.inside.jobs) c.args.from c.args.to (map (λ f. f.items) c.reduce_jobs.new.frames) _
     (held_of h c.self.inside.jobs c.self.invariant.1.held.jobs_are)
     (ap (map (λ f. f.items)) (same_items c.self.inside.frames c.reduce_jobs.new.frames len)) c.in-Ok.ensures.filled
-    (subst (λ o. IfSome o (λ m. ReadsAll (Ok tt) (reductions_of c.self.inside.method m h.dataset h.from h.to) h.to (cells_in c.self.inside.jobs) c.args.from (c.args.to - c.args.from) (map (λ f. f.items) c.reduce_jobs.new.frames)))
-    c.size.ensures.kept.same_objects c.in-Ok.ensures.read))
+    c.in-Ok.ensures.read)
 
 pub returns-in-Ok-clause-work : goal.returns-in-Ok-clause-work
 returns-in-Ok-clause-work g c =
@@ -141,8 +133,3 @@ returns-in-Ok-clause-sure g c sure = absurd sure
 
 pub returns-in-Err-clause-sure : goal.returns-in-Err-clause-sure
 returns-in-Err-clause-sure g c sure = absurd sure
-
-pub returns-in-Ok-clause-cause : goal.returns-in-Ok-clause-cause
-returns-in-Ok-clause-cause g c =
-    let stood : g.S.Source.faults c.size.new.self ≡ g.S.Source.faults c.args.store.now = ok_stands c.size.result (g.S.Source.faults c.size.new.self ≡ g.S.Source.faults c.args.store.now) (sym c.is_err.ensures.value ∙ c.if-is_err.false) c.size.ensures.cause.stands in
-    record { later = omega (arith, c.reduce_jobs.ensures.cause.later, stood); failed = λ told. absurd (cc told); stands = c.in-Ok.ensures.cause.stands ∙ stood }

@@ -4,7 +4,7 @@ use Rattle.vol_base.specs.Outside.{Reads}
 use Rattle.remote_store.specs.Shown.{key_in, shown}
 use Rattle.remote_store.proofs.HeardParts.{kept_nowhere}
 use Rattle.remote_store.proofs.KeySteps.{key_parts}
-use Rattle.remote_store.proofs.Looked.{if_shown, no_bytes, shown_bytes}
+use Rattle.remote_store.proofs.Looked.{if_shown, no_bytes}
 use Rattle.remote_store.specs.Remotes.{IsPlaced, IsRead, IsSame, wanted_of}
 use Rattle.remote_store.specs.declared.wanted.Wanted.TheVariants.{Length, Part}
 use Rattle.remote_store.proofs.JudgedSteps.{if_any, if_none, judged_empty, judged_failed, judged_read, wanted_none, wanted_some}
@@ -16,9 +16,6 @@ returns-in-None-clause-read g c =
     let s = c.args.self.now in
     let e : key_in s.dataset c.args.name.now ≡ None = cc in
     no_bytes s.dataset (g.D.Dial.peer s.dial) c.args.name.now c.args.at c.args.out.now e
-
-pub returns-in-None-clause-bytes : goal.returns-in-None-clause-bytes
-returns-in-None-clause-bytes g c = shown_bytes c.args.self.now.dataset (g.D.Dial.peer c.args.self.now.dial) (g.met.D.Dial.plain c.args.self.now.dial)
 
 pub ask_length-requires : goal.ask_length-requires
 ask_length-requires g c =
@@ -35,12 +32,6 @@ returns-in-Ok-clause-read g c =
     if_shown (shown s.dataset (g.D.Dial.peer s.dial)) (empty_told s.dataset c.args.name.now c.in-Some.key (g.D.Dial.peer s.dial) c.in-Ok.promise c.args.at c.args.out.now none k c.in-Ok.ensures.told)
     (λ m x. subst (λ got. Reads (map.get m c.args.name.now) c.args.at c.args.out.now c.args.out.now got) (sym c.find_empty_got.ensures) x)
 
-pub returns-in-Ok-clause-bytes : goal.returns-in-Ok-clause-bytes
-returns-in-Ok-clause-bytes g c = shown_bytes c.args.self.now.dataset (g.D.Dial.peer c.args.self.now.dial) (g.met.D.Dial.plain c.args.self.now.dial)
-
-pub returns-in-Err-clause-bytes : goal.returns-in-Err-clause-bytes
-returns-in-Err-clause-bytes g c = shown_bytes c.args.self.now.dataset (g.D.Dial.peer c.args.self.now.dial) (g.met.D.Dial.plain c.args.self.now.dial)
-
 pub ask_part-requires-clause-key : goal.ask_part-requires-clause-key
 ask_part-requires-clause-key g c =
     let s = c.args.self.now in
@@ -54,12 +45,6 @@ returns-in-Ok-ask_part-clause-read g c =
     let k = key_parts s.dataset c.args.name.now c.in-Some.key c.as_bytes-name.ensures.form e in
     if_shown (shown s.dataset (g.D.Dial.peer s.dial)) (read_told s.dataset c.args.name.now c.in-Some.key (g.D.Dial.peer s.dial) c.in-Ok-ask_part.promise c.args.at c.args.out.now c.ask_part.new.out k c.in-Ok-ask_part.ensures.told)
     (λ m x. subst (λ got. Reads (map.get m c.args.name.now) c.args.at c.args.out.now c.ask_part.new.out got) (sym c.find_got.ensures) x)
-
-pub returns-in-Ok-ask_part-clause-bytes : goal.returns-in-Ok-ask_part-clause-bytes
-returns-in-Ok-ask_part-clause-bytes g c = shown_bytes c.args.self.now.dataset (g.D.Dial.peer c.args.self.now.dial) (g.met.D.Dial.plain c.args.self.now.dial)
-
-pub returns-in-Err-ask_part-clause-bytes : goal.returns-in-Err-ask_part-clause-bytes
-returns-in-Err-ask_part-clause-bytes g c = shown_bytes c.args.self.now.dataset (g.D.Dial.peer c.args.self.now.dial) (g.met.D.Dial.plain c.args.self.now.dial)
 
 pub returns-in-None-clause-judged : goal.returns-in-None-clause-judged
 returns-in-None-clause-judged g c =

@@ -2,7 +2,7 @@ use Rattle.std.proofs.Common.{◌≡◌, ◌∙◌, Some, None, refl}
 use Rattle.remote_store.specs.Shown.{key_in, shown}
 use Rattle.remote_store.proofs.HeardParts.{kept_nowhere}
 use Rattle.remote_store.proofs.KeySteps.{key_parts}
-use Rattle.remote_store.proofs.Looked.{if_shown, no_length, shown_bytes}
+use Rattle.remote_store.proofs.Looked.{if_shown, no_length}
 use Rattle.remote_store.specs.Remotes.{IsSame, IsSize}
 use Rattle.remote_store.specs.declared.wanted.Wanted.TheVariants.{Length}
 use Rattle.remote_store.proofs.JudgedSteps.{if_any, if_none, judged_failed, judged_size}
@@ -14,9 +14,6 @@ returns-in-None-clause-found g c =
     let s = c.args.self.now in
     let e : key_in s.dataset c.args.name.now ≡ None = cc in
     no_length s.dataset (g.D.Dial.peer s.dial) c.args.name.now e
-
-pub returns-in-None-clause-bytes : goal.returns-in-None-clause-bytes
-returns-in-None-clause-bytes g c = shown_bytes c.args.self.now.dataset (g.D.Dial.peer c.args.self.now.dial) (g.met.D.Dial.plain c.args.self.now.dial)
 
 pub ask_length-requires : goal.ask_length-requires
 ask_length-requires g c =
@@ -30,12 +27,6 @@ returns-in-Ok-clause-found g c =
     let e : key_in s.dataset c.args.name.now ≡ Some c.in-Some.key = cc in
     let k = key_parts s.dataset c.args.name.now c.in-Some.key c.as_bytes-name.ensures.form e in
     if_shown (shown s.dataset (g.D.Dial.peer s.dial)) (found_told s.dataset c.args.name.now c.in-Some.key (g.D.Dial.peer s.dial) c.in-Ok.promise k c.in-Ok.ensures.told) (λ m x. c.find_size.ensures ∙ x)
-
-pub returns-in-Ok-clause-bytes : goal.returns-in-Ok-clause-bytes
-returns-in-Ok-clause-bytes g c = shown_bytes c.args.self.now.dataset (g.D.Dial.peer c.args.self.now.dial) (g.met.D.Dial.plain c.args.self.now.dial)
-
-pub returns-in-Err-clause-bytes : goal.returns-in-Err-clause-bytes
-returns-in-Err-clause-bytes g c = shown_bytes c.args.self.now.dataset (g.D.Dial.peer c.args.self.now.dial) (g.met.D.Dial.plain c.args.self.now.dial)
 
 pub returns-in-None-clause-judged : goal.returns-in-None-clause-judged
 returns-in-None-clause-judged g c =

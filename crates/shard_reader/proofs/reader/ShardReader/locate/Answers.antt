@@ -17,14 +17,14 @@ pub returns-in-Ok-Some-clause-found : goal.returns-in-Ok-Some-clause-found
 returns-in-Ok-Some-clause-found g c =
     located _ (shard_name c.args.dataset.now c.args.scale.now) c.shard_name-name.result c.args.sharding.now c.place-place.result.shard c.place-place.result.minishard c.args.limit c.args.id c.open.result c.in-Ok-Some.opened _
     (c.in-Ok-Some.is ∙ ap Ok c.in-Ok-Some.field-0-is) c.shard_name-name.ensures c.place-place.ensures.shard c.open.ensures.opened
-    (λ object told. c.find_chunk.ensures.found object (ap (λ o. told_object o c.shard_name-name.result) c.open.ensures.kept.same_objects ∙ told))
+    (λ object told. c.find_chunk.ensures.found object (ap (λ o. told_object o c.shard_name-name.result) c.open.ensures.reads.kept.same_objects ∙ told))
 
 pub returns-in-Ok-Some-clause-keeps : goal.returns-in-Ok-Some-clause-keeps
 returns-in-Ok-Some-clause-keeps g c =
     keeps_new _ (shard_name c.args.dataset.now c.args.scale.now) c.shard_name-name.result c.args.sharding.now c.open.new.self.kept c.place-place.result.shard c.place-place.result.minishard c.open.result c.in-Ok-Some.opened
     c.find_chunk.new.window.before c.find_chunk.new.window.count c.find_chunk.new.window.columns.bytes
     (c.in-Ok-Some.is ∙ ap Ok c.in-Ok-Some.field-0-is) c.shard_name-name.ensures (from_told c.in-Ok-Some.field-0 (IsKept c.open.new.self.kept c.place-place.result.shard c.place-place.result.minishard) c.in-Ok-Some.opened c.in-Ok-Some.field-0-is c.in-Ok-Some.ensures.index) c.open.ensures.opened
-    (λ object told fits. c.find_chunk.ensures.window object (ap (λ o. told_object o c.shard_name-name.result) c.open.ensures.kept.same_objects ∙ told) fits)
+    (λ object told fits. c.find_chunk.ensures.window object (ap (λ o. told_object o c.shard_name-name.result) c.open.ensures.reads.kept.same_objects ∙ told) fits)
 
 pub returns-in-Ok-Some-clause-asked_left : goal.returns-in-Ok-Some-clause-asked_left
 returns-in-Ok-Some-clause-asked_left g c =
@@ -49,7 +49,7 @@ returns-in-Ok-Some-clause-again g c =
     (g.S.Source.asked c.find_chunk.new.store ≡ g.S.Source.asked c.open.new.store) c.shard_name-name.ensures c.requires.keeps
     (λ of. same_reader c.open.new.self c.args.self.now (c.open.ensures.same of))
     (from_told c.in-Ok-Some.field-0 (IsKept c.open.new.self.kept c.place-place.result.shard c.place-place.result.minishard) c.in-Ok-Some.opened c.in-Ok-Some.field-0-is c.in-Ok-Some.ensures.index)
-    (λ object told fits. c.find_chunk.ensures.again object (ap (λ o. told_object o c.shard_name-name.result) c.open.ensures.kept.same_objects ∙ told) fits))
+    (λ object told fits. c.find_chunk.ensures.again object (ap (λ o. told_object o c.shard_name-name.result) c.open.ensures.reads.kept.same_objects ∙ told) fits))
 
 pub returns-in-Ok-Some-clause-stays : goal.returns-in-Ok-Some-clause-stays
 returns-in-Ok-Some-clause-stays g c =
@@ -61,7 +61,7 @@ pub returns-in-Ok-Some-clause-ends : goal.returns-in-Ok-Some-clause-ends
 returns-in-Ok-Some-clause-ends g c =
     ends_kept _ _ (shard_name c.args.dataset.now c.args.scale.now) c.shard_name-name.result c.args.sharding.now c.open.new.self.kept c.find_chunk.new.window.before c.find_chunk.new.window.count
     c.place-place.result.shard _ c.place-place.result.minishard _ c.args.id c.open.result c.in-Ok-Some.opened c.find_chunk.result
-    c.open.ensures.kept.same_objects (c.in-Ok-Some.is ∙ ap Ok c.in-Ok-Some.field-0-is) c.shard_name-name.ensures c.place-place.ensures.shard c.place-place.ensures.minishard
+    c.open.ensures.reads.kept.same_objects (c.in-Ok-Some.is ∙ ap Ok c.in-Ok-Some.field-0-is) c.shard_name-name.ensures c.place-place.ensures.shard c.place-place.ensures.minishard
     (from_told c.in-Ok-Some.field-0 (IsKept c.open.new.self.kept c.place-place.result.shard c.place-place.result.minishard) c.in-Ok-Some.opened c.in-Ok-Some.field-0-is c.in-Ok-Some.ensures.index)
     c.open.ensures.opened c.find_chunk.ensures.ends
 
@@ -93,7 +93,7 @@ pub returns-in-Ok-Some-clause-onward : goal.returns-in-Ok-Some-clause-onward
 returns-in-Ok-Some-clause-onward g c =
     onward_opened _ _ (shard_name c.args.dataset.now c.args.scale.now) c.shard_name-name.result c.args.self.now (record c.open.new.self { window = c.find_chunk.new.window }) c.open.new.self.kept c.open.new.self.window.before c.args.sharding.now c.open.new.self.window.count c.place-place.result.shard c.place-place.result.minishard c.args.id
     (g.S.Source.asked c.args.store.now) (g.S.Source.asked c.open.new.store) (g.S.Source.asked c.find_chunk.new.store) c.open.result c.in-Ok-Some.opened c.find_chunk.result
-    c.open.ensures.kept.same_objects refl (c.in-Ok-Some.is ∙ ap Ok c.in-Ok-Some.field-0-is) c.shard_name-name.ensures c.place-place.ensures.shard c.place-place.ensures.minishard
+    c.open.ensures.reads.kept.same_objects refl (c.in-Ok-Some.is ∙ ap Ok c.in-Ok-Some.field-0-is) c.shard_name-name.ensures c.place-place.ensures.shard c.place-place.ensures.minishard
     (λ of. same_reader c.open.new.self c.args.self.now (c.open.ensures.same of)) c.open.ensures.asked_same c.open.ensures.asked
     (from_told c.in-Ok-Some.field-0 (IsKept c.open.new.self.kept c.place-place.result.shard c.place-place.result.minishard) c.in-Ok-Some.opened c.in-Ok-Some.field-0-is c.in-Ok-Some.ensures.index)
     c.open.ensures.opened c.find_chunk.ensures.rows c.find_chunk.ensures.behind c.find_chunk.ensures.once

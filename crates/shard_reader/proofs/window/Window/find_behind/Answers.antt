@@ -71,11 +71,11 @@ loop-walk-preserved g c =
           window_at (part object c.args.index.now.at (24 * c.args.index.now.rows)) _ c.loop-walk.walk c.args.id _ _ c.in-Ok.ensures.before (c.loop-walk.invariant.at object told fits) (c.in-Ok.ensures.read object now fits);
       behind = λ object told fits. goes_on _ _ c.loop-walk.walk c.args.id c.in-Ok.ensures.before (c.loop-walk.invariant.at object told fits);
       kept = record {
-        same_objects = c.in-Ok.ensures.kept.same_objects ∙ c.loop-walk.invariant.kept.same_objects;
-        same_draft = c.in-Ok.ensures.kept.same_draft ∙ c.loop-walk.invariant.kept.same_draft;
+        same_objects = c.in-Ok.ensures.reads.kept.same_objects ∙ c.loop-walk.invariant.kept.same_objects;
+        same_draft = c.in-Ok.ensures.reads.kept.same_draft ∙ c.loop-walk.invariant.kept.same_draft;
       };
       asked = omega (arith, c.in-Ok.ensures.asked, c.loop-walk.invariant.asked, on);
-      later = omega (arith, c.in-Ok.ensures.cause.stands, c.loop-walk.invariant.later);
+      later = omega (arith, c.in-Ok.ensures.reads.cause.stands, c.loop-walk.invariant.later);
     }
 
 pub returns-clause-found : goal.returns-clause-found

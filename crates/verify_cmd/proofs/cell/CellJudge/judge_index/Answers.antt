@@ -34,6 +34,6 @@ returns-in-Some-clause-asks g c = record {
   asked =
       let id : c.code.result ≡ id_of c.args.origin.now.scale c.args.cell = c.code.ensures ∙ ap (λ size. code_of size c.args.cell) c.grid.ensures in
       asked_index (g.S.Source.objects c.args.store.now) c.args.origin.now.dataset c.args.origin.now.scale c.args.cell c.in-Some.sharding c.place-home.result.shard c.place-home.result.minishard c.code.result (g.S.Source.asked c.args.store.now)
-      (g.S.Source.asked c.judge.new.store) c.in-Some.is c.place-home.ensures.shard c.place-home.ensures.minishard id c.judge.ensures.asked;
+      (g.S.Source.asked c.judge.new.store) c.in-Some.is c.place-home.ensures.shard c.place-home.ensures.minishard id c.judge.ensures.asks.asked;
   reads = search rules;
 }

@@ -1,4 +1,4 @@
-use Rattle.std.proofs.Common.{◌≡◌, ◌∙◌, ap, arith, subst, sym}
+use Rattle.std.proofs.Common.{◌≡◌, ◌∙◌, ap, arith, rules, subst, sym}
 use Rattle.vol_base.specs.Boxes.{Covers}
 use Rattle.vol_spec.specs.Grid.{Meets}
 use Rattle.vol_spec.specs.declared.scale.Scale.{Scale}
@@ -41,26 +41,38 @@ judge_box-requires-clause-limit g c =
 pub returns-in-Err-clause-judged : goal.returns-in-Err-clause-judged
 returns-in-Err-clause-judged g c =
     refused_told (g.S.Source.objects c.args.store.now) (g.S.Source.objects c.find_stored.new.store) c.args.first.now.dataset c.args.first.now.scale c.args.number c.args.self.now.scale c.self.inside.scale c.args.part.now c.args.cell c.shared_box-shared.result
-    c.requires.beside.inside c.requires.cell c.requires.meets (sym (ap (λ (r : Opened). r.scale) c.self.view_is)) (c.shared_box-shared.ensures ∙ ap (λ b. common b c.args.part.now) c.cell_box.ensures.positions) c.find_stored.ensures.kept.same_objects
+    c.requires.beside.inside c.requires.cell c.requires.meets (sym (ap (λ (r : Opened). r.scale) c.self.view_is)) (c.shared_box-shared.ensures ∙ ap (λ b. common b c.args.part.now) c.cell_box.ensures.positions) c.find_stored.ensures.reads.kept.same_objects
     c.in-Err.fault c.in-Err.ensures.judged
 
 pub returns-clause-judged : goal.returns-clause-judged
 returns-clause-judged g c =
     sound_told (g.S.Source.objects c.args.store.now) (g.S.Source.objects c.find_stored.new.store) c.args.first.now.dataset c.args.first.now.scale c.args.number c.args.self.now.scale c.self.inside.scale c.args.part.now c.args.cell c.shared_box-shared.result
-    c.requires.beside.inside c.requires.cell c.requires.meets (sym (ap (λ (r : Opened). r.scale) c.self.view_is)) (c.shared_box-shared.ensures ∙ ap (λ b. common b c.args.part.now) c.cell_box.ensures.positions) c.find_stored.ensures.kept.same_objects
+    c.requires.beside.inside c.requires.cell c.requires.meets (sym (ap (λ (r : Opened). r.scale) c.self.view_is)) (c.shared_box-shared.ensures ∙ ap (λ b. common b c.args.part.now) c.cell_box.ensures.positions) c.find_stored.ensures.reads.kept.same_objects
     tt c.in_ok-is_stored.is_stored c.self.inside.dataset (ap (λ (r : Opened). r.dataset) c.self.view_is ∙ c.requires.beside.same_dataset) c.self.invariant.unsharded c.in_ok-is_stored.ensures.found c.in-Ok.ensures.judged
 
-pub returns-in-Err-clause-asked : goal.returns-in-Err-clause-asked
-returns-in-Err-clause-asked g c =
-    asked_cell (g.S.Source.objects c.args.store.now) (g.S.Source.objects c.find_stored.new.store) c.args.first.now.dataset c.args.first.now.scale c.args.number c.args.self.now.scale c.self.inside.scale c.args.part.now c.args.cell c.shared_box-shared.result
-    c.requires.beside.inside c.requires.cell c.requires.meets (sym (ap (λ (r : Opened). r.scale) c.self.view_is)) (c.shared_box-shared.ensures ∙ ap (λ b. common b c.args.part.now) c.cell_box.ensures.positions) c.find_stored.ensures.kept.same_objects
-    (g.S.Source.asked c.args.store.now) (g.S.Source.asked c.find_stored.new.store) _ c.find_stored.ensures.asked c.judge_box.ensures.asked
+pub returns-in-Err-clause-asks : goal.returns-in-Err-clause-asks
+returns-in-Err-clause-asks g c = record {
+  asked =
+      asked_cell (g.S.Source.objects c.args.store.now) (g.S.Source.objects c.find_stored.new.store) c.args.first.now.dataset c.args.first.now.scale c.args.number c.args.self.now.scale c.self.inside.scale c.args.part.now c.args.cell c.shared_box-shared.result
+      c.requires.beside.inside c.requires.cell c.requires.meets (sym (ap (λ (r : Opened). r.scale) c.self.view_is)) (c.shared_box-shared.ensures ∙ ap (λ b. common b c.args.part.now) c.cell_box.ensures.positions) c.find_stored.ensures.reads.kept.same_objects
+      (g.S.Source.asked c.args.store.now) (g.S.Source.asked c.find_stored.new.store) _ c.find_stored.ensures.asked c.judge_box.ensures.asks.asked;
+  reads = record {
+    kept = search rules;
+    cause = cause_again c.in-Err.fault _ _ _ c.in_ok-is_stored.ensures.reads.cause.stands c.in-Err.ensures.asks.reads.cause;
+  };
+}
 
-pub returns-clause-asked : goal.returns-clause-asked
-returns-clause-asked g c =
-    asked_cell (g.S.Source.objects c.args.store.now) (g.S.Source.objects c.find_stored.new.store) c.args.first.now.dataset c.args.first.now.scale c.args.number c.args.self.now.scale c.self.inside.scale c.args.part.now c.args.cell c.shared_box-shared.result
-    c.requires.beside.inside c.requires.cell c.requires.meets (sym (ap (λ (r : Opened). r.scale) c.self.view_is)) (c.shared_box-shared.ensures ∙ ap (λ b. common b c.args.part.now) c.cell_box.ensures.positions) c.find_stored.ensures.kept.same_objects
-    (g.S.Source.asked c.args.store.now) (g.S.Source.asked c.find_stored.new.store) _ c.find_stored.ensures.asked c.judge_box.ensures.asked
+pub returns-clause-asks : goal.returns-clause-asks
+returns-clause-asks g c = record {
+  asked =
+      asked_cell (g.S.Source.objects c.args.store.now) (g.S.Source.objects c.find_stored.new.store) c.args.first.now.dataset c.args.first.now.scale c.args.number c.args.self.now.scale c.self.inside.scale c.args.part.now c.args.cell c.shared_box-shared.result
+      c.requires.beside.inside c.requires.cell c.requires.meets (sym (ap (λ (r : Opened). r.scale) c.self.view_is)) (c.shared_box-shared.ensures ∙ ap (λ b. common b c.args.part.now) c.cell_box.ensures.positions) c.find_stored.ensures.reads.kept.same_objects
+      (g.S.Source.asked c.args.store.now) (g.S.Source.asked c.find_stored.new.store) _ c.find_stored.ensures.asked c.judge_box.ensures.asks.asked;
+  reads = record {
+    kept = search rules;
+    cause = stood_again c.in_ok-is_stored.is_stored _ _ _ c.in_ok-is_stored.ensures.reads.cause.stands c.in-Ok.ensures.asks.reads.cause.stands;
+  };
+}
 
 pub invariant_of-self : goal.invariant_of-self
 invariant_of-self g c =
@@ -69,9 +81,3 @@ invariant_of-self g c =
 pub invariant_of-self-2 : goal.invariant_of-self-2
 invariant_of-self-2 g c =
     held_again c.self.inside.dataset c.self.inside.scale c.self.inside.reader c.judge_box.new.reader c.self.invariant c.judge_box.ensures.reader
-
-pub returns-in-Err-clause-cause : goal.returns-in-Err-clause-cause
-returns-in-Err-clause-cause g c = cause_again c.in-Err.fault _ _ _ c.in_ok-is_stored.ensures.cause.stands c.in-Err.ensures.cause
-
-pub returns-clause-cause : goal.returns-clause-cause
-returns-clause-cause g c = stood_again c.in_ok-is_stored.is_stored _ _ _ c.in_ok-is_stored.ensures.cause.stands c.in-Ok.ensures.cause.stands

@@ -1,4 +1,4 @@
-use Rattle.std.proofs.Common.{◌≤◌, ◌∙◌, ◌+◌, Err, Ok, ap, length, refl, subst, sym}
+use Rattle.std.proofs.Common.{◌≤◌, ◌∙◌, ◌+◌, Err, Ok, ap, length, refl, subst, sym, rules, arith}
 use Rattle.std.specs.List.{All}
 use Rattle.std.proofs.lemmas.List.{length-append}
 use Rattle.std.proofs.lemmas.List.Elements.{All-contains}
@@ -62,12 +62,12 @@ loop-cell-preserved g c =
       asked =
           asked_more (g.S.Source.objects c.args.store.now) (λ m cell. pair_cost m c.args.first.now.dataset c.args.first.now.scale c.args.self.now.scale (common (cell_box c.args.self.now.scale cell) c.args.part.now)) (g.S.Source.objects c.args.store.now) c.loop-cell.yielded c.in-Some.cell _ _ _ refl c.loop-cell.invariant.asked
           (moved_told (λ m f v. g.S.Source.asked c.judge_cell.new.store ≤ g.S.Source.asked c.loop-cell.store + pair_cost m f.dataset f.scale v.scale (common (cell_box v.scale c.in-Some.cell) c.args.part.now)) (g.S.Source.objects c.args.store.now) (g.S.Source.objects c.loop-cell.store)
-          c.loop-cell.first c.loop-cell.self c.args.first.now c.args.self.now c.loop-cell.invariant.kept.same_objects c.loop-cell.invariant.first c.loop-cell.invariant.same c.judge_cell.ensures.asked);
+          c.loop-cell.first c.loop-cell.self c.args.first.now c.args.self.now c.loop-cell.invariant.kept.same_objects c.loop-cell.invariant.first c.loop-cell.invariant.same c.judge_cell.ensures.asks.asked);
       kept = record {
-        same_objects = c.judge_cell.ensures.kept.same_objects ∙ c.loop-cell.invariant.kept.same_objects;
-        same_draft = c.judge_cell.ensures.kept.same_draft ∙ c.loop-cell.invariant.kept.same_draft;
+        same_objects = c.judge_cell.ensures.asks.reads.kept.same_objects ∙ c.loop-cell.invariant.kept.same_objects;
+        same_draft = c.judge_cell.ensures.asks.reads.kept.same_draft ∙ c.loop-cell.invariant.kept.same_draft;
       };
-      later = c.in-Ok.ensures.cause.stands ∙ c.loop-cell.invariant.later;
+      later = c.in-Ok.ensures.asks.reads.cause.stands ∙ c.loop-cell.invariant.later;
     }
 
 pub returns-in-Err-clause-judged : goal.returns-in-Err-clause-judged
@@ -78,12 +78,15 @@ returns-in-Err-clause-judged g c =
     (moved (λ m f v. JudgesCell (Err c.in-Err.fault) m f.dataset f.scale c.args.number v.scale c.args.part.now c.in-Some.cell) (g.S.Source.objects c.args.store.now) (g.S.Source.objects c.loop-cell.store) c.loop-cell.first c.loop-cell.self c.args.first.now c.args.self.now
     c.loop-cell.invariant.kept.same_objects c.loop-cell.invariant.first c.loop-cell.invariant.same c.in-Err.ensures.judged m told))
 
-pub returns-in-Err-clause-asked : goal.returns-in-Err-clause-asked
-returns-in-Err-clause-asked g c =
-    asked_next (g.S.Source.objects c.args.store.now) (λ m cell. pair_cost m c.args.first.now.dataset c.args.first.now.scale c.args.self.now.scale (common (cell_box c.args.self.now.scale cell) c.args.part.now)) (g.S.Source.objects c.args.store.now) c.loop-cell.yielded c.loop-cell.cell-iterator c.next.new.self (cells_in c.args.self.now.scale c.args.part.now) c.in-Some.cell _ _ _ refl
-    c.in-Some.ensures.steps c.loop-cell.invariant.left c.loop-cell.invariant.asked
-    (moved_told (λ m f v. g.S.Source.asked c.judge_cell.new.store ≤ g.S.Source.asked c.loop-cell.store + pair_cost m f.dataset f.scale v.scale (common (cell_box v.scale c.in-Some.cell) c.args.part.now)) (g.S.Source.objects c.args.store.now) (g.S.Source.objects c.loop-cell.store)
-    c.loop-cell.first c.loop-cell.self c.args.first.now c.args.self.now c.loop-cell.invariant.kept.same_objects c.loop-cell.invariant.first c.loop-cell.invariant.same c.judge_cell.ensures.asked)
+pub returns-in-Err-clause-asks : goal.returns-in-Err-clause-asks
+returns-in-Err-clause-asks g c = record {
+  asked =
+      asked_next (g.S.Source.objects c.args.store.now) (λ m cell. pair_cost m c.args.first.now.dataset c.args.first.now.scale c.args.self.now.scale (common (cell_box c.args.self.now.scale cell) c.args.part.now)) (g.S.Source.objects c.args.store.now) c.loop-cell.yielded c.loop-cell.cell-iterator c.next.new.self (cells_in c.args.self.now.scale c.args.part.now) c.in-Some.cell _ _ _ refl
+      c.in-Some.ensures.steps c.loop-cell.invariant.left c.loop-cell.invariant.asked
+      (moved_told (λ m f v. g.S.Source.asked c.judge_cell.new.store ≤ g.S.Source.asked c.loop-cell.store + pair_cost m f.dataset f.scale v.scale (common (cell_box v.scale c.in-Some.cell) c.args.part.now)) (g.S.Source.objects c.args.store.now) (g.S.Source.objects c.loop-cell.store)
+      c.loop-cell.first c.loop-cell.self c.args.first.now c.args.self.now c.loop-cell.invariant.kept.same_objects c.loop-cell.invariant.first c.loop-cell.invariant.same c.judge_cell.ensures.asks.asked);
+  reads = search rules;
+}
 
 pub returns-clause-judged : goal.returns-clause-judged
 returns-clause-judged g c =
@@ -95,6 +98,9 @@ pub returns-clause-cells : goal.returns-clause-cells
 returns-clause-cells g c =
     c.loop-cell.invariant.cells ∙ ap length (at_end c.loop-cell.yielded c.loop-cell.cell-iterator (cells_in c.args.self.now.scale c.args.part.now) c.in-None.ensures.steps.0 c.loop-cell.invariant.left)
 
-pub returns-clause-asked : goal.returns-clause-asked
-returns-clause-asked g c =
-    asked_all (g.S.Source.objects c.args.store.now) (λ m cell. pair_cost m c.args.first.now.dataset c.args.first.now.scale c.args.self.now.scale (common (cell_box c.args.self.now.scale cell) c.args.part.now)) c.loop-cell.yielded c.loop-cell.cell-iterator (cells_in c.args.self.now.scale c.args.part.now) _ _ c.loop-cell.invariant.left c.loop-cell.invariant.asked
+pub returns-clause-asks : goal.returns-clause-asks
+returns-clause-asks g c = record {
+  asked =
+      asked_all (g.S.Source.objects c.args.store.now) (λ m cell. pair_cost m c.args.first.now.dataset c.args.first.now.scale c.args.self.now.scale (common (cell_box c.args.self.now.scale cell) c.args.part.now)) c.loop-cell.yielded c.loop-cell.cell-iterator (cells_in c.args.self.now.scale c.args.part.now) _ _ c.loop-cell.invariant.left c.loop-cell.invariant.asked;
+  reads = record { kept = c.loop-cell.invariant.kept; cause = record { later = omega (arith, c.loop-cell.invariant.later); failed = λ told. absurd (cc told); stands = c.loop-cell.invariant.later } };
+}

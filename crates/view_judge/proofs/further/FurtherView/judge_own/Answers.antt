@@ -1,4 +1,4 @@
-use Rattle.std.proofs.Common.{◌∙◌, ◌≤◌, ◌+◌, IfSome, length, subst, sym}
+use Rattle.std.proofs.Common.{◌∙◌, ◌≤◌, ◌+◌, IfSome, length, subst, sym, rules}
 use Rattle.std.specs.List.{sum_by}
 use Rattle.vol_spec.specs.Grid.{cell_box, cells_in}
 use Rattle.size_laws.specs.Findings.{common}
@@ -23,8 +23,11 @@ returns-clause-judged g c =
     subst (λ r. IfSome (g.S.Source.objects c.args.store.now) (λ m. JudgesOwn c.judge_regions.result m c.args.first.now.dataset c.args.first.now.scale c.args.number c.args.self.now.scale r c.args.part.now)) (c.find_own_regions-regions.ensures ∙ (λ i. own_regions (c.requires.scale i) (c.self.view_is i).scale))
     c.judge_regions.ensures.judged
 
-pub returns-clause-asked : goal.returns-clause-asked
-returns-clause-asked g c =
-    subst (λ r. IfSome (g.S.Source.objects c.args.store.now) (λ m. g.S.Source.asked c.judge_regions.new.store ≤ g.S.Source.asked c.args.store.now
-    + sum_by (λ region. pair_cost m c.args.first.now.dataset c.args.first.now.scale c.args.self.now.scale (common (cell_box r region) c.args.part.now)) (cells_in r c.args.part.now))) (c.find_own_regions-regions.ensures ∙ (λ i. own_regions (c.requires.scale i) (c.self.view_is i).scale))
-    c.judge_regions.ensures.asked
+pub returns-clause-asks : goal.returns-clause-asks
+returns-clause-asks g c = record {
+  asked =
+      subst (λ r. IfSome (g.S.Source.objects c.args.store.now) (λ m. g.S.Source.asked c.judge_regions.new.store ≤ g.S.Source.asked c.args.store.now
+      + sum_by (λ region. pair_cost m c.args.first.now.dataset c.args.first.now.scale c.args.self.now.scale (common (cell_box r region) c.args.part.now)) (cells_in r c.args.part.now))) (c.find_own_regions-regions.ensures ∙ (λ i. own_regions (c.requires.scale i) (c.self.view_is i).scale))
+      c.judge_regions.ensures.asks.asked;
+  reads = search rules;
+}

@@ -1,4 +1,4 @@
-use Rattle.std.proofs.Common.{◌∙◌, ◌≤◌, ◌+◌, IfSome, ap, arith, subst, sym}
+use Rattle.std.proofs.Common.{◌∙◌, ◌≤◌, ◌+◌, IfSome, ap, arith, subst, sym, rules}
 use Rattle.vol_base.specs.Boxes.{Covers}
 use Rattle.vol_spec.specs.declared.scale.Scale.{Scale}
 use Rattle.cutout.specs.Opened.{Opened}
@@ -41,12 +41,15 @@ returns-clause-judged g c =
     subst (λ b. IfSome (g.S.Source.objects c.args.store.now) (λ m. JudgesBox c.judge_box.result m c.args.first.now.dataset c.args.first.now.scale c.args.number c.args.self.now.scale b)) (c.shared_box-shared.ensures ∙ ap (λ x. common x c.args.part.now) c.cell_box.ensures.positions)
     (subst (λ (v : Scale). IfSome (g.S.Source.objects c.args.store.now) (λ m. JudgesBox c.judge_box.result m c.args.first.now.dataset c.args.first.now.scale c.args.number v c.shared_box-shared.result)) (ap (λ (r : Opened). r.scale) c.self.view_is) c.judge_box.ensures.judged)
 
-pub returns-clause-asked : goal.returns-clause-asked
-returns-clause-asked g c =
-    let was = g.S.Source.asked c.args.store.now in
-    let now = g.S.Source.asked c.judge_box.new.store in
-    subst (λ b. IfSome (g.S.Source.objects c.args.store.now) (λ m. now ≤ was + pair_cost m c.args.first.now.dataset c.args.first.now.scale c.args.self.now.scale b)) (c.shared_box-shared.ensures ∙ ap (λ x. common x c.args.part.now) c.cell_box.ensures.positions)
-    (subst (λ (v : Scale). IfSome (g.S.Source.objects c.args.store.now) (λ m. now ≤ was + pair_cost m c.args.first.now.dataset c.args.first.now.scale v c.shared_box-shared.result)) (ap (λ (r : Opened). r.scale) c.self.view_is) c.judge_box.ensures.asked)
+pub returns-clause-asks : goal.returns-clause-asks
+returns-clause-asks g c = record {
+  asked =
+      let was = g.S.Source.asked c.args.store.now in
+      let now = g.S.Source.asked c.judge_box.new.store in
+      subst (λ b. IfSome (g.S.Source.objects c.args.store.now) (λ m. now ≤ was + pair_cost m c.args.first.now.dataset c.args.first.now.scale c.args.self.now.scale b)) (c.shared_box-shared.ensures ∙ ap (λ x. common x c.args.part.now) c.cell_box.ensures.positions)
+      (subst (λ (v : Scale). IfSome (g.S.Source.objects c.args.store.now) (λ m. now ≤ was + pair_cost m c.args.first.now.dataset c.args.first.now.scale v c.shared_box-shared.result)) (ap (λ (r : Opened). r.scale) c.self.view_is) c.judge_box.ensures.asks.asked);
+  reads = search rules;
+}
 
 pub invariant_of-self : goal.invariant_of-self
 invariant_of-self g c = held_again c.self.inside.dataset c.self.inside.scale c.self.inside.reader c.judge_box.new.reader c.self.invariant c.judge_box.ensures.reader

@@ -1,6 +1,5 @@
-use Rattle.std.proofs.Common.{◌≤◌, ◌∙◌, ◌+◌, IfSome, Err, Ok, refl, subst, sym}
+use Rattle.std.proofs.Common.{◌≤◌, ◌∙◌, ◌+◌, IfSome, Err, Ok, refl, subst, sym, rules, arith}
 use Rattle.std.proofs.lemmas.List.Elements.{All-contains, All-nil, All-push}
-use Rattle.vol_base.specs.Outside.{HaveBytes}
 use Rattle.vol_spec.proofs.Told.{in_told}
 use Rattle.vol_spec.specs.Grid.{cell_box, cells_in, IsCell, Meets}
 use Rattle.chunk_grid.proofs.Walked.{at_end, here, one_on}
@@ -40,9 +39,6 @@ judge_region-requires-clause-meets g c =
     (All-contains (λ region. Meets c.args.regions.now region c.args.part.now) (cells_in c.args.regions.now c.args.part.now) c.in-Some.region c.tell_cells.ensures.meet
     (here c.loop-region.yielded c.loop-region.region-iterator c.next.new.self (cells_in c.args.regions.now c.args.part.now) c.in-Some.region c.in-Some.ensures.steps c.loop-region.invariant.left))
 
-pub judge_region-requires-clause-bytes : goal.judge_region-requires-clause-bytes
-judge_region-requires-clause-bytes g c = subst (λ o. IfSome o HaveBytes) (sym c.loop-region.invariant.kept.same_objects) c.requires.bytes
-
 pub loop-region-preserved : goal.loop-region-preserved
 loop-region-preserved g c =
     record {
@@ -57,12 +53,12 @@ loop-region-preserved g c =
       asked =
           asked_more (g.S.Source.objects c.args.store.now) (λ m region. pair_cost m c.args.first.now.dataset c.args.first.now.scale c.args.self.now.scale (common (cell_box c.args.regions.now region) c.args.part.now)) (g.S.Source.objects c.args.store.now) c.loop-region.yielded c.in-Some.region _ _ _ refl c.loop-region.invariant.asked
           (moved_told (λ m f r. g.S.Source.asked c.judge_region.new.store ≤ g.S.Source.asked c.loop-region.store + pair_cost m f.dataset f.scale r.scale (common (cell_box c.args.regions.now c.in-Some.region) c.args.part.now)) (g.S.Source.objects c.args.store.now) (g.S.Source.objects c.loop-region.store)
-          c.loop-region.first c.loop-region.self c.args.first.now c.args.self.now c.loop-region.invariant.kept.same_objects c.loop-region.invariant.first c.loop-region.invariant.same c.judge_region.ensures.asked);
+          c.loop-region.first c.loop-region.self c.args.first.now c.args.self.now c.loop-region.invariant.kept.same_objects c.loop-region.invariant.first c.loop-region.invariant.same c.judge_region.ensures.asks.asked);
       kept = record {
-        same_objects = c.judge_region.ensures.kept.same_objects ∙ c.loop-region.invariant.kept.same_objects;
-        same_draft = c.judge_region.ensures.kept.same_draft ∙ c.loop-region.invariant.kept.same_draft;
+        same_objects = c.judge_region.ensures.asks.reads.kept.same_objects ∙ c.loop-region.invariant.kept.same_objects;
+        same_draft = c.judge_region.ensures.asks.reads.kept.same_draft ∙ c.loop-region.invariant.kept.same_draft;
       };
-      later = c.in-Ok.ensures.cause.stands ∙ c.loop-region.invariant.later;
+      later = c.in-Ok.ensures.asks.reads.cause.stands ∙ c.loop-region.invariant.later;
     }
 
 pub returns-clause-judged : goal.returns-clause-judged
@@ -71,9 +67,12 @@ returns-clause-judged g c =
     subst (Agree m c.args.first.now.dataset c.args.first.now.scale c.args.number c.args.self.now.scale c.args.regions.now c.args.part.now)
     (at_end c.loop-region.yielded c.loop-region.region-iterator (cells_in c.args.regions.now c.args.part.now) c.in-None.ensures.steps.0 c.loop-region.invariant.left) (c.loop-region.invariant.agree m told))
 
-pub returns-clause-asked : goal.returns-clause-asked
-returns-clause-asked g c =
-    asked_all (g.S.Source.objects c.args.store.now) (λ m region. pair_cost m c.args.first.now.dataset c.args.first.now.scale c.args.self.now.scale (common (cell_box c.args.regions.now region) c.args.part.now)) c.loop-region.yielded c.loop-region.region-iterator (cells_in c.args.regions.now c.args.part.now) _ _ c.loop-region.invariant.left c.loop-region.invariant.asked
+pub returns-clause-asks : goal.returns-clause-asks
+returns-clause-asks g c = record {
+  asked =
+      asked_all (g.S.Source.objects c.args.store.now) (λ m region. pair_cost m c.args.first.now.dataset c.args.first.now.scale c.args.self.now.scale (common (cell_box c.args.regions.now region) c.args.part.now)) c.loop-region.yielded c.loop-region.region-iterator (cells_in c.args.regions.now c.args.part.now) _ _ c.loop-region.invariant.left c.loop-region.invariant.asked;
+  reads = record { kept = c.loop-region.invariant.kept; cause = record { later = omega (arith, c.loop-region.invariant.later); failed = λ told. absurd (cc told); stands = c.loop-region.invariant.later } };
+}
 
 pub cells-region-items-requires : goal.cells-region-items-requires
 cells-region-items-requires g c = beside_inside_back c.args.self.now.scale c.args.regions.now c.args.part.now c.requires.grid c.requires.beside.inside
@@ -93,9 +92,12 @@ returns-in-Err-clause-judged g c =
           c.loop-region.invariant.kept.same_objects c.loop-region.invariant.first c.loop-region.invariant.same c.in-Err.ensures.judged m told,
     ))
 
-pub returns-in-Err-clause-asked : goal.returns-in-Err-clause-asked
-returns-in-Err-clause-asked g c =
-    asked_next (g.S.Source.objects c.args.store.now) (λ m region. pair_cost m c.args.first.now.dataset c.args.first.now.scale c.args.self.now.scale (common (cell_box c.args.regions.now region) c.args.part.now)) (g.S.Source.objects c.args.store.now) c.loop-region.yielded c.loop-region.region-iterator c.next.new.self (cells_in c.args.regions.now c.args.part.now) c.in-Some.region _ _ _ refl
-    c.in-Some.ensures.steps c.loop-region.invariant.left c.loop-region.invariant.asked
-    (moved_told (λ m f r. g.S.Source.asked c.judge_region.new.store ≤ g.S.Source.asked c.loop-region.store + pair_cost m f.dataset f.scale r.scale (common (cell_box c.args.regions.now c.in-Some.region) c.args.part.now)) (g.S.Source.objects c.args.store.now) (g.S.Source.objects c.loop-region.store)
-    c.loop-region.first c.loop-region.self c.args.first.now c.args.self.now c.loop-region.invariant.kept.same_objects c.loop-region.invariant.first c.loop-region.invariant.same c.judge_region.ensures.asked)
+pub returns-in-Err-clause-asks : goal.returns-in-Err-clause-asks
+returns-in-Err-clause-asks g c = record {
+  asked =
+      asked_next (g.S.Source.objects c.args.store.now) (λ m region. pair_cost m c.args.first.now.dataset c.args.first.now.scale c.args.self.now.scale (common (cell_box c.args.regions.now region) c.args.part.now)) (g.S.Source.objects c.args.store.now) c.loop-region.yielded c.loop-region.region-iterator c.next.new.self (cells_in c.args.regions.now c.args.part.now) c.in-Some.region _ _ _ refl
+      c.in-Some.ensures.steps c.loop-region.invariant.left c.loop-region.invariant.asked
+      (moved_told (λ m f r. g.S.Source.asked c.judge_region.new.store ≤ g.S.Source.asked c.loop-region.store + pair_cost m f.dataset f.scale r.scale (common (cell_box c.args.regions.now c.in-Some.region) c.args.part.now)) (g.S.Source.objects c.args.store.now) (g.S.Source.objects c.loop-region.store)
+      c.loop-region.first c.loop-region.self c.args.first.now c.args.self.now c.loop-region.invariant.kept.same_objects c.loop-region.invariant.first c.loop-region.invariant.same c.judge_region.ensures.asks.asked);
+  reads = search rules;
+}

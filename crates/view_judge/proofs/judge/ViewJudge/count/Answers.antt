@@ -1,5 +1,4 @@
 use Rattle.std.proofs.Common.{◌∙◌, IfSome, ap, arith, subst}
-use Rattle.vol_base.specs.Outside.{HaveBytes}
 use Rattle.vol_spec.proofs.Told.{in_told}
 use Rattle.cutout.specs.Opened.{Opened}
 use Rattle.size_laws.specs.Further.{further}
@@ -39,13 +38,12 @@ loop-view-preserved g c =
           named_views m c.args.self.now.dataset c.args.self.now.scale c.args.part.now c.loop-view.view-index c.loop-view.report c.in-Ok.more c.add-report.result below sum (c.loop-view.invariant.named m told)
           (item_named c.args.self.now.dataset c.args.self.now.scale c.deref-view-items.result.now c.loop-view.view-index c.view-item.result c.args.part.now (c.deref-view-items.ensures.value ∙ c.self.invariant.views ∙ ap (λ (r : Opened). all_opened r.dataset r.scale) c.self.view_is) c.loop-view-test.true c.view-item.is (g.S.Source.objects c.args.store.now) (g.S.Source.objects c.loop-view.store) c.in-Ok.more
           c.loop-view.invariant.kept.same_objects c.in-Ok.ensures.named m told);
-      bytes = λ some. subst (λ o. IfSome o HaveBytes) c.loop-view.invariant.kept.same_objects c.in-Ok.ensures.bytes;
       asked = c.count.ensures.asked ∙ c.loop-view.invariant.asked;
       kept = record {
-        same_objects = c.count.ensures.kept.same_objects ∙ c.loop-view.invariant.kept.same_objects;
-        same_draft = c.count.ensures.kept.same_draft ∙ c.loop-view.invariant.kept.same_draft;
+        same_objects = c.count.ensures.reads.kept.same_objects ∙ c.loop-view.invariant.kept.same_objects;
+        same_draft = c.count.ensures.reads.kept.same_draft ∙ c.loop-view.invariant.kept.same_draft;
       };
-      later = c.in-Ok.ensures.cause.stands ∙ c.loop-view.invariant.later;
+      later = c.in-Ok.ensures.reads.cause.stands ∙ c.loop-view.invariant.later;
     }
 
 pub returns-clause-named : goal.returns-clause-named
@@ -55,10 +53,3 @@ returns-clause-named g c =
     (let len = opened_length c.args.self.now.dataset c.args.self.now.scale c.deref-view-items.result.now (c.deref-view-items.ensures.value ∙ c.self.invariant.views ∙ ap (λ (r : Opened). all_opened r.dataset r.scale) c.self.view_is) in
     let end = c.loop-view-test.false in
     omega (arith, len, end)) (c.loop-view.invariant.named m told))
-
-pub returns-clause-bytes : goal.returns-clause-bytes
-returns-clause-bytes g c = λ some.
-    c.loop-view.invariant.bytes
-    (let len = opened_length c.args.self.now.dataset c.args.self.now.scale c.deref-view-items.result.now (c.deref-view-items.ensures.value ∙ c.self.invariant.views ∙ ap (λ (r : Opened). all_opened r.dataset r.scale) c.self.view_is) in
-    let end = c.loop-view-test.false in
-    omega (arith, some, len, end))

@@ -29,19 +29,19 @@ invariant_of-self-2 g c =
 
 pub returns-in-Err-clause-found : goal.returns-in-Err-clause-found
 returns-in-Err-clause-found g c =
-    moved_told (λ m f r. Sound m f.dataset f.scale c.args.part.now → FindsViews (Err c.in-Err.fault) m f.dataset f.scale c.args.part.now) (g.S.Source.objects c.args.store.now) (g.S.Source.objects c.count.new.store) c.self.inside.first c.self.inside.first c.args.self.now c.args.self.now c.count.ensures.kept.same_objects c.self.view_is c.self.view_is
+    moved_told (λ m f r. Sound m f.dataset f.scale c.args.part.now → FindsViews (Err c.in-Err.fault) m f.dataset f.scale c.args.part.now) (g.S.Source.objects c.args.store.now) (g.S.Source.objects c.count.new.store) c.self.inside.first c.self.inside.first c.args.self.now c.args.self.now c.count.ensures.reads.kept.same_objects c.self.view_is c.self.view_is
     c.in-Err.ensures.judged
 
 pub returns-clause-found : goal.returns-clause-found
 returns-clause-found g c =
     in_told (g.S.Source.objects c.args.store.now) (λ m. Sound m c.args.self.now.dataset c.args.self.now.scale c.args.part.now → FindsViews (Ok c.in_ok-report.report) m c.args.self.now.dataset c.args.self.now.scale c.args.part.now) (λ m told sound.
     all_agreeing m c.args.self.now.dataset c.args.self.now.scale c.args.part.now c.requires.inside
-    (moved (λ m f r. ComparesAll (Ok tt) m f.dataset f.scale c.args.part.now) (g.S.Source.objects c.args.store.now) (g.S.Source.objects c.count.new.store) c.self.inside.first c.self.inside.first c.args.self.now c.args.self.now c.count.ensures.kept.same_objects c.self.view_is c.self.view_is
+    (moved (λ m f r. ComparesAll (Ok tt) m f.dataset f.scale c.args.part.now) (g.S.Source.objects c.args.store.now) (g.S.Source.objects c.count.new.store) c.self.inside.first c.self.inside.first c.args.self.now c.args.self.now c.count.ensures.reads.kept.same_objects c.self.view_is c.self.view_is
     c.in-Ok.ensures.judged m told)
     c.in_ok-report.report (from_told (g.S.Source.objects c.args.store.now) _ m told c.in_ok-report.ensures.named))
 
 pub returns-clause-asked : goal.returns-clause-asked
 returns-clause-asked g c =
     subst (λ n. IfSome (g.S.Source.objects c.args.store.now) (λ m. g.S.Source.asked c.judge_all.new.store ≤ n + views_cost m c.args.self.now.dataset c.args.self.now.scale c.args.part.now)) c.count.ensures.asked
-    (moved_told (λ m f r. g.S.Source.asked c.judge_all.new.store ≤ g.S.Source.asked c.count.new.store + views_cost m f.dataset f.scale c.args.part.now) (g.S.Source.objects c.args.store.now) (g.S.Source.objects c.count.new.store) c.self.inside.first c.self.inside.first c.args.self.now c.args.self.now c.count.ensures.kept.same_objects c.self.view_is c.self.view_is
+    (moved_told (λ m f r. g.S.Source.asked c.judge_all.new.store ≤ g.S.Source.asked c.count.new.store + views_cost m f.dataset f.scale c.args.part.now) (g.S.Source.objects c.args.store.now) (g.S.Source.objects c.count.new.store) c.self.inside.first c.self.inside.first c.args.self.now c.args.self.now c.count.ensures.reads.kept.same_objects c.self.view_is c.self.view_is
     c.judge_all.ensures.asked)
