@@ -1,6 +1,7 @@
 # For the scripts beside it, each of which runs the program that it calls $name in the current directory, and has the functions
 # tell_commands and tell_words; $name and the words are told the latter. Without words, or with --help, -h or help, the commands are
-# told; with --build alone the program is only built, and with --built alone status 0 says that it is there and no source is newer.
+# told, with --version the version; with --build alone the program is only built, and with --built alone status 0 says that it is there
+# and no source is newer.
 # Where standard error is a terminal, a line of help follows the statuses 1, 5 and 9.
 #
 # In a checkout the program is built first where it isn't built yet, or where a source is newer; what the build says goes to
@@ -32,7 +33,7 @@ put_back() {
 
 # Proves, links and puts the program there, side by side; it says how far it is.
 build() {
-    echo "bin/$name: building, which takes half an hour on four processors the first time" >&2
+    echo "bin/$name: building, which takes 40 minutes on four processors the first time" >&2
     trap 'put_back; exit 125' INT TERM HUP
     [ ! -x "$program" ] || mv -f "$program" "$old"
     "$root/bin/build_program" "$name" </dev/null >&2
@@ -59,6 +60,19 @@ tell_file() {
     echo "a file below ${2-} can't be read or written, or is a pipe or a device, or the disk is full"
 }
 
+# The version, the commit where this is a checkout or was installed from one, and the kit that proves the programs.
+tell_version() {
+    package=$root/python/vol_tool/__init__.py
+    [ -f "$package" ] || package=$root/share/vol_tool/python/vol_tool/__init__.py
+    echo "$name $(sed -n 's/^__version__ = "\(.*\)"$/\1/p' "$package")"
+    if [ -e "$root/.git" ]; then
+        commit=$(git -C "$root" rev-parse --short=12 HEAD 2>/dev/null) && echo "commit $commit"
+    elif [ -f "$root/share/vol_tool/commit" ]; then
+        echo "commit $(cat "$root/share/vol_tool/commit")"
+    fi
+    echo "kit $(sed -n 's/^__kit__ = "\(.*\)"$/\1/p' "$package")"
+}
+
 # A line of help behind a status.
 tell_help() {
     case $1 in
@@ -73,6 +87,12 @@ run_program() {
     --help | -h | help)
         if [ $# -le 1 ]; then
             tell_commands
+            exit 0
+        fi
+        ;;
+    --version)
+        if [ $# -eq 1 ]; then
+            tell_version
             exit 0
         fi
         ;;

@@ -1,5 +1,5 @@
 #!/usr/bin/env python3
-"""Checks that every clause, law, edit and name that a page has stands in the code, that links lead somewhere, and that edits apply.
+"""Checks that every clause, law, edit and name that a page has is in the code, that links lead somewhere, and that edits apply.
 
     tests/clauses.py
 
@@ -83,23 +83,22 @@ def wrong_in_row(code, place, cells):
 
 
 def judge_layers(code):
-    """The list of crates, each once: behind their names, in bold, what they promise, the clauses of their calls, and edits."""
+    """The rows of crates, each crate once: behind its name, in bold, what it is, the clauses of its calls, and edits."""
     listed = []
-    for part in re.findall(r"^- (.*?)(?=^- |^$|\Z)", (ROOT / "docs/layers.md").read_text(), re.M | re.S):
-        part = " ".join(part.split())
-        crates = re.findall(r"\*\*(\w+)\*\*", part)
-        listed += crates
-        wrong = [f"there is no crate {crate}" for crate in crates if not (CRATES / crate).is_dir()]
-        for clauses in re.findall(r"Clauses: (.*?)\.(?: |$)", part):
-            for owner, *names in map(names_in, clauses.split("; ")):
-                known = code.of(owner, crates)
-                wrong += [f"there is no {owner} in {', '.join(crates)}"] if known is None else code.lacking(names, [owner], known)
-        edits = (edit for names in re.findall(r"Edits: (.*?)\.(?: |$)", part) for edit in names_in(names))
-        paths = {edit: [CRATES / crate / folder / f"{edit}.edit" for crate in crates for folder in EDITS] for edit in edits}
+    for line in (ROOT / "docs/layers.md").read_text().splitlines():
+        if not (found := re.match(r"\| \*\*(\w+)\*\* \|", line)):
+            continue
+        crate, (_, _, clauses, edits) = found[1], cells_of(line)
+        listed.append(crate)
+        wrong = [] if (CRATES / crate).is_dir() else [f"there is no crate {crate}"]
+        for owner, *names in filter(None, map(names_in, clauses.split("; "))):
+            known = code.of(owner, [crate])
+            wrong += [f"there is no {owner} in {crate}"] if known is None else code.lacking(names, [owner], known)
+        paths = {edit: [CRATES / crate / folder / f"{edit}.edit" for folder in EDITS] for edit in names_in(edits)}
         wrong += [f"there is no edit {edit}" for edit, places in paths.items() if not any(place.exists() for place in places)]
-        yield f"docs/layers.md: {', '.join(crates)}", wrong
+        yield f"docs/layers.md: {crate}", wrong
     for crate in sorted({path.name for path in CRATES.iterdir() if path.is_dir()} | set(listed)):
-        yield f"docs/layers.md: {crate}", [] if listed.count(crate) == 1 else [f"it is listed {listed.count(crate)} times"]
+        yield f"docs/layers.md: {crate}, once", [] if listed.count(crate) == 1 else [f"it is listed {listed.count(crate)} times"]
 
 
 def wrong_in_list(code, cells):
@@ -222,7 +221,8 @@ def judge_names():
 
 
 def judge_links(page, path, text):
-    for link in re.findall(r"\]\((?!\w+:)([^)\s]+)\)", re.sub(r"^```.*?^```$", "", text, flags=re.M | re.S)):
+    text = re.sub(r"^```.*?^```$", "", text, flags=re.M | re.S)
+    for link in re.findall(r"\]\((?!\w+:)([^)\s]+)\)", text) + re.findall(r'src(?:set)?="([^"]+)"', text):
         name, _, part = link.partition("#")
         target = path.parent / name if name else path
         wrong = [] if target.exists() else [f"there is no {name}"]
@@ -233,6 +233,13 @@ def judge_links(page, path, text):
         yield f"{page}: {link}", wrong
 
 
+def judge_definitions(page, path, text):
+    """What a link to a module of definitions names is defined there."""
+    for names, link in re.findall(r"\[([^\]]*)\]\(([^)\s]+\.antt)\)", text):
+        missing = [name for name in names_in(names) if f"/{name}.antt" not in link and not is_defined(name, [path.parent / link])]
+        yield f"{page}: {names}", [f"{name} isn't defined in {link}" for name in missing]
+
+
 def judge_all():
     code = Code()
     yield from judge_layers(code)
@@ -241,6 +248,7 @@ def judge_all():
         yield from judge_tables(code, page, text.splitlines())
         yield from judge_words(code, page, " ".join(text.split()))
         yield from judge_links(page, path, text)
+        yield from judge_definitions(page, path, text)
     yield from judge_theorem(code)
     yield from judge_names()
     yield from judge_edits()

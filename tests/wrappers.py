@@ -5,10 +5,11 @@
 """
 import os
 import pathlib
+import re
 import shutil
 import struct
 
-from harness import ROOT, call, call_on_terminal, files_in, find_python, main, put_program, want, want_files, want_true
+from harness import ROOT, call, call_on_terminal, files_in, find_python, find_tool, main, put_program, want, want_files, want_true
 
 # A program that tells its arguments and its folder, and ends with status 3; and one that ends with the status in the file beside it.
 TELLS = '#!/bin/sh\necho "{}:$*"\npwd\nexit 3\n'
@@ -55,13 +56,13 @@ NAMED = "a data set is named from the current folder, without ./ or / in front a
 # Words, the status that the program ends with, and the line of help that follows it on a terminal; by the name of the program.
 HELP = {
     "vol_fetch": [
-        ("h 80 d s", 1, "vol_fetch wants HOST, PORT, DATASET, KEY and a box [x0:x1,y0:y1,z0:z1] in quotes; vol_fetch --help tells more"),
+        ("h 80 d s", 1, "vol_fetch needs HOST, PORT, DATASET, KEY and a box [x0:x1,y0:y1,z0:z1] in quotes; vol_fetch --help tells more"),
         ("http://h 80 d s [0:1,0:1,0:1]", 1, "a host is a name, or an IP address of four numbers, without http:// in front: http://h"),
         ("h 80 d s [0:1,0:1,0:1]", 5, "the server h:80 isn't there, says nothing, or replies with another thing than was asked for"),
         ("h 80 d s [0:1,0:1,0:1]", 0, ""),
     ],
     "vol_serve": [
-        ("d --port=1", 1, "vol_serve wants DATASET, --port=P, --connections=N and --workers=W; vol_serve --help tells more"),
+        ("d --port=1", 1, "vol_serve needs DATASET, --port=P, --connections=N and --workers=W; vol_serve --help tells more"),
         ("./d --port=1 --connections=1 --workers=1", 1, NAMED),
         ("d --port=1 --connections=1 --workers=1", 9, TAKEN),
         ("d --port=1 --connections=1 --workers=1", 0, ""),
@@ -69,8 +70,8 @@ HELP = {
     "vol_tool": [
         ("cut d s", 1, "there is no command cut; vol_tool --help tells them"),
         ("verify ./d s", 1, NAMED),
-        ("serve d --port=1", 1, "serve wants --port=P and --connections=N; vol_tool --help tells the commands"),
-        ("downsample d s t", 1, "downsample wants --method=mode or --method=mean; vol_tool --help tells the commands"),
+        ("serve d --port=1", 1, "serve needs --port=P and --connections=N; vol_tool --help tells the commands"),
+        ("downsample d s t", 1, "downsample needs --method=mode or --method=mean; vol_tool --help tells the commands"),
         ("cutout d s 0:1", 1, "a box is [x0:x1,y0:y1,z0:z1], without spaces and in quotes; vol_tool --help tells the commands"),
         ("verify d s", 5, "a file below d can't be read or written, or is a pipe or a device, or the disk is full"),
         ("serve d --port=1 --connections=1", 9, TAKEN),
@@ -165,6 +166,32 @@ def tells_the_commands(trial, name):
         want_true(pathlib.Path(text.splitlines()[-1].split(": ")[1]).is_file(), f"{words}: there is no such guide")
 
 
+def version_lines(*names):
+    """What is said of a version, by what the package and the README say."""
+    package = (ROOT / PACKAGE / "__init__.py").read_text()
+    version, kit = (re.search(rf'^__{name}__ = "(.*)"$', package, re.MULTILINE)[1] for name in ("version", "kit"))
+    want_true(f"\n    {kit} " in (ROOT / "README.md").read_text(), f"the README has another kit than {kit}")
+    newest = re.search(r"^## ([\d.]+)", (ROOT / "CHANGELOG.md").read_text(), re.MULTILINE)[1]
+    want(version, newest, "the version, and the newest one of CHANGELOG.md")
+    return {name: f"{name} {version}\n{{}}kit {kit}\n" for name in names}
+
+
+def tells_the_version(trial, name):
+    """The version of a checkout, with its commit where it is one of git, and of what is installed from it, without a build."""
+    tree, told = Tree(trial.folder / "tree", name), version_lines(name)[name]
+    want(tree.call("--version"), (0, told.format(""), 0), "no checkout of git")
+    git = [find_tool("git"), "-C", tree.folder, "-c", "user.name=a", "-c", "user.email=a@b", "-c", "commit.gpgsign=false"]
+    for words in (["init", "-q"], ["commit", "-q", "--allow-empty", "-m", "first"]):
+        want(call([*git, *words], trial.folder)[0], 0, words[0])
+    commit = call([*git, "rev-parse", "--short=12", "HEAD"], trial.folder)[1]
+    want(tree.call("--version"), (0, told.format(f"commit {commit}"), 0), "a checkout")
+    for one in HELP:
+        put_program(tree.folder / f"crates/{one}/out/{one}", OLD)
+    want(call([tree.folder / "install", trial.folder / "prefix"], trial.folder)[0], 0, "install")
+    shutil.rmtree(tree.folder)
+    want(call([trial.folder / "prefix/bin" / name, "--version"], trial.folder)[:2], (0, told.format(f"commit {commit}")), "installed")
+
+
 def helps_on_a_terminal(trial, name):
     tree = Tree(trial.folder, name, program=ENDS)
     for words, status, line in HELP[name]:
@@ -199,7 +226,8 @@ def installs(trial):
         found = call([prefix / "bin" / name, "a", "b  c"], trial.folder)
         want(found[:2], (3, f"own {name}:a b  c\n{trial.folder}\n"), f"{name}, installed")
     names = {"bin/programs.sh", "bin/volume", *(f"{part}/{name}" for part in ("bin", "libexec") for name in HELP)}
-    names |= {f"share/doc/vol_tool/{path.name}" for path in (ROOT / "docs").glob("*.md")}
+    pages = [path for kind in ("*.md", "pictures/*.svg") for path in (ROOT / "docs").glob(kind)]
+    names |= {f"share/doc/vol_tool/{path.relative_to(ROOT / 'docs')}" for path in pages}
     found = files_in(prefix)
     others = {name: found.get(name, "a file") for name in names}
     want_files(found, others | {f"{INSTALLED_PACKAGE}/{name}": content for name, content in package.items()})
@@ -262,6 +290,7 @@ def rows():
             yield f"{name}: {title}", calls_program, name, *case
         yield f"{name}: no words, and words that ask for help", tells_the_commands, name
         yield f"{name}: a line of help on a terminal", helps_on_a_terminal, name
+        yield f"{name}: the version", tells_the_version, name
     yield "what is installed, the checkout gone", installs
     yield "the installed package, the checkout gone", uses_the_package
     yield "a line says how far a build is", tells_how_far_it_is

@@ -49,6 +49,26 @@ def test_all_commands_are_told():
     assert status == 0 and all(f"\n    {name} " in out for name in COMMANDS)
 
 
+def test_version():
+    """The version and the kit of the package, and between them the commit where it is in a checkout of git."""
+    import vol_tool
+
+    status, out, errors = volume("--version")
+    first, *commit, last = out.splitlines()
+    assert (status, errors) == (0, "")
+    assert (first, last) == (f"vol_tool {vol_tool.__version__}", f"kit {vol_tool.__kit__}")
+    assert all(re.fullmatch("commit [0-9a-f]{12}", line) for line in commit) and len(commit) == (ROOT / ".git").exists()
+
+
+def test_commit(tmp_path):
+    """The commit of what was installed, and none where nothing says it."""
+    from vol_tool.versions import find_commit
+
+    assert find_commit(tmp_path) == ""
+    (tmp_path / "commit").write_text("0123456789ab\n")
+    assert find_commit(tmp_path) == "0123456789ab"
+
+
 def test_in_and_out(image, vol_tool):
     assert volume("put in.npy d s --resolution 8,8,40 --chunk 4,4,4 --offset -3,0,7") == (0, "objects 27 cells 27\n", "")
     assert volume("get d s all out.npy") == (0, "", "")

@@ -37,6 +37,9 @@ if TYPE_CHECKING:
 
 __version__ = "1.0.0"
 
+# The kit that proves the programs: what `rt version` says.
+__kit__ = "rattle-kit-13b logic dac8208d650f15bf"
+
 # Where each name is, which is imported when it is first asked for.
 _PLACES = {
     "Cells": ("checking", "Cells"),

@@ -341,10 +341,21 @@ COMMANDS: dict[str, tuple[str, str, str, Callable[[argparse.ArgumentParser], Non
 }
 
 
+class _TellVersion(argparse.Action):
+    """Prints the version, and ends."""
+
+    def __call__(self, parser: argparse.ArgumentParser, *_: Any) -> None:
+        from .versions import version_text
+
+        print(version_text())
+        parser.exit()
+
+
 def parser_of_all() -> argparse.ArgumentParser:
     """What reads the words of all commands."""
     how = argparse.RawDescriptionHelpFormatter
     whole = argparse.ArgumentParser(prog="volume", description=(__doc__ or "").strip(), formatter_class=how)
+    whole.add_argument("--version", action=_TellVersion, nargs=0, help="prints the version, the commit and the kit")
     commands = whole.add_subparsers(required=True, metavar="|".join(COMMANDS), dest="command")
     for name, (does, more, example, set_words, job) in COMMANDS.items():
         lines = "".join(f"\n    {line}" for line in example.splitlines())
