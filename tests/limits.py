@@ -116,12 +116,48 @@ def takes_stream(trial, behind, wanted):
         trial.want(WRITE, wanted, feed)
 
 
-def keeps_cells(trial, cell, wanted):
-    """An update of a cell of a line of 2^22 + 1, of which all but the last stand in one shard with chunks of no bytes."""
-    one = (1).to_bytes(8, "little")
-    shard = {0: bytes(8) + (24 * CELLS).to_bytes(8, "little") + bytes(8) + (CELLS - 1) * one, 15 + 24 * CELLS: b"\0"}
-    trial.lay_out({"d/info": in_shards(CELLS + 1), "d/s/0.shard": shard})
-    trial.want(UPDATE, wanted, stream_of([(along(cell, cell + 1), b"\1")]))
+def le(*numbers):
+    return b"".join(number.to_bytes(8, "little") for number in numbers)
+
+
+def kept(*counts, first=0):
+    """A shard whose minishards have so many chunks of no bytes each, by pieces; their ids count on from one minishard to the next."""
+    shard, place = {}, 16 * len(counts)
+    for minishard, count in enumerate(counts):
+        shard[16 * minishard] = le(place - 16 * len(counts), place + 24 * count - 16 * len(counts))
+        shard[place] = le(first) + (count - 1) * le(1)
+        place, first = place + 24 * count, first + count
+    return {**shard, place - 1: b"\0"}
+
+
+# Halves of 2^22 cells, in a shard each, and in a minishard each.
+BY_SHARDS = Sharding(preshift=22, shard_bits=1)
+BY_MINISHARDS = Sharding(preshift=22, minishard_bits=1)
+SHORT = {0: b"\0"}
+
+
+def keeps_cells(trial, sharding, shards, cells, wanted):
+    """An update of some cells of a line of over 2^22 in these shards."""
+    info = line(CELLS + 5, sharding=sharding).info()
+    trial.lay_out({"d/info": info, **{f"d/s/{number}.shard": shard for number, shard in enumerate(shards)}})
+    trial.want(UPDATE, wanted, stream_of([(along(cell, cell + 1), b"\1") for cell in cells]))
+
+
+# title, how cells are in shards, the shards, the cells that writes meet, and what the update ends with
+KEEPING = [
+    ("an update that keeps 2^22 cells", Sharding(), [kept(CELLS)], [0], refused("damaged 0,0,0: chunk length 0 wanted 1")),
+    ("an update of a cell beside 2^22 that are kept", Sharding(), [kept(CELLS)], [CELLS], TOO_MANY),
+    # all cells that are met count with the first shard, and before the next one is judged
+    ("an update of a cell of a damaged shard beside 2^22 that are kept", BY_SHARDS, [kept(CELLS), SHORT], [0, CELLS], TOO_MANY),
+    ("an update of a cell of a damaged shard beside one fewer", BY_SHARDS, [kept(CELLS - 1), SHORT], [0, CELLS],
+     refused("shard 1 0: shard short index")),
+    # how many they are is told of the shards so far
+    ("an update of a cell beside 2^22, whose shard keeps three more", BY_SHARDS, [kept(CELLS), kept(3, first=CELLS + 1)], [0, CELLS],
+     TOO_MANY),
+    # a shard is judged whole before its cells count
+    ("an update beside 2^22 kept cells of a shard whose next minishard is damaged", BY_MINISHARDS,
+     [{**kept(CELLS, 1), 16: le(8, 0)}], [0, CELLS], refused("shard 0 1: shard bad range")),
+]
 
 
 def cuts_all(trial):
@@ -141,8 +177,8 @@ def rows():
     one_more = bytes_of([0, 0, 0], [1, 1, 1]) + b"\1"
     yield "a byte more", takes_stream, one_more, refused("write 1: too large")
     yield "a cutout of 2^30 bytes", cuts_all
-    yield "an update that keeps 2^22 cells", keeps_cells, 0, refused("damaged 0,0,0: chunk length 0 wanted 1")
-    yield "an update of a cell beside 2^22 that are kept", keeps_cells, CELLS, TOO_MANY
+    for title, *case in KEEPING:
+        yield title, keeps_cells, *case
     beside = {**APART, "d/s/0-2_0-1_0-1": b"\3\4"}
     yield "a cutout beside a folder whose name goes on", answers, beside, "cutout d s [0:2,0:1,0:1]", printed(b"\3\4")
     yield "a folder beside whose name goes on", leaves, APART, WRITE, stored(1, 1), {"d/s/0-2_0-1_0-1": b"\3\4"}, THREE_FOUR
