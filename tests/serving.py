@@ -27,6 +27,9 @@ NO_PART = no_part_of(OBJECT)
 ONCE, BEYOND = "Range: bytes=2-4", "Range: bytes=10-"
 RANGED = ask("GET /s/x", ONCE)
 
+# How old a connection may get that is never idle, in seconds.
+AGE = 60
+
 # What is asked of the ten bytes, which bytes come, and which they are.
 RANGES = [
     ("bytes=2-4", b"234", "2-4/10"), ("bytes=7-", b"789", "7-9/10"), ("bytes=-1", b"9", "9-9/10"), ("bytes=0-99", OBJECT, "0-9/10"),
@@ -69,6 +72,17 @@ class Cases(Doors):
     def _client(self):
         with self.serving(1) as port, client_at(port) as client:
             yield client
+
+    def lets_old_connections_go(self):
+        """One that asks again and again, and is never idle, gets whole replies alone, and the next one's turn comes in a minute."""
+        with self.serving(2) as port, connect(port) as busy, within(AGE - 1, AGE + 5, "the reply beside a peer that is never idle"):
+            reply = REPLY
+            while reply == REPLY:
+                time.sleep(PAUSE / 5)
+                busy.sendall(ASK)
+                reply = receive(busy, len(REPLY))
+            want(reply, b"", "the last of all replies")
+            want(talk(port, ASK), REPLY, "the next peer's reply")
 
     def lets_silent_peers_go(self):
         """One that says nothing, and, after a pause, one that says nothing more behind a reply, whatever it said before that."""

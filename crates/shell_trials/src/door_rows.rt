@@ -78,6 +78,8 @@ fn door_of(rt: HostRuntime, address: Option<&'static str>, limit: u64) -> TcpDoo
         head: Duration::from_millis(limit),
         pause: Duration::from_millis(SHORT),
         send: Duration::from_millis(limit),
+        reply: Duration::from_millis(limit),
+        age: Duration::from_millis(LONG),
         draining: Duration::from_millis(SHORT),
         retry: Duration::from_millis(SHORT),
         shortage: Duration::from_millis(limit),

@@ -76,22 +76,25 @@ impl OpenStream for Slow<'_> {
     }
 }
 
-// A call of a link, and how many milliseconds its peer takes.
+// A call of a link, and how many milliseconds its peer takes; a reply of a byte, or of 32 KiB.
 #[derive(Clone, Copy)]
 enum Call {
     Receive(u64),
     Reply(u64),
+    LongReply(u64),
     Drain(u64),
 }
 
-use Call::{Drain, Receive, Reply};
+use Call::{Drain, LongReply, Receive, Reply};
 
-// A second for a head, a tenth of one behind a send, and two to drain.
+// A second for a head, a tenth of one behind a send, two for a reply and to drain, and five in all.
 fn limits() -> Limits {
     Limits {
         head: Duration::from_secs(1),
         pause: Duration::from_millis(100),
         send: Duration::from_secs(1),
+        reply: Duration::from_secs(2),
+        age: Duration::from_secs(5),
         draining: Duration::from_secs(2),
         retry: Duration::from_millis(100),
         shortage: Duration::from_secs(1),
@@ -100,7 +103,7 @@ fn limits() -> Limits {
 
 // One call of a link over a stream of this course.
 fn make(link: &mut TcpLink<&Course, Slow<'_>>, course: &Course, call: Call) {
-    let (Receive(time) | Reply(time) | Drain(time)) = call;
+    let (Receive(time) | Reply(time) | LongReply(time) | Drain(time)) = call;
     course.call.set(Duration::from_millis(time));
     match call {
         Receive(_) => {
@@ -108,6 +111,9 @@ fn make(link: &mut TcpLink<&Course, Slow<'_>>, course: &Course, call: Call) {
         }
         Reply(_) => {
             let _ = link.send(b"a");
+        }
+        LongReply(_) => {
+            let _ = link.send(&[0; 32768]);
         }
         Drain(_) => link.drain(),
     }
@@ -163,6 +169,46 @@ fn counts_from_the_last_send_on(rt: HostRuntime) {
         Receive(800),
     ];
     takes(&rt, &slow, 0, 3399);
+}
+
+#[test]
+fn gives_up_a_reply_that_is_taken_too_slowly(rt: HostRuntime) {
+    // two seconds, and two for the bytes that were sent; judged before each send
+    takes(&rt, &[Receive(9), Reply(1999), Reply(2), Reply(0)], 1, 2010);
+    let long = [Receive(9), LongReply(3999), LongReply(1), Reply(2000)];
+    takes(&rt, &long, 0, 6009);
+    takes(&rt, &[Receive(9), LongReply(4001), Reply(9)], 1, 4010);
+    // what comes begins another one
+    let two = [Receive(9), Reply(1999), Receive(9), Reply(1999), Reply(9)];
+    takes(&rt, &two, 0, 4025);
+}
+
+#[test]
+fn waits_for_no_head_in_its_old_age(rt: HostRuntime) {
+    let aged = [Receive(999), Reply(1900), Receive(99), Reply(1900)];
+    let late = [
+        aged[0],
+        aged[1],
+        aged[2],
+        aged[3],
+        Receive(99),
+        Reply(4),
+        Receive(9),
+    ];
+    takes(&rt, &late, 1, 5001);
+    // amid a head it is no pause, and what is sent is drained
+    let amid = [
+        aged[0],
+        aged[1],
+        aged[2],
+        aged[3],
+        Receive(99),
+        Receive(800),
+        Reply(4),
+        Receive(9),
+        Drain(5000),
+    ];
+    takes(&rt, &amid, 1, 7801);
 }
 
 #[test]

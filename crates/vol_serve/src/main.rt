@@ -59,7 +59,7 @@ fn main(rt: HostRuntime) -> ExitCode {
         &rt,
         rt.alloc(),
         &words,
-        Doorway::new(TcpDoor::with_pause(rt, Duration::from_secs(5))),
+        Doorway::new(TcpDoor::with_pause(rt, Duration::from_secs(5), Duration::from_secs(600))),
         PlainExit,
         stores,
         &mut StdOutlet::new(rt.stdout()),

@@ -28,8 +28,9 @@ struct Listening<L> {
 ///
 /// Its ends have a limit of 10 seconds on each send, and of 10 seconds for a whole head, from the accept or the last send
 /// on, however its bytes come; and a shorter one, the pause, for the first byte behind a send, so that a peer that keeps an
-/// idle connection doesn't hold up the others. They send without delay. `close` first ends what is sent; then it drains
-/// what still comes, for one second and 64 KiB at most, so that the peer gets all that was sent.
+/// idle connection doesn't hold up the others. A reply has 10 seconds and one for each 16 KiB that were sent of it. Behind a
+/// reply no head is waited for once an end is older than its age. They send without delay. `close` first ends what is sent;
+/// then it drains what still comes, for one second and 64 KiB at most, so that the peer gets all that was sent.
 ///
 /// Where the system has no descriptor or no memory left for the next connection, `accept` tries again every 100
 /// milliseconds, and fails after 20 seconds of that in a row: longer than a silent peer is waited for, so that silent peers
@@ -58,16 +59,16 @@ impl<R: Net> Model for TcpDoor<R> {
 }
 
 impl<R: Net> TcpDoor<R> {
-    /// Nothing was bound, no end was given, and nothing failed. The pause is half a second, for ends that are served one
-    /// after the other.
+    /// Nothing was bound, no end was given, and nothing failed. The pause is half a second and the age a minute, for ends
+    /// that are served one after the other.
     pub fn new(rt: R) -> TcpDoor<R>
         ensures { result ≡ record { port = None; accepted = 0; faults = 0 } }
     {
-        TcpDoor::with_pause(rt, Duration::from_millis(500))
+        TcpDoor::with_pause(rt, Duration::from_millis(500), Duration::from_secs(60))
     }
 
-    /// The same, with a pause of its own.
-    pub fn with_pause(rt: R, pause: Duration) -> TcpDoor<R>
+    /// The same, with a pause and an age of its own.
+    pub fn with_pause(rt: R, pause: Duration, age: Duration) -> TcpDoor<R>
         ensures { result ≡ record { port = None; accepted = 0; faults = 0 } }
     {
         TcpDoor::with_limits(
@@ -76,6 +77,8 @@ impl<R: Net> TcpDoor<R> {
                 head: Duration::from_secs(10),
                 pause,
                 send: Duration::from_secs(10),
+                reply: Duration::from_secs(10),
+                age,
                 draining: Duration::from_secs(1),
                 retry: Duration::from_millis(100),
                 shortage: Duration::from_secs(20),

@@ -14,6 +14,9 @@ use vol_base::{Failed, Link};
 // How many bytes a connection that ends is drained of at most.
 const MOST_DRAINED: usize = 65536;
 
+// How many bytes of a reply a peer takes in a second at least.
+const PACE: u64 = 16384;
+
 /// How long a connection waits for its peer, and a door for its next connection. None is zero.
 #[derive(Clone, Copy)]
 pub struct Limits {
@@ -23,6 +26,10 @@ pub struct Limits {
     pub pause: Duration,
     /// For each send.
     pub send: Duration,
+    /// For a whole reply, beside a second for each 16 KiB that were sent of it.
+    pub reply: Duration,
+    /// From the accept on: behind it no further head is waited for.
+    pub age: Duration,
     /// For what still comes where the connection ends.
     pub draining: Duration,
     /// For the next try to accept, where there is no descriptor or no memory left for a connection.
@@ -35,17 +42,25 @@ pub struct Limits {
 /// left, and what it holds, where it tells that, changes by exactly the bytes that a call gives or takes.
 ///
 /// From the accept or the last send on all that comes has to come within one limit of time, and the first byte behind a
-/// send within a shorter one; each send has a limit of its own. Where a peer is slower, the call is a fault. A clock that
-/// fails is one, too.
+/// send within a shorter one. Each send has a limit of its own, and so has each reply: all that is sent until something comes
+/// again. Where a peer is slower, the call is a fault. So is the first receive behind a reply once the connection is too old,
+/// and a clock that fails.
 #[derive(Drop)]
 pub struct TcpLink<C, S> {
     clock: C,
     pub stream: S,
     limits: Limits,
-    // The accept, or the last send; none where the clock failed.
+    // The accept; none where the clock failed, as of the next two.
+    begin: Option<Instant>,
+    // The accept, or the last send.
     since: Option<Instant>,
+    // The first send behind what came last, and how many bytes were sent from it on.
+    replying: Option<Instant>,
+    replied: u64,
     // Whether something was sent, and nothing came since.
     kept: bool,
+    // Whether the connection was ended for its age, and no call of the stream failed.
+    retired: bool,
     pub faults: u64,
 }
 
@@ -59,14 +74,21 @@ impl<C: Clock, S> TcpLink<C, S> {
             clock,
             stream,
             limits,
+            begin: since,
             since,
+            replying: None,
+            replied: 0,
             kept: false,
+            retired: false,
             faults: 0,
         }
     }
 
-    // Until when the next byte has to come; none where the clock failed.
+    // Until when the next byte has to come; none where no further one is waited for, and where the clock failed.
     fn end(&self) -> Option<Instant> {
+        if self.is_old() {
+            return None;
+        }
         let limit = if self.kept {
             self.limits.pause
         } else {
@@ -74,19 +96,54 @@ impl<C: Clock, S> TcpLink<C, S> {
         };
         self.since?.checked_add(limit)
     }
+
+    // Whether it is now too long after a moment.
+    fn is_late(&self, since: Option<Instant>, limit: Duration) -> bool {
+        match (since, Instant::now(&self.clock)) {
+            (Some(since), Ok(now)) => now.duration_since(since) > limit,
+            _ => true,
+        }
+    }
+
+    // Whether a reply was sent, and no further head is waited for.
+    fn is_old(&self) -> bool {
+        self.kept && self.is_late(self.begin, self.limits.age)
+    }
+
+    // Whether the connection ends for its age alone.
+    fn is_retired(&self) -> bool {
+        self.faults == 0 && self.is_old()
+    }
+
+    // Whether the peer takes the reply too slowly.
+    fn is_slow(&self) -> bool {
+        let pace = Duration::from_secs(self.replied / PACE);
+        self.is_late(self.replying, self.limits.reply.saturating_add(pace))
+    }
+
+    // A reply begins where something came since the last send.
+    fn note_reply(&mut self)
+        ensures stream { self.new.stream ≡ self.old.stream }
+        ensures faults { self.new.faults ≡ self.old.faults }
+    {
+        if !self.kept {
+            self.replying = Instant::now(&self.clock).ok();
+            self.replied = 0;
+        }
+    }
 }
 
 impl<C: Clock, S: Read + OpenStream> TcpLink<C, S> {
     /// Ends what is sent, and drains what still comes, for a second and 64 KiB at most: a stream that is dropped with bytes
     /// unread is reset, and what was sent last is lost to the peer (RFC 9112, section 9.6). Where a call failed nothing is
-    /// waited for.
+    /// waited for, unless it failed for the connection's age alone.
     #[tactic(auto, using(crate::proofs::DrainSteps::loses_nothing))]
     pub fn drain(&mut self)
         ensures drained { LosesAtMost MOST_DRAINED (S.remaining self.old.stream)
             (S.remaining self.new.stream) }
         ensures faults { self.new.faults ≡ self.old.faults }
     {
-        if self.faults == 0 {
+        if self.faults == 0 || self.retired {
             let _ = drain(&self.clock, &mut self.stream, self.limits.draining);
         }
     }
@@ -120,6 +177,7 @@ impl<C: Clock, S: Read + Write + OpenStream> Link for TcpLink<C, S> {
                 Ok(len)
             }
             Err(failed) => {
+                self.retired = self.is_retired();
                 count_fault(&mut self.faults);
                 Err(failed)
             }
@@ -133,14 +191,35 @@ impl<C: Clock, S: Read + Write + OpenStream> Link for TcpLink<C, S> {
             (S.contents self.new.stream) result piece.now }
         ensures cause { HasCause (counted self.old.faults) (counted self.new.faults) result }
     {
-        let taken = write_some(&mut self.stream, piece);
+        self.note_reply();
+        let is_slow = self.is_slow();
+        let taken = write_unless(is_slow, &mut self.stream, piece);
         self.since = Instant::now(&self.clock).ok();
         self.kept = true;
-        if taken.is_err() {
-            count_fault(&mut self.faults);
+        match taken {
+            Ok(len) => {
+                self.replied = self.replied.saturating_add(len as u64);
+                Ok(len)
+            }
+            Err(failed) => {
+                count_fault(&mut self.faults);
+                Err(failed)
+            }
         }
-        taken
     }
+}
+
+// Writes some bytes of a piece, unless the peer is too slow.
+#[tactic(auto, using(crate::proofs::KnownSteps::kept))]
+fn write_unless<S: Write>(is_slow: bool, stream: &mut S, piece: &[u8]) -> Result<usize, Failed>
+    requires { 0 < length piece.now }
+    ensures some { IfOk result (λ n. (0 < n) × (n ≤ length piece.now)) }
+    ensures bytes { WriteAppends (S.contents stream.old) (S.contents stream.new) result piece.now }
+{
+    if is_slow {
+        return Err(Failed);
+    }
+    write_some(stream, piece)
 }
 
 // Reads some bytes, and waits for them until a moment at most, where there is one.
