@@ -19,8 +19,9 @@ import socket
 import subprocess
 import time
 
+from browser import fetch_parts
 from harness import (
-    LIMIT, Trial, built, main, methods_of, open_closed_pipe, open_full, shorten, want, want_ending, want_true, within, wrong_with,
+    LIMIT, ROOT, Trial, built, main, methods_of, open_closed_pipe, open_full, shorten, want, want_ending, want_true, within, wrong_with,
 )
 from model import Sharding, Volume, along, cutout, damaged, infos_of, printed, refused, spell
 from model.chance import damage_some, form_of, pick_box, pick_layouts, pick_stored, some_chunks
@@ -30,7 +31,7 @@ from model.infos import scale_in
 from model.odd import pick_info, pick_reply, pick_reply_pieces
 from model.replies import MOST_HEAD, PAUSE, SILENCE
 from servers import (
-    CLOSE, HOLD, HOST, KEEP, RESET, Breaking, Closing, fetch_words, free_port, nginx, own, python, read_file, telling,
+    CLOSE, HOLD, HOST, KEEP, RESET, Breaking, Closing, fetch_words, free_port, nginx, own, python, read_file, site, telling,
 )
 
 OTHER_HOST = "127.0.0.2"
@@ -535,6 +536,28 @@ class Cases(Fetching):
     def _fetch_all(self, server, volume, values):
         with server as port:
             self.want_fetched(printed(values), port, volume)
+
+    def the_site_of_the_examples(self):
+        """nginx in front of vol_serve: a cutout, a page of a browser, and a range by TLS and HTTP/2, with all origins allowed."""
+        volume, ending = self.store_form("labels in shards")
+        large = random.Random(0).randbytes(40 << 16)
+        self.lay_out({"d/s/large": large})
+        unit = (ROOT / "examples/serving/vol_serve.service").read_text()
+        words = re.search("^ExecStart=[^ ]*/vol_serve cells --port=8080 (.*)$", unit, re.M)[1]
+        server = dataclasses.replace(self, program=built("vol_serve"))
+        with server.start(f"d --port=0 {words}", stdout=subprocess.PIPE) as child:
+            try:
+                behind = int(child.stdout.readline().removeprefix(b"listening "))
+                with site(behind, self.folder / "site") as (port, tls):
+                    self.want_fetched(ending, port, volume)
+                    fetch_parts(port, large, 3000)
+                    head = ["curl", "-sk", "--http2", "-D", "-", "-r", "2-4", f"https://localhost:{tls}/s/large"]
+                    got = subprocess.run(head, check=True, capture_output=True, timeout=LIMIT).stdout
+                    want_true(got.startswith(b"HTTP/2 206"), f"by TLS: {got[:200]!r}")
+                    want_true(b"access-control-allow-origin: *" in got.lower(), f"all origins: {got[:300]!r}")
+                    want(got.partition(b"\r\n\r\n")[2], large[2:5], "the range")
+            finally:
+                child.kill()
 
     def a_slow_reader(self):
         """The output waits for its reader longer than the server keeps a connection that idles: another one is dialled."""

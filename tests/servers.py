@@ -13,7 +13,7 @@ import subprocess
 import threading
 import time
 
-from harness import LIMIT, Wrong, find_tool
+from harness import LIMIT, ROOT, Wrong, find_tool
 from model import spell
 from peers import connect, reset
 
@@ -116,9 +116,17 @@ http {{
     access_log off; default_type application/octet-stream;
     client_body_temp_path {own}/body; proxy_temp_path {own}/proxy; fastcgi_temp_path {own}/fastcgi;
     uwsgi_temp_path {own}/uwsgi; scgi_temp_path {own}/scgi;
-    server {{ listen 127.0.0.1:{port}; root {folder}; }}
+    {site}
 }}
 """
+
+PLAIN = "server {{ listen 127.0.0.1:{port}; root {folder}; }}"
+
+# Where the site of the examples has what a row has elsewhere: ports, the server behind it, the certificate and its key.
+SITE = ROOT / "examples/serving/site.conf"
+PLACES = {"listen 80;": "listen 127.0.0.1:{port};", "listen 443": "listen 127.0.0.1:{tls}", "127.0.0.1:8080": "127.0.0.1:{behind}",
+          "/etc/ssl/certs/volumes.pem": "{own}/cert", "/etc/ssl/private/volumes.key": "{own}/key"}  # fmt: skip
+CERTIFICATE = "openssl req -x509 -newkey rsa:2048 -nodes -days 2 -subj /CN=localhost -keyout {own}/key -out {own}/cert"
 
 
 def free_port():
@@ -137,20 +145,42 @@ def wait_for(port, child):
 
 
 @contextlib.contextmanager
-def nginx(folder, own):
-    """nginx's server of a folder, with a folder of its own, by its port; a row without nginx is skipped."""
+def started_nginx(own, port, site):
+    """nginx with a site, and a folder of its own; a row without nginx is skipped."""
     program = find_tool("nginx")
-    own.mkdir()
-    port = free_port()
-    (own / "conf").write_text(NGINX.format(own=own, port=port, folder=folder))
+    (own / "conf").write_text(NGINX.format(own=own, site=site))
     os.chmod(own, 0o777)
     command = [program, "-p", str(own), "-e", str(own / "errors"), "-c", str(own / "conf")]
     with subprocess.Popen(command, stdin=subprocess.DEVNULL, stdout=subprocess.DEVNULL, stderr=subprocess.DEVNULL) as child:
         try:
             wait_for(port, child)
-            yield port
+            yield
         finally:
             child.kill()
+
+
+@contextlib.contextmanager
+def nginx(folder, own):
+    """nginx's server of a folder, by its port."""
+    own.mkdir()
+    port = free_port()
+    with started_nginx(own, port, PLAIN.format(port=port, folder=folder)):
+        yield port
+
+
+@contextlib.contextmanager
+def site(behind, own):
+    """nginx with the site of the examples in front of a server, by its ports without TLS and with it."""
+    find_tool("openssl")
+    own.mkdir()
+    subprocess.run(CERTIFICATE.format(own=own).split(), check=True, capture_output=True)
+    text, where = SITE.read_text(), {"port": free_port(), "tls": free_port(), "behind": behind, "own": own}
+    for place, its_own in PLACES.items():
+        if place not in text:
+            raise Wrong(f"the site of the examples has no {place!r}")
+        text = text.replace(place, its_own.format(**where))
+    with started_nginx(own, where["port"], text):
+        yield where["port"], where["tls"]
 
 
 # A server of which a test says each reply
