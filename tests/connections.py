@@ -49,17 +49,6 @@ def converse(port, pieces):
         return receive(peer)
 
 
-@contextlib.contextmanager
-def slow_peer(port):
-    """A peer for which the system keeps little of what it hasn't read: short segments, and a small buffer."""
-    with socket.socket() as peer:
-        peer.setsockopt(socket.IPPROTO_TCP, socket.TCP_MAXSEG, 1000)
-        peer.setsockopt(socket.SOL_SOCKET, socket.SO_RCVBUF, 8192)
-        peer.settimeout(LIMIT)
-        peer.connect(("127.0.0.1", port))
-        yield peer
-
-
 class Hall(Doors):
     """A row that serves OBJECTS, and /s/large."""
 
@@ -95,20 +84,23 @@ class Cases(Hall):
             thread.join()
 
     def a_peer_that_reads_slowly(self):
-        """One that takes 4 KiB of a long reply each second is let go though it never stops; the other worker answers meanwhile."""
+        """One that takes 4 KiB of a long reply each second is let go though it never stops, and the next one is answered."""
         self.lay_out({"d/s/long": {1 << 26: b""}})
-        with self.serving(4, 2) as port, slow_peer(port) as peer, within(SILENCE - 2, 5 * SILENCE, "the peer that reads slowly"):
+        is_over = threading.Event()
+
+        def read_slowly(peer):
+            with contextlib.suppress(OSError):
+                while peer.recv(4096) and not is_over.wait(1):
+                    pass
+
+        with self.serving(2, 1) as port, connect(port) as peer:
             peer.sendall(ask("GET /s/long"))
-            for turn in itertools.count():
-                try:
-                    if not peer.recv(4096):
-                        break
-                except ConnectionResetError:
-                    break
-                if turn in (1, 5, 9):
-                    with within(0, 2, "a reply beside a peer that reads slowly"):
-                        want(talk(port, ASK), REPLY, "the reply")
-                time.sleep(1)
+            thread = threading.Thread(target=read_slowly, args=(peer,))
+            thread.start()
+            with within(SILENCE - 2, 4 * SILENCE, "the reply behind a peer that reads slowly"):
+                want(talk(port, ASK), REPLY, "the reply")
+            is_over.set()
+            thread.join()
 
     def silent_peers_that_hold_all_descriptors(self):
         """They are let go before the server gives up, and the next peer gets its reply."""

@@ -178,6 +178,15 @@ fn gives_up_a_reply_that_is_taken_too_slowly(rt: HostRuntime) {
     let long = [Receive(9), LongReply(3999), LongReply(1), Reply(2000)];
     takes(&rt, &long, 0, 6009);
     takes(&rt, &[Receive(9), LongReply(4001), Reply(9)], 1, 4010);
+    // what was sent faster counts for two seconds at most
+    let burst = [
+        Receive(9),
+        LongReply(0),
+        LongReply(0),
+        Reply(2001),
+        Reply(9),
+    ];
+    takes(&rt, &burst, 1, 2010);
     // what comes begins another one
     let two = [Receive(9), Reply(1999), Receive(9), Reply(1999), Reply(9)];
     takes(&rt, &two, 0, 4025);

@@ -28,8 +28,8 @@ struct Listening<L> {
 ///
 /// Its ends have a limit of 10 seconds on each send, and of 10 seconds for a whole head, from the accept or the last send
 /// on, however its bytes come; and a shorter one, the pause, for the first byte behind a send, so that a peer that keeps an
-/// idle connection doesn't hold up the others. A reply has 10 seconds and one for each 16 KiB that were sent of it. Behind a
-/// reply no head is waited for once an end is older than its age. They send without delay. `close` first ends what is sent;
+/// idle connection doesn't hold up the others. A reply whose peer falls 10 seconds behind one that takes 16 KiB a second is a fault.
+/// Behind a reply no head is waited for once an end is older than its age. They send without delay. `close` first ends what is sent;
 /// then it drains what still comes, for one second and 64 KiB at most, so that the peer gets all that was sent.
 ///
 /// Where the system has no descriptor or no memory left for the next connection, `accept` tries again every 100

@@ -17,6 +17,28 @@ const MOST_DRAINED: usize = 65536;
 // How many bytes of a reply a peer takes in a second at least.
 const PACE: u64 = 16384;
 
+// How long a peer may take for so many bytes.
+fn pace(len: usize) -> Duration {
+    Duration::from_millis((len as u64).saturating_mul(1000) / PACE)
+}
+
+// Until when the rest of a reply may wait, once so many bytes of it were sent: what was sent faster counts for one limit at
+// most. None where the clock failed.
+fn next_due(
+    due: Option<Instant>,
+    now: Option<Instant>,
+    len: usize,
+    limit: Duration,
+) -> Option<Instant> {
+    let due = due?.checked_add(pace(len))?;
+    let most = now?.checked_add(limit)?;
+    if most.duration_since(due).is_zero() {
+        Some(most)
+    } else {
+        Some(due)
+    }
+}
+
 /// How long a connection waits for its peer, and a door for its next connection. None is zero.
 #[derive(Clone, Copy)]
 pub struct Limits {
@@ -26,7 +48,7 @@ pub struct Limits {
     pub pause: Duration,
     /// For each send.
     pub send: Duration,
-    /// For a whole reply, beside a second for each 16 KiB that were sent of it.
+    /// For a reply, whose peer may fall back so far behind one that takes 16 KiB a second.
     pub reply: Duration,
     /// From the accept on: behind it no further head is waited for.
     pub age: Duration,
@@ -42,9 +64,9 @@ pub struct Limits {
 /// left, and what it holds, where it tells that, changes by exactly the bytes that a call gives or takes.
 ///
 /// From the accept or the last send on all that comes has to come within one limit of time, and the first byte behind a
-/// send within a shorter one. Each send has a limit of its own, and so has each reply: all that is sent until something comes
-/// again. Where a peer is slower, the call is a fault. So is the first receive behind a reply once the connection is too old,
-/// and a clock that fails.
+/// send within a shorter one. Each send has a limit of its own. A reply, which is all that is sent until something comes
+/// again, goes on at a least pace. Where a peer is slower, the call is a fault. So is the first receive behind a reply once
+/// the connection is too old, and a clock that fails.
 #[derive(Drop)]
 pub struct TcpLink<C, S> {
     clock: C,
@@ -54,9 +76,8 @@ pub struct TcpLink<C, S> {
     begin: Option<Instant>,
     // The accept, or the last send.
     since: Option<Instant>,
-    // The first send behind what came last, and how many bytes were sent from it on.
-    replying: Option<Instant>,
-    replied: u64,
+    // Until when the rest of the reply may wait.
+    due: Option<Instant>,
     // Whether something was sent, and nothing came since.
     kept: bool,
     // Whether the connection was ended for its age, and no call of the stream failed.
@@ -76,8 +97,7 @@ impl<C: Clock, S> TcpLink<C, S> {
             limits,
             begin: since,
             since,
-            replying: None,
-            replied: 0,
+            due: None,
             kept: false,
             retired: false,
             faults: 0,
@@ -95,6 +115,11 @@ impl<C: Clock, S> TcpLink<C, S> {
             self.limits.head
         };
         self.since?.checked_add(limit)
+    }
+
+    // The end of a limit that begins now; none where the clock failed.
+    fn from_now(&self, limit: Duration) -> Option<Instant> {
+        Instant::now(&self.clock).ok()?.checked_add(limit)
     }
 
     // Whether it is now too long after a moment.
@@ -117,8 +142,7 @@ impl<C: Clock, S> TcpLink<C, S> {
 
     // Whether the peer takes the reply too slowly.
     fn is_slow(&self) -> bool {
-        let pace = Duration::from_secs(self.replied / PACE);
-        self.is_late(self.replying, self.limits.reply.saturating_add(pace))
+        self.is_late(self.due, Duration::ZERO)
     }
 
     // A reply begins where something came since the last send.
@@ -127,8 +151,7 @@ impl<C: Clock, S> TcpLink<C, S> {
         ensures faults { self.new.faults ≡ self.old.faults }
     {
         if !self.kept {
-            self.replying = Instant::now(&self.clock).ok();
-            self.replied = 0;
+            self.due = self.from_now(self.limits.reply);
         }
     }
 }
@@ -198,7 +221,7 @@ impl<C: Clock, S: Read + Write + OpenStream> Link for TcpLink<C, S> {
         self.kept = true;
         match taken {
             Ok(len) => {
-                self.replied = self.replied.saturating_add(len as u64);
+                self.due = next_due(self.due, self.since, len, self.limits.reply);
                 Ok(len)
             }
             Err(failed) => {
