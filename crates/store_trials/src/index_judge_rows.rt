@@ -1,5 +1,6 @@
 //! Judgements of an index of many rows.
 ghost use Rattle.std.specs.Prelude.{◌≡◌, ◌≤◌, ◌<◌, ◌*◌, ◌+◌, ◌^◌, length, IfOk, Some};
+ghost use Rattle.vol_base.specs.Memory.{seen};
 ghost use Rattle.index_judge.specs.Knowing.{Knows};
 
 use byteorder::{ByteOrder, LittleEndian};
@@ -85,8 +86,8 @@ fn check(
     requires dataset { length dataset.now ≤ 200 }
     requires sharding { scale.now.sharding ≡ Some sharding.now }
     requires bits { (sharding.now.minishard_bits ≡ 1) × (sharding.now.shard_bits ≡ 1) }
-    requires knows { Knows (Some store.old.objects) dataset.now scale.now sharding.now judge.old }
-    ensures { Knows (Some store.new.objects) dataset.now scale.now sharding.now judge.new }
+    requires knows { Knows (Some (seen store.old).objects) dataset.now scale.now sharding.now judge.old }
+    ensures { Knows (Some (seen store.new).objects) dataset.now scale.now sharding.now judge.new }
 {
     assert!(rt; home.shard < 2 && home.minishard < 2);
     let found = judge.judge(store, dataset, scale, sharding, home);
@@ -118,7 +119,7 @@ fn check_thrice(
     requires dataset { length dataset.now ≤ 200 }
     requires sharding { scale.now.sharding ≡ Some sharding.now }
     requires bits { (sharding.now.minishard_bits ≡ 1) × (sharding.now.shard_bits ≡ 1) }
-    requires knows { Knows (Some store.old.objects) dataset.now scale.now sharding.now judge.old }
+    requires knows { Knows (Some (seen store.old).objects) dataset.now scale.now sharding.now judge.old }
 {
     let [once, twice, last] = asked;
     check(

@@ -1,5 +1,6 @@
 //! Look-ups in shards of known bytes.
 ghost use Rattle.std.specs.Prelude.{◌≡◌, ◌≤◌, ◌<◌, ◌*◌, ◌^◌, length, IfOk, Some};
+ghost use Rattle.vol_base.specs.Memory.{seen};
 ghost use Rattle.shard_reader.specs.Readers.{Keeps, KeepsNothing};
 
 use byteorder::{ByteOrder, LittleEndian};
@@ -96,8 +97,8 @@ fn check_row(
 )
     requires dataset { length dataset.now ≤ 200 }
     requires sharding { scale.now.sharding ≡ Some sharding.now }
-    requires keeps { Keeps (Some store.old.objects) dataset.now scale.now sharding.now reader.old }
-    ensures { Keeps (Some store.new.objects) dataset.now scale.now sharding.now reader.new }
+    requires keeps { Keeps (Some (seen store.old).objects) dataset.now scale.now sharding.now reader.old }
+    ensures { Keeps (Some (seen store.new).objects) dataset.now scale.now sharding.now reader.new }
 {
     let found = reader.locate(store, dataset, scale, sharding, 1, id);
     assert_eq!(rt; found, wanted);
