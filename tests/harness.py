@@ -8,6 +8,7 @@ import argparse
 import collections
 import contextlib
 import dataclasses
+import functools
 import importlib.util
 import itertools
 import multiprocessing
@@ -380,6 +381,16 @@ def find_tool(name, *others):
     """The path of a tool that has one of these names; a row without it is skipped. A server may stand where root alone looks."""
     folders = os.pathsep.join([os.environ.get("PATH", os.defpath), "/usr/local/sbin", "/usr/sbin"])
     return needed(next(filter(None, (shutil.which(one, path=folders) for one in (name, *others))), None), name)
+
+
+@functools.cache
+def find_strace():
+    """The path of strace; a row without it, or where it may make no call fail, is skipped."""
+    strace = find_tool("strace")
+    command = [strace, "-qq", "-o", "/dev/null", "-e", "inject=close:error=EIO:when=1000", "true"]
+    if subprocess.run(command, capture_output=True, check=False).returncode != 0:
+        raise Skipped("strace may not trace here")
+    return strace
 
 
 def find_python(*modules):

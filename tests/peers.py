@@ -1,7 +1,9 @@
 """What the scripts share that serve a data set: a server, its peers, and what these get where the run is disturbed."""
 import concurrent.futures
 import contextlib
+import dataclasses
 import os
+import re
 import resource
 import signal
 import socket
@@ -9,7 +11,7 @@ import struct
 import subprocess
 import time
 
-from harness import LIMIT, PIPE, Trial, Wrong, descriptor_limit, want, want_ending, want_true, within
+from harness import LIMIT, PIPE, Trial, Wrong, descriptor_limit, find_strace, want, want_ending, want_true, within
 from model import printed, refused
 from model.replies import ABSENT, FAILED, ask, closing, head_of, part_of, whole_of
 
@@ -52,6 +54,24 @@ def talk(port, request, pieces=(), half_close=True, address="127.0.0.1", pause=0
 
 def in_halves(stream):
     return [piece for piece in (stream[: len(stream) // 2], stream[len(stream) // 2 :]) if piece]
+
+
+# What every connection is set to, and the calls that are looked at: those that make one, set it, and use it.
+OPTIONS = {"TCP_NODELAY", "SO_RCVTIMEO", "SO_SNDTIMEO"}
+NOTED = "trace=socket,accept,accept4,setsockopt,sendto,recvfrom"
+
+
+def want_set(told):
+    """By the calls that strace noted, each connection sends at once, and waits for so long at most, before anything goes through it."""
+    options = {}
+    for line in told.splitlines():
+        if made := re.search(r"\b(?:socket|accept4?)\b.*= (\d+)$", line):
+            options[made[1]] = set()
+        elif option := re.search(r" setsockopt\((\d+), \w+, ([A-Z_]+?)(?:_OLD|_NEW)?,", line):
+            options[option[1]].add(option[2])
+        elif used := re.search(r" (?:sendto|recvfrom)\((\d+),", line):
+            want_true(OPTIONS <= options[used[1]], f"it is set to {options[used[1]]} alone before {line}")
+    want_true(any(OPTIONS <= one for one in options.values()), f"no connection is told: {told:.200}")
 
 
 def words_of(connections, workers, port=0):
@@ -119,6 +139,15 @@ class Doors(Served):
         pipe = ask("GET /s/pipe")
         rows = [(pipe + ASK, FAILED), (ASK + pipe + ASK, REPLY + FAILED), (ask("HEAD /s/pipe"), FAILED), (ASK + ASK, REPLY + REPLY)]
         self.want_replies(2 * rows)
+
+    def sets_what_it_accepts(self):
+        noted, traced = self.folder / "calls", self.folder / "traced"
+        traced.write_text(f"#!/bin/sh\nexec {find_strace()} -f -qq -o {noted} -e {NOTED} {self.program} \"$@\"\n")
+        traced.chmod(0o755)
+        with dataclasses.replace(self, program=traced).serving(2) as port:
+            want(talk(port, ASK), REPLY, "a reply")
+            want(talk(port, ASK + ASK), REPLY + REPLY, "two replies")
+        want_set(noted.read_text())
 
     def breaks_off_where_a_file_gets_shorter(self):
         """Amid a reply: its whole head was sent, and not all of its body; and the other peers are served."""

@@ -21,7 +21,7 @@ import time
 
 from browser import fetch_parts
 from harness import (
-    LIMIT, ROOT, Trial, built, main, methods_of, open_closed_pipe, open_full, shorten, want, want_ending, want_true, within, wrong_with,
+    LIMIT, ROOT, Trial, built, find_strace, main, methods_of, open_closed_pipe, open_full, shorten, want, want_ending, want_true, within, wrong_with,
 )
 from model import Sharding, Volume, along, cutout, damaged, infos_of, printed, refused, spell
 from model.chance import damage_some, form_of, pick_box, pick_layouts, pick_stored, some_chunks
@@ -30,6 +30,7 @@ from model.infos import Refused as BadInfo
 from model.infos import scale_in
 from model.odd import pick_info, pick_reply, pick_reply_pieces
 from model.replies import MOST_HEAD, PAUSE, SILENCE
+from peers import NOTED, want_set
 from servers import (
     CLOSE, HOLD, HOST, KEEP, RESET, Breaking, Closing, fetch_words, free_port, nginx, own, python, read_file, site, telling,
 )
@@ -451,6 +452,15 @@ class Cases(Fetching):
         """One that says nothing more amid a body."""
         with self.telling(lambda reply: reply.whole()[:-1], HOLD, 1) as server, within(SILENCE - 1, SILENCE + 5):
             self.want_fetched(FAULT, server.server_port)
+
+    def sockets_are_set(self):
+        """Of each connection, before anything goes through it."""
+        noted = self.folder / "calls"
+        with own(self) as port:
+            words = [find_strace(), "-f", "-qq", "-o", noted, "-e", NOTED, self.fetcher().program, *fetch_words(port, ONE, ONE.whole)]
+            done = subprocess.run(words, capture_output=True, timeout=LIMIT, check=False)
+        want_ending((done.returncode, done.stdout, done.stderr), printed(CHUNK))
+        want_set(noted.read_text())
 
     def a_server_that_takes_no_connection(self):
         """One whose queue of them is full."""

@@ -16,7 +16,7 @@ import re
 import subprocess
 
 from disturbed import DEEP_RUNS, FULL_ROW, RUNS, SIZES_RUNS, in_store, want_front_of
-from harness import LIMIT, Skipped, Wrong, find_tool, main, want, want_true, words_in, wrong_with
+from harness import LIMIT, Wrong, find_strace, main, want, want_true, words_in, wrong_with
 from model import DOOR, FEED, OK, OUTPUT, STORE, Sharding, Volume, along
 from peers import PEERS, SERVE, WHOLE, failed_of, fronts_of, is_answered, serve_peers
 from runs import cutout_run
@@ -59,16 +59,6 @@ FAULTS = {STORE: b"store fault\n", FEED: b"feed fault\n", OUTPUT: b"output fault
 
 # What a served run says on standard error, by its status.
 SERVED_LINES = {OK: b"", OUTPUT: b"output fault\n", DOOR: b"door fault\n"}
-
-
-@functools.cache
-def find_strace():
-    """Where strace is, which may make a call fail."""
-    strace = find_tool("strace")
-    command = [strace, "-qq", "-o", "/dev/null", "-e", "inject=close:error=EIO:when=1000", "true"]
-    if subprocess.run(command, capture_output=True, check=False).returncode != 0:
-        raise Skipped("strace may not trace here")
-    return strace
 
 
 def traced(trial, files, options, run_in):

@@ -7,6 +7,8 @@ mod hall_rows;
 #[cfg(test)]
 mod local_store;
 #[cfg(test)]
+mod meeting_rows;
+#[cfg(test)]
 mod peer_dial_rows;
 #[cfg(test)]
 mod range_server_rows;
