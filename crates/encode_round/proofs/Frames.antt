@@ -7,9 +7,9 @@ use Rattle.std.proofs.lemmas.List.{length-set, get_or-set_same, get_or-set_other
 use Rattle.chunk_pool.specs.Frames.{Filled}
 use Rattle.job_log.specs.declared.stages.Event.{Event}
 use Rattle.job_log.specs.declared.stages.Stage.{Stage}
-use Rattle.job_log.specs.declared.stages.Stage.TheVariants.{Idle, Done}
-use Rattle.job_log.specs.Replay.{IsFinished, Moves, State, stage_in}
-use Rattle.job_log.proofs.Ends.{finished_at, get_replicate, get_replicate_past}
+use Rattle.job_log.specs.declared.stages.Stage.TheVariants.{Idle}
+use Rattle.job_log.specs.Replay.{IsFinished, Moves, stage_in}
+use Rattle.job_log.proofs.Ends.{finished_at, finished_idle, finished_none, get_replicate, get_replicate_past}
 use Rattle.encode_round.specs.Held.{IsPlaced, IsRound, HasLen, HasBytes}
 
 -- one job moves, and its frame with it
@@ -49,25 +49,22 @@ opened n room wanted len log frames empty named enough full all = record {
   ];
 }
 
--- once each job is done, its frame lies here with its bytes
-pub done_frame : (n room : ℕ) (wanted : List (List ℕ)) (len : ℕ) (log now : List Event) (frames : List (Option Filled)) → IsRound n room wanted len log frames → IsFinished n now → now ≡ log
-    → (k : ℕ) (d : Option Filled) → k < length wanted → HasBytes len (slice_get wanted k) (get_or frames k d)
-done_frame n room wanted len log now frames h is same k d below =
-    subst (λ s. IsPlaced len (slice_get wanted k) s (get_or frames k d)) (ap (λ es. stage_in n es k) (sym same) ∙ finished_at n now k is (omega (arith, below, h.named))) (h.each k d (omega (arith, below, h.named, h.size)))
+-- once each job that was claimed is done, its frame lies here with its bytes
+pub done_frame : (n room : ℕ) (wanted : List (List ℕ)) (len count : ℕ) (log now : List Event) (frames : List (Option Filled)) → IsRound n room wanted len log frames → IsFinished n count now → now ≡ log
+    → count ≤ length wanted → (k : ℕ) (d : Option Filled) → k < count → HasBytes len (slice_get wanted k) (get_or frames k d)
+done_frame n room wanted len count log now frames h is same few k d below =
+    subst (λ s. IsPlaced len (slice_get wanted k) s (get_or frames k d)) (ap (λ es. stage_in n es k) (sym same) ∙ finished_at n count now k is below) (h.each k d (omega (arith, below, few, h.named, h.size)))
 
 has_len : (len : ℕ) (bytes : Option (List ℕ)) (frame : Option Filled) → HasBytes len bytes frame → HasLen len frame
 has_len len bytes None h = h
 has_len len bytes (Some f) h = h.0
 
-past_none : (n : ℕ) (log : List Event) (k : ℕ) → IsFinished n log → n ≤ k → stage_in n log k ≡ None
-past_none n log k is past = ap (λ (o : Option State). at o) is ∙ get_replicate_past n k Done past
-  where
-    at : Option State → Option Stage
-    at None = None
-    at (Some s) = slice_get s.stages k
-
-pub all_here : (n room : ℕ) (wanted : List (List ℕ)) (len : ℕ) (log now : List Event) (frames : List (Option Filled)) → IsRound n room wanted len log frames → IsFinished n now → now ≡ log → All (HasLen len) frames
-all_here n room wanted len log now frames h is same = λ k d l. elim (cases_lt k n) [
-  | inl below ↦ has_len len (slice_get wanted k) (get_or frames k d) (done_frame n room wanted len log now frames h is same k d (omega (arith, below, h.named)))
-  | inr past ↦ subst (λ s. IsPlaced len (slice_get wanted k) s (get_or frames k d)) (ap (λ es. stage_in n es k) (sym same) ∙ past_none n now k is past) (h.each k d l)
+pub all_here : (n room : ℕ) (wanted : List (List ℕ)) (len count : ℕ) (log now : List Event) (frames : List (Option Filled)) → IsRound n room wanted len log frames → IsFinished n count now → now ≡ log
+    → count ≤ length wanted → All (HasLen len) frames
+all_here n room wanted len count log now frames h is same few = λ k d l. elim (cases_lt k count) [
+  | inl below ↦ has_len len (slice_get wanted k) (get_or frames k d) (done_frame n room wanted len count log now frames h is same few k d below)
+  | inr left ↦ elim (cases_lt k n) [
+    | inl idle ↦ subst (λ s. IsPlaced len (slice_get wanted k) s (get_or frames k d)) (ap (λ es. stage_in n es k) (sym same) ∙ finished_idle n count now k is left idle) (h.each k d l)
+    | inr past ↦ subst (λ s. IsPlaced len (slice_get wanted k) s (get_or frames k d)) (ap (λ es. stage_in n es k) (sym same) ∙ finished_none n count now k is (omega (arith, few, h.named)) past) (h.each k d l)
+  ]
 ]

@@ -1,5 +1,5 @@
 -- What encoding the chunks of a scale takes (this project's).
-use Rattle.std.specs.Prelude.{◌≡◌, ◌<◌, ◌≤◌, ◌+◌, ◌^◌, ℕ, List, length, Option, Some, None, IsSome, All, [], slice_get, slice_index_or, vec_capacity}
+use Rattle.std.specs.Prelude.{◌≡◌, ◌<◌, ◌≤◌, ◌+◌, ◌^◌, ℕ, List, length, Option, Some, None, IsSome, All, [], min, slice_get, slice_index_or, vec_capacity}
 use Rattle.chunk_pool.specs.Frames.{Filled, Stock}
 use Rattle.encode_round.specs.Held.{HasBytes, HasLen, used_of}
 use Rattle.encode_round.specs.declared.kit.Kit.{Kit}
@@ -10,7 +10,7 @@ use Rattle.vol_spec.specs.declared.encoding.Encoding.TheVariants.{Raw, Seg}
 use Rattle.vol_spec.specs.declared.scale.Scale.{Scale}
 use Rattle.vol_spec.specs.Writable.{IsWritable}
 use Rattle.segment_cells.specs.Serving.{ServesScale}
-use Rattle.write_plan.specs.Jobs.{Work, window_of}
+use Rattle.write_plan.specs.Jobs.{Work}
 use Rattle.encode_round.specs.Ready.{chunk_ready}
 use Rattle.encode_round.specs.declared.desk.Desk.{Desk}
 use Rattle.encode_round.specs.declared.desk.Segments.{Segments}
@@ -61,10 +61,15 @@ pub record ServesKit (s : Scale) (size : ℕ) (kit : Kit) : Type 0 where
   pub spare : length kit.spare.items ≡ 0
   pub spare_room : 16 ≤ vec_capacity kit.spare
 
--- the first frames have these bytes
-abbrev pub HasChunks : ℕ → List Bytes → Kit → Type 0
-HasChunks len wanted kit = (k : ℕ) (d : Option Filled) → k < length wanted →
+-- the first frames, so many, have these bytes
+abbrev pub HasChunks : ℕ → List Bytes → ℕ → Kit → Type 0
+HasChunks len wanted count kit = (k : ℕ) (d : Option Filled) → k < count →
     HasBytes len (slice_get wanted k) (slice_index_or kit.frames.items k d)
+
+-- a round of n jobs ends where so many were claimed: all of them; or some, where it ends once its chunks have so many bytes
+abbrev pub IsEnough : Option ℕ → ℕ → ℕ → Type 0
+IsEnough None n count = count ≡ n
+IsEnough (Some bytes) n count = min 1 n ≤ count
 
 -- how many jobs a round has at most
 abbrev pub size_in : Bench → ℕ
@@ -74,13 +79,13 @@ size_in bench = bench.size
 abbrev pub AllLent : ℕ → Stock → Type 0
 AllLent count pool = (pool.reserved ≡ count) × (pool.lent ≡ count)
 
--- a bench serves rounds of a scale: it has a kit for as many jobs as a round has at most, of which there are some, and no more than a
--- window; its pool has lent a frame for each of them
+-- a bench serves rounds of a scale: it has a kit for as many jobs as a round has at most, of which there are some, and no more than 256; its
+-- pool has lent a frame for each of them
 pub record ServesBench (s : Scale) (bench : Bench) : Type 0 where
   pub frames : AllLent bench.size bench.pool
   pub kit : ServesKit s bench.size bench.kit
   pub some : 0 < bench.size
-  pub few : bench.size ≤ window_of s
+  pub few : bench.size ≤ 256
 
 -- the bytes of a frame that lies at a place, or none
 abbrev pub used_at : Option (Option Filled) → Bytes

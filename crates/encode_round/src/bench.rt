@@ -2,11 +2,10 @@
 ghost use Rattle.std.specs.Prelude.{◌≡◌, ◌<◌, ◌≤◌, ◌+◌, ◌-◌, ℕ, All, IfOk, Some, [], length, vec_capacity};
 ghost use Rattle.vol_spec.specs.declared.scale.Scale.{Scale};
 ghost use Rattle.vol_spec.specs.Writable.{IsWritable};
-ghost use Rattle.write_plan.specs.Jobs.{window_of};
 ghost use Rattle.job_log.specs.Replay.{IsFinished};
 ghost use Rattle.encode_round.specs.Held.{HasLen};
 ghost use Rattle.encode_round.specs.Ready.{chunk_ready};
-ghost use Rattle.encode_round.specs.Serving.{AllLent, ArePrepared, HasChunks, ServesBench, ServesDesk, ServesKit, done_in, most, size_in};
+ghost use Rattle.encode_round.specs.Serving.{AllLent, ArePrepared, HasChunks, IsEnough, ServesBench, ServesDesk, ServesKit, done_in, most, size_in};
 
 use crate::desk::Desk;
 use crate::encoder::reserve_desk;
@@ -98,7 +97,8 @@ fn empty_kit(alloc: Global) -> Kit {
 }
 
 impl Bench {
-    /// A bench for rounds of at most so many of a scale's jobs, and for so many workers. Only this call takes memory.
+    /// A bench for rounds of at most so many of a scale's jobs, and for so many workers. Only this call takes memory. That of a frame
+    /// isn't touched before a chunk is put there.
     pub fn reserve(
         alloc: Global,
         scale: &Scale,
@@ -108,7 +108,7 @@ impl Bench {
         requires some { 0 < workers }
         requires few { workers ≤ 16 }
         requires some_jobs { 0 < size }
-        requires few_jobs { size ≤ window_of scale.now }
+        requires few_jobs { size ≤ 256 }
         ensures serves { IfOk result (ServesBench scale.now) }
         ensures size { IfOk result (λ bench. size_in bench ≡ size) }
     {
@@ -154,7 +154,52 @@ impl Bench {
 }
 
 /// Encodes the chunks of the jobs from one number up to, not with, another, which are prepared, by the workers of a bench, each
-/// in a thread of its own where one can be made. It takes no memory.
+/// in a thread of its own where one can be made. No job is begun once the chunks have as many bytes as the limit says, but for
+/// the first one. Answers how many jobs are done: those at the front. It takes no memory.
+pub fn run_within<R, C: Chunks + Sync, G: Gate + Sync>(
+    rt: &R,
+    chunks: &C,
+    scale: &Scale,
+    bench: &mut Bench,
+    from: u64,
+    to: u64,
+    limit: Option<u64>,
+    gate: &G,
+) -> u64
+where
+    R: Threads + Wait + Sync,
+    requires bench { ServesBench scale.now bench.old }
+    requires jobs { ArePrepared scale.now (C.work chunks.now) (C.ready chunks.now) from to }
+    requires size { to - from ≤ size_in bench.old }
+    ensures bench { ServesBench scale.now bench.new }
+    ensures size { size_in bench.new ≡ size_in bench.old }
+    ensures enough { IsEnough limit (to - from) result }
+    ensures few { result ≤ to - from }
+    ensures done { (k : ℕ) → k < result →
+        done_in bench.new k ≡ chunk_ready (C.work chunks.now) (C.ready chunks.now) (from + k) }
+    ensures log { IsFinished (to - from) result bench.new.kit.log.items }
+{
+    let size = bench.size;
+    let parts = bench.kit.desks.len() as u64 + 1;
+    let kit = mem::replace(&mut bench.kit, empty_kit(bench.alloc));
+    let (kit, done) = run_named::<Brand, C, G, R>(
+        rt,
+        Blank::new(parts),
+        Blank::new(parts),
+        kit,
+        chunks,
+        scale,
+        from,
+        to,
+        limit,
+        size,
+        gate,
+    );
+    bench.kit = kit;
+    done
+}
+
+/// The same of all these jobs.
 pub fn run_round<R, C: Chunks + Sync, G: Gate + Sync>(
     rt: &R,
     chunks: &C,
@@ -173,22 +218,7 @@ where
     ensures size { size_in bench.new ≡ size_in bench.old }
     ensures done { (k : ℕ) → k < to - from →
         done_in bench.new k ≡ chunk_ready (C.work chunks.now) (C.ready chunks.now) (from + k) }
-    ensures log { IsFinished (to - from) bench.new.kit.log.items }
+    ensures log { IsFinished (to - from) (to - from) bench.new.kit.log.items }
 {
-    let size = bench.size;
-    let parts = bench.kit.desks.len() as u64 + 1;
-    let kit = mem::replace(&mut bench.kit, empty_kit(bench.alloc));
-    let done = run_named::<Brand, C, G, R>(
-        rt,
-        Blank::new(parts),
-        Blank::new(parts),
-        kit,
-        chunks,
-        scale,
-        from,
-        to,
-        size,
-        gate,
-    );
-    bench.kit = done;
+    run_within(rt, chunks, scale, bench, from, to, None, gate);
 }

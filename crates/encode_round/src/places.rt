@@ -26,14 +26,15 @@ pub(crate) struct Place<N: Wanted> {
     pub kept: Option<Frame>,
 }
 
-// Claims jobs, encodes their chunks outside the lock and deposits them, until none is left or a work comes back, whose frame
-// stays in the place.
+// Claims jobs, encodes their chunks outside the lock and deposits them, until none is left, the chunks have as many bytes as a
+// round is to have, or a work comes back, whose frame stays in the place.
 fn run_seat<N: Wanted, C: Chunks, G: Gate, R: Wait>(
     rt: &R,
     round: &Mutex<Round<N>>,
     chunks: &C,
     scale: &Scale,
     from: u64,
+    limit: Option<u64>,
     gate: &G,
     place: &mut Place<N>,
 )
@@ -44,7 +45,7 @@ fn run_seat<N: Wanted, C: Chunks, G: Gate, R: Wait>(
     ensures desk { ServesDesk scale.now place.new.desk }
 {
     for _ in 0..u64::MAX {
-        let claimed = round.lock(rt).claim(&mut place.seat);
+        let claimed = round.lock(rt).claim_more(&mut place.seat, limit);
         let Some(work) = claimed else {
             return;
         };
@@ -76,6 +77,7 @@ fn run_place<N: Wanted, C: Chunks, G: Gate, R: Wait>(
     chunks: &C,
     scale: &Scale,
     from: u64,
+    limit: Option<u64>,
     gate: &G,
     place: &mut Option<Place<N>>,
 )
@@ -85,7 +87,7 @@ fn run_place<N: Wanted, C: Chunks, G: Gate, R: Wait>(
     ensures rested { IfSome place.new (λ p. IsRested N.frame_len p.seat.job p.kept × ServesDesk scale.now p.desk) }
 {
     if let Some(place) = place {
-        run_seat(rt, round, chunks, scale, from, gate, place);
+        run_seat(rt, round, chunks, scale, from, limit, gate, place);
     }
 }
 
@@ -96,6 +98,7 @@ fn run_places<N: Wanted + Send + Sync, C: Chunks + Sync, G: Gate + Sync, R: Thre
     chunks: &C,
     scale: &Scale,
     from: u64,
+    limit: Option<u64>,
     gate: &G,
     places: &mut [Option<Place<N>>],
 )
@@ -111,7 +114,7 @@ fn run_places<N: Wanted + Send + Sync, C: Chunks + Sync, G: Gate + Sync, R: Thre
         rt,
         places,
         threads,
-        &|_, place| run_place(rt, round, chunks, scale, from, gate, place),
+        &|_, place| run_place(rt, round, chunks, scale, from, limit, gate, place),
     );
 }
 
@@ -287,6 +290,7 @@ pub(crate) fn run_seats<
     chunks: &C,
     scale: &Scale,
     from: u64,
+    limit: Option<u64>,
     gate: &G,
     host: &mut Host<N>,
     desks: &mut Vec<Desk>,
@@ -310,6 +314,6 @@ pub(crate) fn run_seats<
     ensures spare_room { vec_capacity spare.old ≤ vec_capacity spare.new }
 {
     seat_all(scale, host, desks, places);
-    run_places(rt, round, chunks, scale, from, gate, places);
+    run_places(rt, round, chunks, scale, from, limit, gate, places);
     take_all(scale, host, desks, spare, places);
 }

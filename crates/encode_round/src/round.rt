@@ -1,7 +1,8 @@
 //! A round.
-ghost use Rattle.std.specs.Prelude.{◌≡◌, ◌≢◌, ◌<◌, ◌≤◌, ◌+◌, ◌++◌, ◌∷◌, [], ℕ, All, length, Some, None, IfSome, IfNone, IsSomeAnd, slice_get, slice_index_or, vec_capacity};
+ghost use Rattle.std.specs.Prelude.{◌≡◌, ◌≢◌, ◌<◌, ◌≤◌, ◌+◌, ◌++◌, ◌∷◌, [], ℕ, All, length, Some, None, IfSome, IfNone, IsSome, IsSomeAnd, true, slice_get, slice_index_or, vec_capacity};
 ghost use Rattle.job_log.specs.Replay.{IsFinished, claim_of, claims_in, deposit_of, out_at, stage_in};
 ghost use Rattle.encode_round.specs.Held.{HasBytes, HasLen, used_of};
+ghost use Rattle.encode_round.specs.Serving.{IsEnough};
 
 use crate::names::Wanted;
 use chunk_pool::Frame;
@@ -17,11 +18,13 @@ pub struct Work<N: Wanted> {
     pub(crate) of: PhantomData<N>,
 }
 
-/// Jobs with a frame each, of which seats claim one after the other, and deposit it with its bytes. It is seen as its log.
+/// Jobs with a frame each, of which seats claim one after the other, and deposit it with its bytes. It counts the bytes that were
+/// deposited. It is seen as its log.
 #[derive(Drop)]
 pub struct Round<N: Wanted> {
     jobs: JobLog<N>,
     frames: Vec<Option<Frame>>,
+    bytes: u64,
 }
 
 impl<N: Wanted> Model for Round<N> {
@@ -49,7 +52,11 @@ impl<N: Wanted> Round<N> {
         ensures which { IfSome result (λ w. w.job ≡ claims_in self.old) }
         ensures out { IfSome result (λ w. stage_in (length N.wanted) self.new w.job ≡ out_at seat.old.number) }
     {
-        let Round { jobs, frames } = self;
+        let Round {
+            jobs,
+            frames,
+            bytes: _,
+        } = self;
         let Some(job) = jobs.claim(seat) else {
             return None;
         };
@@ -60,6 +67,41 @@ impl<N: Wanted> Round<N> {
             frame,
             of: PhantomData,
         })
+    }
+
+    // Whether a job was claimed, and what was deposited has at least so many bytes.
+    fn is_full(&self, limit: Option<u64>) -> bool
+        ensures { result ≡ true → IsSome limit × (0 < claims_in self.now) }
+    {
+        match limit {
+            None => false,
+            Some(bytes) => self.bytes >= bytes && self.jobs.claimed() > 0,
+        }
+    }
+
+    /// The same, but nothing either where a job was claimed, and what was deposited has at least so many bytes.
+    pub fn claim_more(&mut self, seat: &mut Seat<N>, limit: Option<u64>) -> Option<Work<N>>
+        requires { seat.old.job ≡ None }
+        ensures number { seat.new.number ≡ seat.old.number }
+        ensures none { IfNone result ((self.new ≡ self.old) × (seat.new.job ≡ None)
+            × IsEnough limit (length N.wanted) (claims_in self.old)) }
+        ensures some { IfSome result (λ w. (self.new ≡ self.old ++ claim_of seat.old.number w.job ∷ [])
+            × (seat.new.job ≡ Some w.job) × (w.job < length N.wanted)) }
+        ensures frame { IfSome result (λ w. length w.frame.bytes ≡ N.frame_len) }
+        ensures which { IfSome result (λ w. w.job ≡ claims_in self.old) }
+        ensures out { IfSome result (λ w. stage_in (length N.wanted) self.new w.job ≡ out_at seat.old.number) }
+    {
+        if self.is_full(limit) {
+            return None;
+        }
+        self.claim(seat)
+    }
+
+    /// How many jobs were claimed.
+    pub fn claimed(&self) -> u64
+        ensures { result ≡ claims_in self.now }
+    {
+        self.jobs.claimed()
     }
 
     /// Takes a job's frame with its bytes. The work comes back exactly where the job is not out at this seat.
@@ -73,11 +115,16 @@ impl<N: Wanted> Round<N> {
         ensures back { IfSome result (λ w. (self.new ≡ self.old) × (seat.new.job ≡ seat.old.job) × (w ≡ work)) }
         ensures only { IfSome result (λ _. stage_in (length N.wanted) self.old work.job ≢ out_at seat.old.number) }
     {
-        let Round { jobs, frames } = self;
+        let Round {
+            jobs,
+            frames,
+            bytes,
+        } = self;
         if !jobs.deposit(seat, work.job) {
             return Some(work);
         }
         let Work { job, frame, of: _ } = work;
+        *bytes = bytes.saturating_add(frame.used().len() as u64);
         frames[job as usize] = Some(frame);
         None
     }
@@ -91,7 +138,11 @@ impl<N: Wanted> Round<N> {
         requires frames { All (HasLen N.frame_len) frames.items }
         ensures { result ≡ [] }
     {
-        Round { jobs, frames }
+        Round {
+            jobs,
+            frames,
+            bytes: 0,
+        }
     }
 
     /// The first job that is out, and its seat, where the host has taken all seats in.
@@ -118,27 +169,35 @@ impl<N: Wanted> Round<N> {
         ensures parts { host.new.parts ≡ host.old.parts }
         ensures outs { host.new.outs + 1 ≡ host.old.outs }
     {
-        let Round { jobs, frames } = self;
+        let Round {
+            jobs,
+            frames,
+            bytes: _,
+        } = self;
         jobs.deposit_for(host, job, seat);
         frames[job as usize] = Some(frame);
     }
 
-    /// Ends a round whose host has taken all seats in, with nothing out and each job claimed. Its frames come back, those of the
-    /// jobs with their bytes.
+    /// Ends a round whose host has taken all seats in, with nothing out. Its frames come back, those of the jobs that were claimed
+    /// with their bytes.
     pub(crate) fn close(self, host: Host<N>) -> (Vec<Stage>, Vec<Event>, Vec<Option<Frame>>)
         requires whole { host.parts ≡ N.parts }
         requires none { host.outs ≡ 0 }
-        requires all { claims_in self ≡ length N.wanted }
-        ensures finished { IsFinished N.jobs result.1.items }
+        requires few { claims_in self ≤ length N.wanted }
+        ensures finished { IsFinished N.jobs (claims_in self) result.1.items }
         ensures log { result.1.items ≡ self }
         ensures stages { N.room ≤ vec_capacity result.0 }
         ensures room { N.room ≤ vec_capacity result.1 }
         ensures count { length result.2.items + length result.2.items ≡ N.room }
         ensures frames { All (HasLen N.frame_len) result.2.items }
-        ensures chunks { (k : ℕ) (d : _) → k < length N.wanted →
+        ensures chunks { (k : ℕ) (d : _) → k < claims_in self →
             HasBytes N.frame_len (slice_get N.wanted k) (slice_index_or result.2.items k d) }
     {
-        let Round { jobs, frames } = self;
+        let Round {
+            jobs,
+            frames,
+            bytes: _,
+        } = self;
         let (stages, log) = jobs.close(host);
         (stages, log, frames)
     }

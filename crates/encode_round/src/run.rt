@@ -2,7 +2,7 @@
 ghost use Rattle.std.specs.Prelude.{◌≡◌, ◌<◌, ◌≤◌, ◌+◌, ◌-◌, ◌^◌, ℕ, List, All, length, Some, None, IfSome, slice_get, slice_index_or, vec_capacity, vec_len};
 ghost use Rattle.job_log.specs.Replay.{IsFinished, claims_in};
 ghost use Rattle.encode_round.specs.Held.{HasLen, used_of};
-ghost use Rattle.encode_round.specs.Serving.{AreNamed, ServesDesk, ServesKit, HasChunks, most};
+ghost use Rattle.encode_round.specs.Serving.{AreNamed, IsEnough, ServesDesk, ServesKit, HasChunks, most};
 
 use crate::desk::Desk;
 use crate::encoder::encode_job;
@@ -78,13 +78,14 @@ fn deposit_rest<N: Wanted, C: Chunks, G: Gate>(
     }
 }
 
-// Claims, encodes and deposits what is left, with no other seat about.
+// Claims, encodes and deposits what is left, with no other seat about, as far as the round goes.
 fn finish_alone<N: Wanted, C: Chunks, G: Gate>(
     round: &mut Round<N>,
     seat: &mut Seat<N>,
     chunks: &C,
     scale: &Scale,
     from: u64,
+    limit: Option<u64>,
     gate: &G,
     desk: &mut Desk,
 )
@@ -92,10 +93,10 @@ fn finish_alone<N: Wanted, C: Chunks, G: Gate>(
     requires desk { ServesDesk scale.now desk.old }
     requires named { AreNamed scale.now (C.work chunks.now) (C.ready chunks.now) from N.wanted N.frame_len }
     ensures idle { seat.new.job ≡ None }
-    ensures all { claims_in round.new ≡ length N.wanted }
+    ensures enough { IsEnough limit (length N.wanted) (claims_in round.new) }
     ensures desk { ServesDesk scale.now desk.new }
 {
-    while let Some(work) = round.claim(seat) {
+    while let Some(work) = round.claim_more(seat, limit) {
         let Work {
             job,
             mut frame,
@@ -149,8 +150,9 @@ pub(crate) fn pack(
     }
 }
 
-/// Runs the jobs of a round by so many seats, each in a thread of its own where one can be made, and gives back the kit with the
-/// chunks of the jobs in its first frames, and the log.
+/// Runs the jobs of a round by so many seats, each in a thread of its own where one can be made, until their chunks have as many
+/// bytes as a round is to have. Gives back the kit with the chunks of the jobs that are done in its first frames, and the log; and
+/// how many they are.
 pub(crate) fn run_named<
     N: Wanted + Send + Sync,
     C: Chunks + Sync,
@@ -165,9 +167,10 @@ pub(crate) fn run_named<
     scale: &Scale,
     from: u64,
     to: u64,
+    limit: Option<u64>,
     size: u64,
     gate: &G,
-) -> Kit
+) -> (Kit, u64)
     requires claims { (claims.name ≡ N.name) × (claims.parts ≡ N.parts) }
     requires deposits { (deposits.name ≡ N.deposits_name) × (deposits.parts ≡ N.parts) }
     requires parts { length kit.desks.items + 1 ≡ N.parts }
@@ -178,10 +181,12 @@ pub(crate) fn run_named<
     requires size { to - from ≤ size }
     requires named { AreNamed scale.now (C.work chunks.now) (C.ready chunks.now) from N.wanted N.frame_len }
     requires kit { ServesKit scale.now size kit }
-    ensures kit { ServesKit scale.now size result }
-    ensures desks { length result.desks.items ≡ length kit.desks.items }
-    ensures chunks { HasChunks (most scale.now) N.wanted result }
-    ensures log { IsFinished N.jobs result.log.items }
+    ensures kit { ServesKit scale.now size result.0 }
+    ensures desks { length result.0.desks.items ≡ length kit.desks.items }
+    ensures enough { IsEnough limit N.jobs result.1 }
+    ensures few { result.1 ≤ N.jobs }
+    ensures chunks { HasChunks (most scale.now) N.wanted result.1 result.0 }
+    ensures log { IsFinished N.jobs result.1 result.0.log.items }
 {
     let Kit {
         stages,
@@ -203,6 +208,7 @@ pub(crate) fn run_named<
         chunks,
         scale,
         from,
+        limit,
         gate,
         &mut host,
         &mut desks,
@@ -215,9 +221,13 @@ pub(crate) fn run_named<
         &mut round, &mut host, &mut spare, chunks, scale, from, gate, &mut desk,
     );
     let mut seat = host.seat(0);
-    finish_alone(&mut round, &mut seat, chunks, scale, from, gate, &mut desk);
+    finish_alone(
+        &mut round, &mut seat, chunks, scale, from, limit, gate, &mut desk,
+    );
     host.take_in(seat);
     put_desk(scale, &mut desks, desk);
+    let done = round.claimed();
     let (stages, log, frames) = round.close(host);
-    pack(scale, size, stages, log, frames, desks, spare)
+    let kit = pack(scale, size, stages, log, frames, desks, spare);
+    (kit, done)
 }

@@ -1,5 +1,9 @@
-//! A gate for tests, which holds one worker until another one has done something.
+//! Gates for tests, which hold a worker until another one has done something.
 #![tactic(auto)]
+
+mod meeting;
+
+pub use meeting::Meeting;
 
 use std::sync::atomic::{AtomicU64, Ordering};
 use std::thread;

@@ -1,5 +1,5 @@
 -- What a writer of jobs puts into a store (this project's).
-use Rattle.std.specs.Prelude.{◌≡◌, ◌≢◌, ◌⊎◌, ℕ, ◌-◌, ◌^◌, ◌≤◌, ◌<◌, length, map, replicate, Option, Some, None, IfOk, IfSome, OnOk, OnErr, Result, Ok, Err}
+use Rattle.std.specs.Prelude.{Bool, ◌≡◌, ◌≢◌, ◌⊎◌, ℕ, ◌-◌, ◌^◌, ◌≤◌, ◌<◌, length, map, replicate, Option, Some, None, IfOk, IfSome, OnOk, OnErr, Result, Ok, Err}
 use Rattle.std.specs.FinMap as fin
 use Rattle.std.specs.List.{range_with_len}
 use Rattle.std.specs.Option.{option_map}
@@ -13,7 +13,7 @@ use Rattle.vol_spec.specs.Types.{Bytes, Cell, Chunks, Listed, Name}
 use Rattle.vol_spec.specs.Writable.{IsWritable}
 use Rattle.vol_spec.specs.declared.encoding.Encoding.TheVariants.{Raw}
 use Rattle.vol_spec.specs.declared.scale.Scale.{Scale}
-use Rattle.write_plan.specs.Jobs.{Work, jobs_fault, window_of}
+use Rattle.write_plan.specs.Jobs.{FitsWindow, Work, jobs_fault}
 use Rattle.shard_writer.specs.declared.written.WriteFault.{WriteFault}
 use Rattle.shard_writer.specs.declared.written.WriteFault.TheVariants.{StoreFault, Damaged, OutOfMemory}
 use Rattle.shard_writer.specs.declared.written.Written.{Written}
@@ -109,11 +109,11 @@ pub record IsGiven (dataset : Name) (s : Scale) (work : Work) : Type 0 where
   pub scale : work.scale ≡ s
   pub few : length work.cells ≤ 2 ^ 22
 
--- the jobs from one number up to, not with, another are at most a window
-pub record IsWindow (work : Work) (from to : ℕ) : Type 0 where
+-- the jobs from one number up to, not with, another are at most a window where they hold their values
+pub record IsWindow (holding : Bool) (work : Work) (from to : ℕ) : Type 0 where
   pub order : from ≤ to
   pub within : to ≤ length work.cells
-  pub size : to - from ≤ window_of work.scale
+  pub size : FitsWindow holding work.scale (to - from)
 
 -- What a writer of all jobs ensures, over the objects and what was being written before and after: where it succeeds all jobs' objects were
 -- put in, and are counted; else a front of them. `sure` says that preparing them never fails.

@@ -3,7 +3,7 @@ ghost use Rattle.std.specs.Prelude.{◌≡◌, ◌≤◌, ◌<◌, IfOk, length}
 ghost use Rattle.encode_round.specs.Serving.{ServesBench, size_in};
 ghost use Rattle.vol_spec.specs.Writable.{IsWritable};
 
-use encode_round::{Bench, run_round};
+use encode_round::{Bench, run_round, run_within};
 use holding_gate::HoldingGate;
 use job_log::Event;
 use small_scales::{raw_scale, short_name};
@@ -12,7 +12,7 @@ use std::process::Abort;
 use std::sync::Wait;
 use std::test::Fail;
 use std::thread::Threads;
-use vol_base::{MemoryFeed, MemoryStore};
+use vol_base::{FreeGate, MemoryFeed, MemoryStore};
 use vol_spec::Scale;
 use write_plan::{Chunks, Plan, read_writes, window};
 
@@ -119,4 +119,59 @@ fn two_workers(rt: HostRuntime) -> Result<(), Fail> {
     let scale = raw_scale(key, 1, 1, [3, 1, 1], [0; 3], [1; 3]).expect(&rt, "a scale");
     let mut plan = plan_of(alloc, &scale)?;
     check_round(&rt, alloc, &scale, &mut plan, &HoldingGate::new())
+}
+
+// How many of the first three jobs, of a byte each, one worker does in a round that ends once it has so many bytes.
+fn count_done<R: Threads + Wait + Sync, C: Chunks + Sync>(
+    rt: &R,
+    chunks: &mut C,
+    store: &mut MemoryStore,
+    scale: &Scale,
+    bench: &mut Bench,
+    limit: Option<u64>,
+) -> Result<u64, Fail>
+    requires scale { (C.work chunks.old).scale ≡ scale.now }
+    requires count { 3 ≤ length (C.work chunks.old).cells }
+    requires bench { ServesBench scale.now bench.old }
+    requires size { 3 ≤ size_in bench.old }
+    requires writable { IsWritable scale.now }
+{
+    chunks.forget();
+    let Ok(()) = chunks.prepare(store, 0, 3) else {
+        return Err("preparing doesn't fail".into());
+    };
+    Ok(run_within(rt, chunks, scale, bench, 0, 3, limit, &FreeGate))
+}
+
+// A round ends behind the job that brings it to its bytes, and not before the first one.
+fn check_ends<R: Threads + Wait + Abort + Sync>(
+    rt: &R,
+    alloc: Global,
+    scale: &Scale,
+    plan: &mut Plan,
+    limit: Option<u64>,
+    jobs: u64,
+) -> Result<(), Fail>
+    requires { plan.old.scale ≡ scale.now }
+{
+    assert!(rt; scale.can_encode());
+    assert!(rt; plan.jobs().len() == 3 && window(scale) >= 3);
+    let mut store = MemoryStore::new(alloc, Vec::new(alloc));
+    let mut bench = Bench::reserve(alloc, scale, 1, 3)?;
+    let done = count_done(rt, plan, &mut store, scale, &mut bench, limit)?;
+    assert_eq!(rt; done, jobs);
+    assert_eq!(rt; bench.log().len() as u64, 2 * jobs);
+    Ok(())
+}
+
+#[test]
+fn ends_once_it_has_enough(rt: HostRuntime) -> Result<(), Fail> {
+    let alloc = rt.alloc();
+    let key = short_name(b"s").expect(&rt, "a key");
+    let scale = raw_scale(key, 1, 1, [3, 1, 1], [0; 3], [1; 3]).expect(&rt, "a scale");
+    for (limit, jobs) in [(None, 3), (Some(4), 3), (Some(2), 2), (Some(1), 1), (Some(0), 1)] {
+        let mut plan = plan_of(alloc, &scale)?;
+        check_ends(&rt, alloc, &scale, &mut plan, limit, jobs)?;
+    }
+    Ok(())
 }

@@ -3,6 +3,8 @@
 #![tactic(auto)]
 
 #[cfg(test)]
+mod beside_rows;
+#[cfg(test)]
 mod copier_rows;
 #[cfg(test)]
 mod cutout_rows;

@@ -25,6 +25,8 @@ impl<'a> Chunks for PlanChunks<'a> {
 
     ghost keeps = { λ c objects. Unit {0} };
 
+    ghost holding = { false };
+
     ghost ordered = { λ c. met_jobs c.plan.now.scale c.plan.now.writes };
 
     ghost fits = { λ c. ready_fits c.plan.now };
@@ -38,6 +40,11 @@ impl<'a> Chunks for PlanChunks<'a> {
     }
 
     fn forget(&mut self) {}
+
+    /// Jobs hold no values: these are put together as a job is filled in.
+    fn holds_values(&self) -> bool {
+        false
+    }
 
     /// Does nothing: each job is prepared from the start.
     fn prepare<S: Store>(

@@ -3,6 +3,7 @@
 
 mod levels;
 mod peers;
+mod seats;
 mod sizes;
 
 use crate::top::run;

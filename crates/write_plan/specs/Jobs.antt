@@ -1,5 +1,5 @@
 -- The jobs of a writer, and what preparing them answers (this project's).
-use Rattle.std.specs.Prelude.{◌≡◌, ◌≢◌, ℕ, ◌/◌, ◌^◌, ◌≤◌, ◌<◌, min, max, ◌↔◌, Contains, List, [], length, map, slice_index_or, Option, Some, None, Result, Ok, Err, ⊤}
+use Rattle.std.specs.Prelude.{◌≡◌, ◌≢◌, ℕ, ◌/◌, ◌^◌, ◌≤◌, ◌<◌, min, max, ◌↔◌, Contains, List, [], length, map, slice_index_or, Option, Some, None, Result, Ok, Err, ⊤, Bool, true, false}
 use Rattle.std.specs.FinMap as fin
 use Rattle.std.specs.List.{range_with_len}
 use Rattle.vol_base.specs.Outside.{Objects}
@@ -99,6 +99,11 @@ frame_len s = max (first_bytes s.width s.channels s.size s.chunk)
 -- how many jobs are prepared at once: as many as have 2^28 bytes, at least 2 and at most 256 (this project's limit)
 abbrev pub window_of : Scale → ℕ
 window_of s = max 2 (min 256 (2 ^ 28 / frame_len s))
+
+-- so many jobs may be prepared at once: at most a window of them where they hold values
+abbrev pub FitsWindow : Bool → Scale → ℕ → Type 0
+FitsWindow true s count = count ≤ window_of s
+FitsWindow false s count = ⊤
 
 -- jobs are prepared exactly where none has a fault, and the first fault is told, but for a store that fails
 abbrev pub Prepares : Result ⊤ PrepareFault → Option (List ℕ × Fault) → Type 0

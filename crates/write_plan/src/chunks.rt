@@ -1,5 +1,5 @@
 //! Where a writer gets the bytes of its chunks.
-ghost use Rattle.std.specs.Prelude.{[], take, unwrap_or, ◌≡◌, ◌-◌, ◌<◌, ◌≤◌, List, ℕ, Option, length, IfSome, IsOk, IsSome, IsSomeAnd, OnOk, Some};
+ghost use Rattle.std.specs.Prelude.{[], take, unwrap_or, ◌≡◌, ◌-◌, ◌<◌, ◌≤◌, Bool, false, true, List, ℕ, Option, length, IfSome, IsOk, IsSome, IsSomeAnd, OnOk, Some};
 ghost use Rattle.vol_base.specs.Causes.{HasCauseOf};
 ghost use Rattle.vol_base.specs.Outside.{Objects};
 ghost use Rattle.vol_spec.specs.Encodings.{encoded};
@@ -7,7 +7,7 @@ ghost use Rattle.vol_spec.specs.Limits.{limit_of};
 ghost use Rattle.vol_spec.specs.StoredCells.{cell_of};
 ghost use Rattle.vol_spec.specs.StoredLists.{AreJobs};
 ghost use Rattle.vol_spec.specs.declared.scale.Scale.{Scale};
-ghost use Rattle.write_plan.specs.Jobs.{AreReady, FitsJob, KeepsOthers, Prepares, Work, jobs_fault, jobs_of, window_of};
+ghost use Rattle.write_plan.specs.Jobs.{AreReady, FitsJob, FitsWindow, KeepsOthers, Prepares, Work, jobs_fault, jobs_of};
 
 use crate::jobs::JobList;
 use vol_base::{Fault, Store};
@@ -38,6 +38,9 @@ pub trait Chunks {
     /// What is kept of the objects from call to call is what they say.
     ghost keeps: { Self → Option Objects → Type 0 };
 
+    /// Jobs that are prepared hold their values in memory.
+    ghost holding: { Bool } = { true };
+
     /// The jobs.
     fn jobs(&self) -> &JobList
         ensures { result.now ≡ jobs_of (work self.now).scale (work self.now).cells };
@@ -50,8 +53,15 @@ pub trait Chunks {
         ensures work { work self.new ≡ work self.old }
         ensures apart { (dataset : List ℕ) (s : Scale) → apart self.old dataset s → apart self.new dataset s };
 
-    /// Prepares the jobs from one number up to, not with, another, at most a window of them. What is kept must be
-    /// what the objects say, as it is after `forget`, and behind another call where the objects stayed the same.
+    /// Whether jobs that are prepared hold their values in memory; false only where they hold none, as those of a plan.
+    fn holds_values(&self) -> bool
+        ensures { result ≡ false → holding ≡ false }
+    {
+        true
+    }
+
+    /// Prepares the jobs from one number up to, not with, another: at most a window of them where they hold values, and
+    /// else as many as there are. What is kept must be what the objects say, as it is after `forget`, and behind another call where the objects stayed the same.
     ///
     /// # Errors
     /// `StoreFault` only where the store failed; else `Damaged` exactly where one of these jobs has a
@@ -59,7 +69,7 @@ pub trait Chunks {
     fn prepare<S: Store>(&mut self, store: &mut S, from: u64, to: u64) -> Result<(), PrepareFault>
         requires order { from ≤ to }
         requires within { to ≤ length (work self.old).cells }
-        requires window { to - from ≤ window_of (work self.old).scale }
+        requires window { FitsWindow holding (work self.old).scale (to - from) }
         requires keeps { keeps self.old (S.objects store.old) }
         ensures prepared { OnOk result ((job : ℕ) → from ≤ job → job < to → IsSome (ready self.new job)) }
         ensures ready { OnOk result (IfSome (S.objects store.old) (λ m.

@@ -138,7 +138,7 @@ impl From<OutOfMemory> for PlanRefusal {
 }
 
 impl Chunks for Plan {
-    ghost use Rattle.std.specs.Prelude.{◌≡◌, ◌-◌, ◌≤◌, IsOk, IfSome, length};
+    ghost use Rattle.std.specs.Prelude.{◌≡◌, ◌-◌, ◌≤◌, IsOk, IfSome, false, length};
     ghost use Rattle.write_plan.specs.Jobs.{Prepares, jobs_fault};
     ghost use Rattle.write_plan.specs.Plans.{planned_cells, ready_of, work_of};
     ghost use Rattle.write_plan.specs.PlanLaws.{met_jobs, plan_fits, plan_keeps, ready_fits};
@@ -152,6 +152,8 @@ impl Chunks for Plan {
     ghost ready = { ready_of };
 
     ghost keeps = { λ plan objects. Unit {0} };
+
+    ghost holding = { false };
 
     ghost ordered = { λ plan. met_jobs plan.scale plan.writes };
 
@@ -167,6 +169,11 @@ impl Chunks for Plan {
 
     /// Does nothing: nothing is kept.
     fn forget(&mut self) {}
+
+    /// Jobs hold no values: these are put together as a job is filled in.
+    fn holds_values(&self) -> bool {
+        false
+    }
 
     /// Does nothing: each job is prepared from the start.
     fn prepare<S: Store>(
