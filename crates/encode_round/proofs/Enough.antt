@@ -10,7 +10,7 @@ enough_all (Some bytes) n count all = omega (arith, all)
 
 -- where it ends once it has so many bytes, and some job was claimed
 pub enough_some : (limit : Option ℕ) (n count : ℕ) → IsSome limit → 0 < count → IsEnough limit n count
-enough_some None n count there some = absurd there
+enough_some None n count there some = absurd (cc there)
 enough_some (Some bytes) n count there some = omega (arith, some)
 
 -- a round of some jobs has done one of them

@@ -99,7 +99,8 @@ impl<N: Wanted> Round<N> {
 
     /// How many jobs were claimed.
     pub fn claimed(&self) -> u64
-        ensures { result ≡ claims_in self.now }
+        ensures count { result ≡ claims_in self.now }
+        ensures few { result ≤ length N.wanted }
     {
         self.jobs.claimed()
     }
