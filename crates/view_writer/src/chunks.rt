@@ -1,5 +1,5 @@
 //! A plan that is read alone, as the chunks of a writer.
-ghost use Rattle.std.specs.Prelude.{◌≡◌, ◌-◌, ◌≤◌, ◌<◌, ℕ, IsOk, IsSome, OnOk, IfSome, length};
+ghost use Rattle.std.specs.Prelude.{◌≡◌, ◌-◌, ◌≤◌, ◌<◌, ℕ, IsOk, IsSome, OnOk, IfSome, false, length};
 ghost use Rattle.vol_base.specs.Causes.{HasCauseOf};
 ghost use Rattle.write_plan.specs.Jobs.{AreReady, Prepares, jobs_fault};
 ghost use Rattle.write_plan.specs.Plans.{planned_cells, ready_of, work_of};
