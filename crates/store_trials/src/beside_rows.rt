@@ -155,7 +155,14 @@ fn check_fills<R: Threads + Wait + Abort + Sync>(
     assert!(rt; scale.can_encode());
     let mut store = MemoryStore::new(alloc, Vec::new(alloc));
     let answer = write_scale(
-        rt, alloc, &mut store, &dataset, scale, &mut chunks, workers, &FreeGate,
+        rt,
+        alloc,
+        &mut store,
+        &dataset,
+        scale,
+        &mut chunks,
+        workers,
+        &FreeGate,
     );
     assert!(rt; answer.is_ok());
     assert_eq!(rt; meeting.met(), seats as u64);

@@ -169,7 +169,13 @@ fn ends_once_it_has_enough(rt: HostRuntime) -> Result<(), Fail> {
     let alloc = rt.alloc();
     let key = short_name(b"s").expect(&rt, "a key");
     let scale = raw_scale(key, 1, 1, [3, 1, 1], [0; 3], [1; 3]).expect(&rt, "a scale");
-    for (limit, jobs) in [(None, 3), (Some(4), 3), (Some(2), 2), (Some(1), 1), (Some(0), 1)] {
+    for (limit, jobs) in [
+        (None, 3),
+        (Some(4), 3),
+        (Some(2), 2),
+        (Some(1), 1),
+        (Some(0), 1),
+    ] {
         let mut plan = plan_of(alloc, &scale)?;
         check_ends(&rt, alloc, &scale, &mut plan, limit, jobs)?;
     }
