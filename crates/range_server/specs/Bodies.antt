@@ -1,9 +1,12 @@
 -- The bytes of a reply over the objects (RFC 9112, section 6), and what a link gains (this project's).
 use Rattle.std.specs.Prelude.{◌≡◌, ◌≢◌, ◌⊎◌, ◌<◌, ◌≤◌, IsTrue, IsErrOf, Result, ℕ, Bool, true, false, List, [], ◌++◌, length, take, Option, Some, None, if◌then◌else◌}
 use Rattle.std.specs.FinMap as map
-use Rattle.vol_base.specs.Outside.{Objects, part}
+use Rattle.vol_base.specs.Outside.{Objects, OnlyReads, part}
 use Rattle.vol_base.specs.Causes.{Rose}
 use Rattle.vol_base.specs.Gains.{Gains, GainsFront}
+use Rattle.vol_base.specs.declared.outside.Failed.{Failed}
+use Rattle.vol_base.specs.declared.outside.Link.{Ghosts as Links}
+use Rattle.vol_base.specs.declared.outside.Source.{Ghosts}
 use Rattle.range_server.specs.declared.fault.ServeFault.{ServeFault}
 use Rattle.range_server.specs.declared.fault.ServeFault.TheVariants.{LinkFault, OutOfMemory, StoreFault}
 use Rattle.range_server.specs.declared.reply.Sent.{Sent}
@@ -64,6 +67,10 @@ abbrev pub failures : Bool → ℕ
 failures false = 0
 failures true = 1
 
+-- why a call of a store failed: the one value there is
+abbrev pub failure : Failed
+failure = record {}
+
 -- the counts of faults of a link and a store don't fall, and a fault comes only where its count rose
 pub record HasServeCause {T : Type 0} (link link_now store store_now : ℕ)
     (result : Result T ServeFault) : Type 0 where
@@ -71,6 +78,15 @@ pub record HasServeCause {T : Type 0} (link link_now store store_now : ℕ)
   pub store_later : store ≤ store_now
   pub link_rose : IsErrOf result LinkFault → Rose link link_now
   pub store_rose : IsErrOf result StoreFault → Rose store store_now
+
+-- what serving from a source to a link leaves of both, beside what is sent: the link's stream, the objects and the object being written stay, and a
+-- fault comes only where a count rose
+pub record ServesFrom {K T A : Type 0} (link : Links K) (source : Ghosts T) (peer peer_now : K) (before after : T)
+    (result : Result A ServeFault) : Type 0 where
+  pub stream : link.stream peer_now ≡ link.stream peer
+  pub kept : OnlyReads (source.objects before) (source.objects after) (source.draft before) (source.draft after)
+  pub cause : HasServeCause (link.faults peer) (link.faults peer_now) (source.faults before)
+      (source.faults after) result
 
 -- how much of a reply was sent before a fault: a front of it, the whole head and a proper front of the body, or nothing
 abbrev pub CutsReply : List ℕ → List ℕ → Option (List ℕ) → Option (List ℕ) → ServeFault → Type 0

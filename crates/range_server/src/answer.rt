@@ -3,8 +3,7 @@ ghost use Rattle.std.specs.Prelude.{◌≡◌, ◌≤◌, ℕ, List, true, false
 ghost use Rattle.httparse.specs.Grammar.{ReadsRequest, RequestHead};
 ghost use Rattle.httparse.specs.Spans.{IsRequestOf, IsRequestWithin};
 ghost use Rattle.vol_base.specs.Causes.{Rose};
-ghost use Rattle.vol_base.specs.Outside.{OnlyReads};
-ghost use Rattle.range_server.specs.Bodies.{Cuts, HasServeCause, WhereTold, failures};
+ghost use Rattle.range_server.specs.Bodies.{Cuts, ServesFrom, WhereTold, failures};
 ghost use Rattle.range_server.specs.Replies.{Answered, planned_at};
 
 use crate::fault::ServeFault;
@@ -52,11 +51,7 @@ pub(crate) fn answer_head<L: Link, S: Source>(
     ensures failing { writer.new.failing ≡ true → Rose (S.faults store.old) (S.faults store.new) }
     ensures room { length writer.new.piece.items ≡ length writer.old.piece.items }
     ensures left { L.left link.new ≡ L.left link.old }
-    ensures stream { L.stream link.new ≡ L.stream link.old }
-    ensures kept { OnlyReads (S.objects store.old) (S.objects store.new) (S.draft store.old)
-        (S.draft store.new) }
-    ensures cause { HasServeCause (L.faults link.old) (L.faults link.new) (S.faults store.old)
-        (S.faults store.new) result }
+    ensures serves { ServesFrom L.Link S.Source link.old link.new store.old store.new result }
 {
     match plan_numbered(
         number,

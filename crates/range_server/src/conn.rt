@@ -1,10 +1,9 @@
 //! A connection.
 ghost use Rattle.std.specs.Prelude.{◌≡◌, ◌≢◌, ◌-◌, ◌≤◌, ◌<◌, true, false, length, take, drop, IfErr, IfOk, IfSome};
-ghost use Rattle.vol_base.specs.Outside.{OnlyReads};
 ghost use Rattle.request_heads.specs.Heads.{pending};
 ghost use Rattle.request_heads.specs.Answers.{HasParts, IsNext};
 ghost use Rattle.vol_base.specs.Causes.{HasCause, Rose};
-ghost use Rattle.range_server.specs.Bodies.{HasServeCause, WhereTold, failures};
+ghost use Rattle.range_server.specs.Bodies.{ServesFrom, WhereTold, failures};
 ghost use Rattle.range_server.specs.Desks.{IsReady};
 ghost use Rattle.range_server.specs.Replies.{EndsIn, Gained, GoesOn, ServedIn, Stopped, Stops};
 ghost use Rattle.range_server.specs.Turns.{IfEnd, IfNext};
@@ -107,11 +106,7 @@ fn serve_one<L: Link, S: Source>(
         (L.sent link.old) (L.sent link.new)))) }
     ensures calm { IfOk result (λ turn. IfNext turn (λ _. desk.new.writer.failing ≡ false)) }
     ensures failing { desk.new.writer.failing ≡ true → Rose (S.faults store.old) (S.faults store.new) }
-    ensures stream { L.stream link.new ≡ L.stream link.old }
-    ensures kept { OnlyReads (S.objects store.old) (S.objects store.new) (S.draft store.old)
-        (S.draft store.new) }
-    ensures cause { HasServeCause (L.faults link.old) (L.faults link.new) (S.faults store.old)
-        (S.faults store.new) result }
+    ensures serves { ServesFrom L.Link S.Source link.old link.new store.old store.new result }
 {
     let (next, there) = match wait_head(link, len, desk) {
         Ok(found) => found,
@@ -160,11 +155,7 @@ pub(crate) fn serve_link<L: Link, S: Source>(
         (λ stream. Gained (Stopped m dataset.now 0 (failures desk.new.writer.failing) fault stream)
         (L.sent link.old) (L.sent link.new)))) }
     ensures failing { desk.new.writer.failing ≡ true → Rose (S.faults store.old) (S.faults store.new) }
-    ensures stream { L.stream link.new ≡ L.stream link.old }
-    ensures kept { OnlyReads (S.objects store.old) (S.objects store.new) (S.draft store.old)
-        (S.draft store.new) }
-    ensures cause { HasServeCause (L.faults link.old) (L.faults link.new) (S.faults store.old)
-        (S.faults store.new) result }
+    ensures serves { ServesFrom L.Link S.Source link.old link.new store.old store.new result }
 {
     let mut len = 0;
     for number in 0..65536 {

@@ -6,11 +6,12 @@ ghost use Rattle.httparse.specs.Spans.{IsRequestOf, IsRequestWithin};
 ghost use Rattle.request_heads.specs.Asks.{bytes_of};
 ghost use Rattle.request_heads.specs.Words.{has_close};
 ghost use Rattle.std.specs.Option.{option_map};
-ghost use Rattle.vol_base.specs.Causes.{HasCause, HasCauseOf, Rose};
+ghost use Rattle.vol_base.specs.Calls.{ReadsFrom};
+ghost use Rattle.vol_base.specs.Causes.{Rose};
 ghost use Rattle.vol_base.specs.Outside.{OnlyReads};
 ghost use Rattle.range_server.specs.Ranges.{range_in};
 ghost use Rattle.range_server.specs.Replies.{IsPlanAt, numbered};
-ghost use Rattle.range_server.specs.Bodies.{HasBody, WhereTold};
+ghost use Rattle.range_server.specs.Bodies.{HasBody, WhereTold, failure};
 ghost use Rattle.range_server.specs.Plans.{IsPlan, IsSound, by_name, by_range, by_size, failed_reply, judged, object_name, part_of, refused, whole};
 
 use crate::range::{RangeAnswer, range_of};
@@ -127,9 +128,7 @@ fn plan_name<S: Source>(
     ensures body { IfOk result (λ reply. WhereTold (S.objects store.old) (λ m. HasBody m reply)) }
     ensures reply { IfOk result (λ reply. IfSome (S.objects store.old) (λ m.
         reply ≡ by_name m head_alone (option_map (λ b. b.now) range.entry) close name)) }
-    ensures kept { OnlyReads (S.objects store.old) (S.objects store.new) (S.draft store.old)
-        (S.draft store.new) }
-    ensures cause { HasCause (S.faults store.old) (S.faults store.new) result }
+    ensures reads { ReadsFrom S.Source failure store.old store.new result }
 {
     let Some(name) = name else {
         return Ok(refuse(404, close));
@@ -155,9 +154,7 @@ fn plan_parts<S: Source>(
     ensures reply { IfOk result (λ reply. IfSome (S.objects store.old) (λ m.
         reply ≡ judged m dataset.now body method.now target.now
         (option_map (λ b. b.now) range.entry) close)) }
-    ensures kept { OnlyReads (S.objects store.old) (S.objects store.new) (S.draft store.old)
-        (S.draft store.new) }
-    ensures cause { HasCause (S.faults store.old) (S.faults store.new) result }
+    ensures reads { ReadsFrom S.Source failure store.old store.new result }
 {
     if body {
         return Ok(refuse(400, true));
@@ -193,9 +190,7 @@ pub(crate) fn plan_head<S: Source>(
     ensures body { IfOk result (λ reply. WhereTold (S.objects store.old) (λ m. HasBody m reply)) }
     ensures reply { IfOk result (λ reply. IfSome (S.objects store.old) (λ m.
         IsPlan m dataset.now received.now reply)) }
-    ensures kept { OnlyReads (S.objects store.old) (S.objects store.new) (S.draft store.old)
-        (S.draft store.new) }
-    ensures cause { HasCauseOf StoreRefusal.Failed (S.faults store.old) (S.faults store.new) result }
+    ensures reads { ReadsFrom S.Source StoreRefusal.Failed store.old store.new result }
 {
     let Ok(fields) = read_fields(alloc, received, spans, parts) else {
         return Err(StoreRefusal::OutOfMemory);
@@ -284,9 +279,7 @@ pub(crate) fn plan_numbered<S: Source>(
     ensures reply { IfOk result (λ reply. WhereTold (S.objects store.old) (λ m.
         IsPlanAt number m dataset.now received.now reply)) }
     ensures last { IfOk result (λ reply. number ≡ 65535 → reply.close ≡ true) }
-    ensures kept { OnlyReads (S.objects store.old) (S.objects store.new) (S.draft store.old)
-        (S.draft store.new) }
-    ensures cause { HasCauseOf StoreRefusal.Failed (S.faults store.old) (S.faults store.new) result }
+    ensures reads { ReadsFrom S.Source StoreRefusal.Failed store.old store.new result }
 {
     match plan_head(alloc, received, spans, parts, store, dataset) {
         Ok(reply) => Ok(number_reply(number, reply)),

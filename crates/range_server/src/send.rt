@@ -1,10 +1,11 @@
 //! Bytes to a peer.
 ghost use Rattle.std.specs.Prelude.{◌≡◌, ◌≢◌, ◌+◌, ◌-◌, ◌<◌, ◌≤◌, ◌^◌, IfErr, length, Some, OnOk, OnErr};
+ghost use Rattle.vol_base.specs.Calls.{ReadsFrom};
 ghost use Rattle.vol_base.specs.Causes.{HasCause};
-ghost use Rattle.vol_base.specs.Outside.{OnlyReads, part};
+ghost use Rattle.vol_base.specs.Outside.{part};
 ghost use Rattle.range_server.specs.declared.fault.ServeFault.TheVariants.{OutOfMemory};
 ghost use Rattle.vol_base.specs.Gains.{Gains, GainsFront};
-ghost use Rattle.range_server.specs.Bodies.{CutsPart, HasServeCause, IsPiece, SendsPart, WhereTold, object_in};
+ghost use Rattle.range_server.specs.Bodies.{CutsPart, IsPiece, SendsPart, ServesFrom, WhereTold, failure, object_in};
 
 use crate::fault::ServeFault;
 use vol_base::{Failed, Got, Link, Name, Source};
@@ -37,9 +38,7 @@ pub(crate) fn read_piece<S: Source>(
     requires { at + length out.old < 2 ^ 64 }
     ensures bytes { OnOk result (WhereTold (S.objects store.old) (λ m.
         IsPiece (object_in m (Some name.now)) at out.old out.new)) }
-    ensures kept { OnlyReads (S.objects store.old) (S.objects store.new) (S.draft store.old)
-        (S.draft store.new) }
-    ensures cause { HasCause (S.faults store.old) (S.faults store.new) result }
+    ensures reads { ReadsFrom S.Source failure store.old store.new result }
 {
     let given = match store.read_at(name, at, out)? {
         Got::Absent => 0,
@@ -66,11 +65,7 @@ fn send_piece<L: Link, S: Source>(
         (L.sent link.new) fault)) }
     ensures memory { IfErr result (λ fault. fault ≢ OutOfMemory) }
     ensures left { L.left link.new ≡ L.left link.old }
-    ensures stream { L.stream link.new ≡ L.stream link.old }
-    ensures kept { OnlyReads (S.objects store.old) (S.objects store.new) (S.draft store.old)
-        (S.draft store.new) }
-    ensures cause { HasServeCause (L.faults link.old) (L.faults link.new) (S.faults store.old)
-        (S.faults store.new) result }
+    ensures serves { ServesFrom L.Link S.Source link.old link.new store.old store.new result }
 {
     match read_piece(store, name, at, piece) {
         Ok(()) => {}
@@ -99,11 +94,7 @@ pub(crate) fn send_rest<L: Link, S: Source>(
         CutsPart (object_in m (Some name.now)) from (end - from) (L.sent link.old) (L.sent link.new) fault)) }
     ensures memory { IfErr result (λ fault. fault ≢ OutOfMemory) }
     ensures left { L.left link.new ≡ L.left link.old }
-    ensures stream { L.stream link.new ≡ L.stream link.old }
-    ensures kept { OnlyReads (S.objects store.old) (S.objects store.new) (S.draft store.old)
-        (S.draft store.new) }
-    ensures cause { HasServeCause (L.faults link.old) (L.faults link.new) (S.faults store.old)
-        (S.faults store.new) result }
+    ensures serves { ServesFrom L.Link S.Source link.old link.new store.old store.new result }
 {
     let mut at = from;
     while at < end {

@@ -1,9 +1,9 @@
 //! Replies to a peer.
 ghost use Rattle.std.specs.Prelude.{◌≡◌, ◌≢◌, ◌+◌, ◌<◌, ◌≤◌, ◌++◌, ℕ, List, [], true, false, length, take, IfErr, IfOk, IsErrOf, OnOk};
-ghost use Rattle.vol_base.specs.Causes.{HasCause, Rose};
-ghost use Rattle.vol_base.specs.Outside.{OnlyReads};
+ghost use Rattle.vol_base.specs.Calls.{ReadsFrom};
+ghost use Rattle.vol_base.specs.Causes.{Rose};
 ghost use Rattle.vol_base.specs.Gains.{Gains};
-ghost use Rattle.range_server.specs.Bodies.{bad_bytes, Cuts, CutsReply, HasBody, HasServeCause, IsLead, Sends, WhereTold, body_in, failed_bytes, failures};
+ghost use Rattle.range_server.specs.Bodies.{bad_bytes, Cuts, CutsReply, HasBody, IsLead, Sends, ServesFrom, WhereTold, body_in, failed_bytes, failure, failures};
 ghost use Rattle.range_server.specs.Plans.{IsSound};
 ghost use Rattle.range_server.specs.declared.reply.Sent.TheVariants.{Broken};
 ghost use Rattle.range_server.specs.declared.fault.ServeFault.TheVariants.{LinkFault, OutOfMemory, StoreFault};
@@ -46,9 +46,7 @@ fn load_lead<S: Source>(
     ensures taken { IfOk result (λ r. r.1 ≤ reply.now.count) }
     ensures lead { IfOk result (λ r. WhereTold (S.objects store.old) (λ m. HasBody m reply.now →
         IsLead head.now (body_in m reply.now) r.1 (take r.0 piece.new))) }
-    ensures kept { OnlyReads (S.objects store.old) (S.objects store.new) (S.draft store.old)
-        (S.draft store.new) }
-    ensures cause { HasCause (S.faults store.old) (S.faults store.new) result }
+    ensures reads { ReadsFrom S.Source failure store.old store.new result }
 {
     let _total = reply.total;
     put_front(piece, head);
@@ -85,11 +83,7 @@ fn send_loaded<L: Link, S: Source>(
         (head : List ℕ) → IsLead head (body_in m reply.now) loaded.1 (take loaded.0 piece.old) →
         CutsReply head (body_in m reply.now) (L.sent link.old) (L.sent link.new) fault)) }
     ensures left { L.left link.new ≡ L.left link.old }
-    ensures stream { L.stream link.new ≡ L.stream link.old }
-    ensures kept { OnlyReads (S.objects store.old) (S.objects store.new) (S.draft store.old)
-        (S.draft store.new) }
-    ensures cause { HasServeCause (L.faults link.old) (L.faults link.new) (S.faults store.old)
-        (S.faults store.new) result }
+    ensures serves { ServesFrom L.Link S.Source link.old link.new store.old store.new result }
 {
     let total = reply.total;
     prove!(reply.from + reply.count <= total);
@@ -149,11 +143,7 @@ pub(crate) fn send_reply<L: Link, S: Source>(
     ensures failing { writer.new.failing ≡ true → Rose (S.faults store.old) (S.faults store.new) }
     ensures room { length writer.new.piece.items ≡ length writer.old.piece.items }
     ensures left { L.left link.new ≡ L.left link.old }
-    ensures stream { L.stream link.new ≡ L.stream link.old }
-    ensures kept { OnlyReads (S.objects store.old) (S.objects store.new) (S.draft store.old)
-        (S.draft store.new) }
-    ensures cause { HasServeCause (L.faults link.old) (L.faults link.new) (S.faults store.old)
-        (S.faults store.new) result }
+    ensures serves { ServesFrom L.Link S.Source link.old link.new store.old store.new result }
 {
     match write_head(&mut writer.text, reply) {
         Ok(()) => {}

@@ -25,10 +25,10 @@ loop-number-preserved g c =
       alive = elim (cases_eq (c.loop-number.number + 1) 65536) [ inl e ↦ absurd (last (omega (arith, e))) | inr apart ↦ below c.loop-number-test.true apart ];
       reached = λ m told stream all. reached_more m c.args.dataset.now stream c.loop-number.number waiting (pending c.serve_one.new.desk.received.items c.in-Ok-Next.more (g.L.Link.left c.serve_one.new.link)) (g.L.Link.sent c.args.link.now) sent next
           (c.loop-number.invariant.reached m told stream all) (λ rest is. on m (c.loop-number.invariant.kept.same_objects ∙ told) rest is);
-      stream = c.serve_one.ensures.stream ∙ c.loop-number.invariant.stream;
-      kept = record { same_objects = c.serve_one.ensures.kept.same_objects ∙ c.loop-number.invariant.kept.same_objects; same_draft = c.serve_one.ensures.kept.same_draft ∙ c.loop-number.invariant.kept.same_draft };
-      link_later = omega (arith, c.loop-number.invariant.link_later, c.serve_one.ensures.cause.link_later);
-      store_later = omega (arith, c.loop-number.invariant.store_later, c.serve_one.ensures.cause.store_later);
+      stream = c.serve_one.ensures.serves.stream ∙ c.loop-number.invariant.stream;
+      kept = record { same_objects = c.serve_one.ensures.serves.kept.same_objects ∙ c.loop-number.invariant.kept.same_objects; same_draft = c.serve_one.ensures.serves.kept.same_draft ∙ c.loop-number.invariant.kept.same_draft };
+      link_later = omega (arith, c.loop-number.invariant.link_later, c.serve_one.ensures.serves.cause.link_later);
+      store_later = omega (arith, c.loop-number.invariant.store_later, c.serve_one.ensures.serves.cause.store_later);
     }
   where
     below : {n : ℕ} → n < 65536 → (n + 1 ≡ 65536 → ⊥) → n + 1 < 65536

@@ -19,8 +19,8 @@ loop-at-preserved g c =
       gained = λ m told. more_sent (object_in m (Some c.args.name.now)) c.args.from c.loop-at.at c.min-n.result c.args.end (g.L.Link.sent c.args.link.now) (g.L.Link.sent c.loop-at.link) (g.L.Link.sent c.send_piece.new.link)
           c.loop-at.invariant.begun (omega (arith, c.min-n.ensures, c.loop-at.invariant.within)) (c.loop-at.invariant.gained m told) (subst (λ n. SendsPart (object_in m (Some c.args.name.now)) c.loop-at.at n (g.L.Link.sent c.loop-at.link) (g.L.Link.sent c.send_piece.new.link)) room (c.in-Ok.ensures.sent m (c.loop-at.invariant.kept.same_objects ∙ told)));
       left = c.send_piece.ensures.left ∙ c.loop-at.invariant.left;
-      stream = c.send_piece.ensures.stream ∙ c.loop-at.invariant.stream;
-      kept = record { same_objects = c.send_piece.ensures.kept.same_objects ∙ c.loop-at.invariant.kept.same_objects; same_draft = c.send_piece.ensures.kept.same_draft ∙ c.loop-at.invariant.kept.same_draft };
-      link_later = omega (arith, c.loop-at.invariant.link_later, c.send_piece.ensures.cause.link_later);
-      store_later = omega (arith, c.loop-at.invariant.store_later, c.send_piece.ensures.cause.store_later);
+      stream = c.send_piece.ensures.serves.stream ∙ c.loop-at.invariant.stream;
+      kept = record { same_objects = c.send_piece.ensures.serves.kept.same_objects ∙ c.loop-at.invariant.kept.same_objects; same_draft = c.send_piece.ensures.serves.kept.same_draft ∙ c.loop-at.invariant.kept.same_draft };
+      link_later = omega (arith, c.loop-at.invariant.link_later, c.send_piece.ensures.serves.cause.link_later);
+      store_later = omega (arith, c.loop-at.invariant.store_later, c.send_piece.ensures.serves.cause.store_later);
     }
