@@ -4,7 +4,7 @@ use Rattle.std.specs.Prelude.{Option, Some, None, IfSome, IsSome, slice_set}
 use Rattle.std.proofs.lemmas.Option.{same_Some}
 use Rattle.std.proofs.lemmas.Bool.Decides.{eqb_tells}
 use Rattle.std.proofs.lemmas.List.{length-set, get_or-set_same, get_or-set_other, get_or_append_left, get_or-append_right, get_or-drop, take_more}
-use Rattle.vol_base.specs.Outside.{Objects}
+use Rattle.vol_base.specs.Outside.{Draft, Objects}
 use Rattle.hall.specs.declared.outcome.Outcome.{Outcome}
 use Rattle.hall.specs.Halls.{IsIdle, IsRested, TellAll, TellsAs, Turned, kept_count, kept_weight}
 use Rattle.job_log.specs.Replay.{some_count}
@@ -80,10 +80,11 @@ pub told_more : {X : Type 0} (told : List X) (before now : List X) (i : ℕ) (x 
 told_more told before now i x d below was at is = is ∙ ap (λ xs. xs ++ x ∷ []) was ∙ ap (λ y. take i told ++ y ∷ []) at ∙ sym (take_more told i d below)
 
 -- a seat that did nothing
-pub rested_none : (told : List (Option Objects)) (counts : List ℕ) (i number : ℕ) (job : Option ℕ) (kept : Option Outcome) (o : Option Objects) (now parts amount : ℕ) → IsIdle told counts i number job kept o now parts amount → IsRested told counts i job kept o now parts amount
-rested_none told counts i number job kept o now parts amount idle = record {
+pub rested_none : (told : List (Option Objects)) (drafts : List (Option Draft)) (counts : List ℕ) (i number : ℕ) (job : Option ℕ) (kept : Option Outcome) (o : Option Objects) (draft : Option Draft) (now parts amount : ℕ) → IsIdle told drafts counts i number job kept o draft now parts amount → IsRested told drafts counts i job kept o draft now parts amount
+rested_none told drafts counts i number job kept o draft now parts amount idle = record {
   out = ap some_count idle.out ∙ sym (ap kept_count idle.back);
   store = idle.store;
+  writes = idle.writes;
   later = omega (arith, idle.stands);
   paid = inr (omega (arith, idle.stands, idle.none, ap kept_weight idle.back));
   part = idle.part;
@@ -125,5 +126,5 @@ some_kept f (Some x) None same h = absurd (cc same)
 some_kept f old (Some y) same h = refl
 some_kept f None None same h = h
 
-pub idle_own : (told : List (Option Objects)) (counts : List ℕ) (i number : ℕ) (job : Option ℕ) (kept : Option Outcome) (o : Option Objects) (now parts amount : ℕ) → IsIdle told counts i number job kept o now parts amount → IsIdle told counts number number job kept o now parts amount
-idle_own told counts i number job kept o now parts amount idle = subst (λ j. IsIdle told counts j number job kept o now parts amount) (sym idle.mine) idle
+pub idle_own : (told : List (Option Objects)) (drafts : List (Option Draft)) (counts : List ℕ) (i number : ℕ) (job : Option ℕ) (kept : Option Outcome) (o : Option Objects) (draft : Option Draft) (now parts amount : ℕ) → IsIdle told drafts counts i number job kept o draft now parts amount → IsIdle told drafts counts number number job kept o draft now parts amount
+idle_own told drafts counts i number job kept o draft now parts amount idle = subst (λ j. IsIdle told drafts counts j number job kept o draft now parts amount) (sym idle.mine) idle

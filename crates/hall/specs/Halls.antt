@@ -3,7 +3,7 @@ use Rattle.std.specs.Prelude.{Result, Ok, Err, ◌≡◌, ◌<◌, ◌≤◌, �
 use Rattle.job_log.specs.Onces.{one_if}
 use Rattle.job_log.specs.Replay.{some_count}
 use Rattle.vol_base.specs.Causes.{Rose, most_count}
-use Rattle.vol_base.specs.Outside.{Ended, Objects}
+use Rattle.vol_base.specs.Outside.{Draft, Ended, Objects}
 use Rattle.job_log.specs.declared.stages.Event.{Event}
 use Rattle.job_log.specs.declared.stages.Event.TheVariants.{Claim, Deposit}
 use Rattle.range_server.specs.Replies.{ServedIn, Stopped}
@@ -177,21 +177,23 @@ owed (outcome ∷ outcomes) = cut_weight outcome + owed outcomes
 
 -- a seat at the place i, before it serves: it has that number, nothing is out, and it has the store of its place, with a share that
 -- counts nothing
-pub record IsIdle (told : List (Option Objects)) (counts : List ℕ) (i number : ℕ) (job : Option ℕ) (kept : Option Outcome) (objects : Option Objects) (faults parts amount : ℕ) : Type 0 where
+pub record IsIdle (told : List (Option Objects)) (drafts : List (Option Draft)) (counts : List ℕ) (i number : ℕ) (job : Option ℕ) (kept : Option Outcome) (objects : Option Objects) (draft : Option Draft) (faults parts amount : ℕ) : Type 0 where
   pub mine : number ≡ i
   pub out : job ≡ None
   pub back : kept ≡ None
   pub tells : TellsAs told objects
   pub store : objects ≡ slice_index_or told i None
+  pub writes : draft ≡ slice_index_or drafts i None
   pub stands : faults ≡ slice_index_or counts i 0
   pub part : parts ≡ 1
   pub none : amount ≡ 0
 
 -- the same after it ended: a number is out exactly where an end came back, and the store's count rose by as many as its share and that
 -- end stand for
-pub record IsRested (told : List (Option Objects)) (counts : List ℕ) (i : ℕ) (job : Option ℕ) (kept : Option Outcome) (objects : Option Objects) (faults parts amount : ℕ) : Type 0 where
+pub record IsRested (told : List (Option Objects)) (drafts : List (Option Draft)) (counts : List ℕ) (i : ℕ) (job : Option ℕ) (kept : Option Outcome) (objects : Option Objects) (draft : Option Draft) (faults parts amount : ℕ) : Type 0 where
   pub out : some_count job ≡ kept_count kept
   pub store : objects ≡ slice_index_or told i None
+  pub writes : draft ≡ slice_index_or drafts i None
   pub later : slice_index_or counts i 0 ≤ faults
   pub paid : Paid (slice_index_or counts i 0) faults (amount + kept_weight kept)
   pub part : parts ≡ 1

@@ -1,17 +1,20 @@
 //! What all values of one hall have in common.
 ghost use Rattle.std.specs.Prelude.{◌≡◌, ℕ, List, [], Option, None};
-ghost use Rattle.vol_base.specs.Outside.{Objects};
+ghost use Rattle.vol_base.specs.Outside.{Draft, Objects};
 
 use job_log::Naming;
 use std::marker::{Brand, PhantomData};
 use std::sync::ledger::Ledger;
 use vol_base::Name;
 
-/// A hall's name: the data set, and of each store what it tells of its objects and its count of faults, as it was before.
+/// A hall's name: the data set, and of each store what it tells of its objects, the object being written and its count of
+/// faults, as it was before.
 pub trait Hall: Naming {
     ghost dataset: { List ℕ };
 
     ghost told: { List (Option Objects) };
+
+    ghost drafts: { List (Option Draft) };
 
     ghost counts: { List ℕ };
 
@@ -31,6 +34,8 @@ impl Hall for Brand {
     ghost dataset = { [] };
 
     ghost told = { [] };
+
+    ghost drafts = { [] };
 
     ghost counts = { [] };
 

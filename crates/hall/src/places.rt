@@ -33,11 +33,13 @@ fn run_place<
     gate: &G,
     place: &mut Option<Place<N, D::End, S>>,
 )
-    requires idle { IfSome place.old (λ p. IsIdle N.told N.counts p.seat.number p.seat.number p.seat.job
-        (option_map (λ k. k.outcome) p.kept) (S.objects p.store) (S.faults p.store) p.cuts.parts p.cuts.amount) }
+    requires idle { IfSome place.old (λ p. IsIdle N.told N.drafts N.counts p.seat.number p.seat.number
+        p.seat.job (option_map (λ k. k.outcome) p.kept) (S.objects p.store) (S.draft p.store) (S.faults p.store)
+        p.cuts.parts p.cuts.amount) }
     ensures numbers { option_map (λ p. p.seat.number) place.new ≡ option_map (λ p. p.seat.number) place.old }
-    ensures rested { IfSome place.new (λ p. IsRested N.told N.counts p.seat.number p.seat.job
-        (option_map (λ k. k.outcome) p.kept) (S.objects p.store) (S.faults p.store) p.cuts.parts p.cuts.amount) }
+    ensures rested { IfSome place.new (λ p. IsRested N.told N.drafts N.counts p.seat.number p.seat.job
+        (option_map (λ k. k.outcome) p.kept) (S.objects p.store) (S.draft p.store) (S.faults p.store)
+        p.cuts.parts p.cuts.amount) }
     ensures fits { IfSome place.new (λ p. IfSome p.kept (λ k. Fits N.told N.dataset k.outcome (D.End.stream k.end)
         (D.End.sent k.end) (D.End.faults k.end))) }
 {
@@ -67,14 +69,16 @@ where
     D::End: Send,
     requires some { 0 < length places.old }
     requires idle { (i : ℕ) (d : _) → i < length places.old →
-        IfSome (slice_index_or places.old i d) (λ p. IsIdle N.told N.counts p.seat.number p.seat.number p.seat.job
-        (option_map (λ k. k.outcome) p.kept) (S.objects p.store) (S.faults p.store) p.cuts.parts p.cuts.amount) }
+        IfSome (slice_index_or places.old i d) (λ p. IsIdle N.told N.drafts N.counts p.seat.number p.seat.number
+        p.seat.job (option_map (λ k. k.outcome) p.kept) (S.objects p.store) (S.draft p.store) (S.faults p.store)
+        p.cuts.parts p.cuts.amount) }
     ensures numbers { (i : ℕ) (d : _) → i < length places.old →
         option_map (λ p. p.seat.number) (slice_index_or places.new i d)
         ≡ option_map (λ p. p.seat.number) (slice_index_or places.old i d) }
     ensures rested { (i : ℕ) (d : _) → i < length places.old →
-        IfSome (slice_index_or places.new i d) (λ p. IsRested N.told N.counts p.seat.number p.seat.job
-        (option_map (λ k. k.outcome) p.kept) (S.objects p.store) (S.faults p.store) p.cuts.parts p.cuts.amount) }
+        IfSome (slice_index_or places.new i d) (λ p. IsRested N.told N.drafts N.counts p.seat.number p.seat.job
+        (option_map (λ k. k.outcome) p.kept) (S.objects p.store) (S.draft p.store) (S.faults p.store)
+        p.cuts.parts p.cuts.amount) }
     ensures fits { (i : ℕ) (d : _) → i < length places.old →
         IfSome (slice_index_or places.new i d) (λ p. IfSome p.kept (λ k. Fits N.told N.dataset k.outcome
         (D.End.stream k.end) (D.End.sent k.end) (D.End.faults k.end))) }
@@ -101,10 +105,12 @@ fn seat_place<N: Hall, E: Link + Drop, S: Source + Drop>(
     requires cuts { (1 < all.old.parts) × (all.old.amount ≡ 0) }
     requires tells { TellsAs N.told (S.objects store) }
     requires store { S.objects store ≡ slice_index_or N.told i None }
+    requires draft { S.draft store ≡ slice_index_or N.drafts i None }
     requires stands { S.faults store ≡ slice_index_or N.counts i 0 }
     ensures there { IsSome place.new }
-    ensures idle { IfSome place.new (λ p. IsIdle N.told N.counts i p.seat.number p.seat.job
-        (option_map (λ k. k.outcome) p.kept) (S.objects p.store) (S.faults p.store) p.cuts.parts p.cuts.amount) }
+    ensures idle { IfSome place.new (λ p. IsIdle N.told N.drafts N.counts i p.seat.number p.seat.job
+        (option_map (λ k. k.outcome) p.kept) (S.objects p.store) (S.draft p.store) (S.faults p.store)
+        p.cuts.parts p.cuts.amount) }
     ensures parts { host.new.parts + 1 ≡ host.old.parts }
     ensures outs { host.new.outs ≡ host.old.outs }
     ensures cuts { (all.new.parts + 1 ≡ all.old.parts) × (all.new.amount ≡ 0) }
@@ -131,10 +137,12 @@ fn seat_all<N: Hall, E: Link + Drop, S: Source + Drop>(
     requires parts { host.old.parts ≡ length places.old + 1 }
     requires cuts { (all.old.parts ≡ length places.old + 1) × (all.old.amount ≡ 0) }
     requires told { N.told ≡ map S.objects stores.old.items }
+    requires drafts { N.drafts ≡ map S.draft stores.old.items }
     requires counts { N.counts ≡ map S.faults stores.old.items }
     ensures idle { (i : ℕ) (d : _) → i < length places.old → IsSome (slice_index_or places.new i d)
-        × IfSome (slice_index_or places.new i d) (λ p. IsIdle N.told N.counts i p.seat.number p.seat.job
-        (option_map (λ k. k.outcome) p.kept) (S.objects p.store) (S.faults p.store) p.cuts.parts p.cuts.amount) }
+        × IfSome (slice_index_or places.new i d) (λ p. IsIdle N.told N.drafts N.counts i p.seat.number
+        p.seat.job (option_map (λ k. k.outcome) p.kept) (S.objects p.store) (S.draft p.store) (S.faults p.store)
+        p.cuts.parts p.cuts.amount) }
     ensures parts { host.new.parts ≡ 1 }
     ensures outs { host.new.outs ≡ host.old.outs }
     ensures cuts { (all.new.parts ≡ 1) × (all.new.amount ≡ 0) }
@@ -193,8 +201,8 @@ fn take_place<N: Hall, E: Link + Drop, S: Source + Drop>(
     place: Place<N, E, S>,
     i: usize,
 )
-    requires rested { IsRested N.told N.counts i place.seat.job (option_map (λ k. k.outcome) place.kept)
-        (S.objects place.store) (S.faults place.store) place.cuts.parts place.cuts.amount }
+    requires rested { IsRested N.told N.drafts N.counts i place.seat.job (option_map (λ k. k.outcome) place.kept)
+        (S.objects place.store) (S.draft place.store) (S.faults place.store) place.cuts.parts place.cuts.amount }
     requires fits { IfSome place.kept (λ k. Fits N.told N.dataset k.outcome (E.stream k.end) (E.sent k.end)
         (E.faults k.end)) }
     requires room { length stores.old.items < vec_capacity stores.old }
@@ -237,10 +245,12 @@ fn take_all<N: Hall, E: Link + Drop, S: Source + Drop>(
     places: &mut [Option<Place<N, E, S>>],
 )
     requires told { length N.told ≡ length places.old }
+    requires drafts { length N.drafts ≡ length places.old }
     requires counts { length N.counts ≡ length places.old }
     requires rested { (i : ℕ) (d : _) → i < length places.old → IsSome (slice_index_or places.old i d)
-        × IfSome (slice_index_or places.old i d) (λ p. IsRested N.told N.counts i p.seat.job
-        (option_map (λ k. k.outcome) p.kept) (S.objects p.store) (S.faults p.store) p.cuts.parts p.cuts.amount) }
+        × IfSome (slice_index_or places.old i d) (λ p. IsRested N.told N.drafts N.counts i p.seat.job
+        (option_map (λ k. k.outcome) p.kept) (S.objects p.store) (S.draft p.store) (S.faults p.store)
+        p.cuts.parts p.cuts.amount) }
     requires fits { (i : ℕ) (d : _) → i < length places.old →
         IfSome (slice_index_or places.old i d) (λ p. IfSome p.kept (λ k. Fits N.told N.dataset k.outcome
         (E.stream k.end) (E.sent k.end) (E.faults k.end))) }
@@ -254,6 +264,7 @@ fn take_all<N: Hall, E: Link + Drop, S: Source + Drop>(
     ensures outs { host.new.outs ≡ length left.new.items }
     ensures cuts { all.new.parts ≡ all.old.parts + length places.old }
     ensures told { map S.objects stores.new.items ≡ N.told }
+    ensures drafts { map S.draft stores.new.items ≡ N.drafts }
     ensures paid { PaidBy N.counts (map S.faults stores.new.items)
         (all.new.amount + owed (map (λ k. k.outcome) left.new.items)) }
     ensures later { NoneFell N.counts (map S.faults stores.new.items) }
@@ -293,11 +304,13 @@ where
     requires some { 0 < workers }
     requires few { workers ≤ length places.old }
     requires idle { (i : ℕ) (d : _) → i < length places.old → IsSome (slice_index_or places.old i d)
-        × IfSome (slice_index_or places.old i d) (λ p. IsIdle N.told N.counts i p.seat.number p.seat.job
-        (option_map (λ k. k.outcome) p.kept) (S.objects p.store) (S.faults p.store) p.cuts.parts p.cuts.amount) }
+        × IfSome (slice_index_or places.old i d) (λ p. IsIdle N.told N.drafts N.counts i p.seat.number
+        p.seat.job (option_map (λ k. k.outcome) p.kept) (S.objects p.store) (S.draft p.store) (S.faults p.store)
+        p.cuts.parts p.cuts.amount) }
     ensures rested { (i : ℕ) (d : _) → i < length places.old → IsSome (slice_index_or places.new i d)
-        × IfSome (slice_index_or places.new i d) (λ p. IsRested N.told N.counts i p.seat.job
-        (option_map (λ k. k.outcome) p.kept) (S.objects p.store) (S.faults p.store) p.cuts.parts p.cuts.amount) }
+        × IfSome (slice_index_or places.new i d) (λ p. IsRested N.told N.drafts N.counts i p.seat.job
+        (option_map (λ k. k.outcome) p.kept) (S.objects p.store) (S.draft p.store) (S.faults p.store)
+        p.cuts.parts p.cuts.amount) }
     ensures fits { (i : ℕ) (d : _) → i < length places.old →
         IfSome (slice_index_or places.new i d) (λ p. IfSome p.kept (λ k. Fits N.told N.dataset k.outcome
         (D.End.stream k.end) (D.End.sent k.end) (D.End.faults k.end))) }
@@ -345,6 +358,7 @@ where
     requires outs { host.old.outs ≡ 0 }
     requires cuts { (all.old.parts ≡ 17) × (all.old.amount ≡ 0) }
     requires told { N.told ≡ map S.objects stores.old.items }
+    requires drafts { N.drafts ≡ map S.draft stores.old.items }
     requires counts { N.counts ≡ map S.faults stores.old.items }
     requires left { left.old.items ≡ [] }
     requires left_room { 16 ≤ vec_capacity left.old }
@@ -354,6 +368,7 @@ where
     ensures cuts { all.new.parts ≡ 17 }
     ensures each { length stores.new.items ≡ 16 }
     ensures told { map S.objects stores.new.items ≡ N.told }
+    ensures drafts { map S.draft stores.new.items ≡ N.drafts }
     ensures paid { PaidBy N.counts (map S.faults stores.new.items)
         (all.new.amount + owed (map (λ k. k.outcome) left.new.items)) }
     ensures later { NoneFell N.counts (map S.faults stores.new.items) }

@@ -117,12 +117,14 @@ fn run_alone<N: Hall, D: Entrance + Drop, X: Exit<D::End> + Drop, S: Source + Dr
     requires outs { host.old.outs ≡ 0 }
     requires cuts { all.old.parts ≡ 17 }
     requires told { map S.objects stores.old.items ≡ N.told }
+    requires drafts { map S.draft stores.old.items ≡ N.drafts }
     requires paid { PaidBy N.counts (map S.faults stores.old.items) all.old.amount }
     requires later { NoneFell N.counts (map S.faults stores.old.items) }
     ensures parts { host.new.parts ≡ 17 }
     ensures outs { host.new.outs ≡ 0 }
     ensures cuts { all.new.parts ≡ 17 }
     ensures told { map S.objects stores.new.items ≡ N.told }
+    ensures drafts { map S.draft stores.new.items ≡ N.drafts }
     ensures paid { PaidBy N.counts (map S.faults stores.new.items) all.new.amount }
     ensures later { NoneFell N.counts (map S.faults stores.new.items) }
     ensures over { porch.new.failed ≡ false → porch.new.given ≡ N.jobs }
@@ -152,12 +154,14 @@ fn close_hall<N: Hall, D: Entrance + Drop, X: Exit<D::End> + Drop, S: Source + D
     requires none { host.old.outs ≡ 0 }
     requires cuts { all.old.parts ≡ N.parts }
     requires told { map S.objects stores.items ≡ N.told }
+    requires drafts { map S.draft stores.items ≡ N.drafts }
     requires paid { PaidBy N.counts (map S.faults stores.items) all.old.amount }
     requires later { NoneFell N.counts (map S.faults stores.items) }
     requires over { porch.failed ≡ false → porch.given ≡ N.jobs }
-    ensures { Finishes N.jobs N.dataset N.told N.counts (told_as N.bound N.accepted N.count) result.end
+    ensures { Finishes N.jobs N.dataset N.told N.drafts N.counts (told_as N.bound N.accepted N.count) result.end
         (told_as (D.bound result.entrance) (D.accepted result.entrance) (D.faults result.entrance))
-        (X.served result.exit) (map S.objects result.stores.items) (map S.faults result.stores.items) }
+        (X.served result.exit) (map S.objects result.stores.items)
+        (map S.draft result.stores.items) (map S.faults result.stores.items) }
 {
     let (entrance, mut given, failed) = porch.close();
     let (exit, ran_out) = middle.close(host, all, &mut given);
@@ -201,12 +205,14 @@ where
     requires places { length places.old ≡ 16 }
     requires each { length stores.items ≡ 16 }
     requires told { N.told ≡ map S.objects stores.items }
+    requires drafts { N.drafts ≡ map S.draft stores.items }
     requires counts { N.counts ≡ map S.faults stores.items }
     requires some { 0 < workers }
     requires few { workers ≤ 16 }
-    ensures { Finishes N.jobs N.dataset N.told N.counts (told_as N.bound N.accepted N.count) result.end
+    ensures { Finishes N.jobs N.dataset N.told N.drafts N.counts (told_as N.bound N.accepted N.count) result.end
         (told_as (D.bound result.entrance) (D.accepted result.entrance) (D.faults result.entrance))
-        (X.served result.exit) (map S.objects result.stores.items) (map S.faults result.stores.items) }
+        (X.served result.exit) (map S.objects result.stores.items)
+        (map S.draft result.stores.items) (map S.faults result.stores.items) }
 {
     let mut stores = stores;
     let mut left = left;
@@ -281,13 +287,15 @@ where
     requires noted { IfSome (X.served exit) (λ list. list ≡ []) }
     requires each { length stores.items ≡ 16 }
     requires told { N.told ≡ map S.objects stores.items }
+    requires drafts { N.drafts ≡ map S.draft stores.items }
     requires counts { N.counts ≡ map S.faults stores.items }
     requires dataset { dataset.now ≡ N.dataset }
     requires some { 0 < workers }
     requires few { workers ≤ 16 }
-    ensures { Finishes N.jobs N.dataset N.told N.counts (told_as N.bound N.accepted N.count) result.end
+    ensures { Finishes N.jobs N.dataset N.told N.drafts N.counts (told_as N.bound N.accepted N.count) result.end
         (told_as (D.bound result.entrance) (D.accepted result.entrance) (D.faults result.entrance))
-        (X.served result.exit) (map S.objects result.stores.items) (map S.faults result.stores.items) }
+        (X.served result.exit) (map S.objects result.stores.items)
+        (map S.draft result.stores.items) (map S.faults result.stores.items) }
 {
     let Ok(lists) = reserve_lists(alloc, total) else {
         return Finish {
@@ -366,6 +374,7 @@ where
         (X.served result.exit) (map S.faults stores.items) (map S.faults result.stores.items) }
     ensures stores_later { NoneFell (map S.faults stores.items) (map S.faults result.stores.items) }
     ensures kept { map S.objects result.stores.items ≡ map S.objects stores.items }
+    ensures draft { map S.draft result.stores.items ≡ map S.draft stores.items }
     ensures later { D.faults entrance ≤ D.faults result.entrance }
     ensures rose { result.end ≡ HallEnd.DoorFault → Rose (D.faults entrance) (D.faults result.entrance) }
     ensures stands { result.end ≡ HallEnd.All → D.faults result.entrance ≡ D.faults entrance }

@@ -62,13 +62,13 @@ pub(crate) fn run_seat<
     gate: &G,
     place: &mut Place<N, D::End, S>,
 )
-    requires idle { IsIdle N.told N.counts place.old.seat.number place.old.seat.number place.old.seat.job
-        (option_map (λ k. k.outcome) place.old.kept) (S.objects place.old.store) (S.faults place.old.store)
-        place.old.cuts.parts place.old.cuts.amount }
+    requires idle { IsIdle N.told N.drafts N.counts place.old.seat.number place.old.seat.number place.old.seat.job
+        (option_map (λ k. k.outcome) place.old.kept) (S.objects place.old.store) (S.draft place.old.store)
+        (S.faults place.old.store) place.old.cuts.parts place.old.cuts.amount }
     ensures number { place.new.seat.number ≡ place.old.seat.number }
-    ensures rested { IsRested N.told N.counts place.new.seat.number place.new.seat.job
-        (option_map (λ k. k.outcome) place.new.kept) (S.objects place.new.store) (S.faults place.new.store)
-        place.new.cuts.parts place.new.cuts.amount }
+    ensures rested { IsRested N.told N.drafts N.counts place.new.seat.number place.new.seat.job
+        (option_map (λ k. k.outcome) place.new.kept) (S.objects place.new.store) (S.draft place.new.store)
+        (S.faults place.new.store) place.new.cuts.parts place.new.cuts.amount }
     ensures fits { IfSome place.new.kept (λ k. Fits N.told N.dataset k.outcome (D.End.stream k.end)
         (D.End.sent k.end) (D.End.faults k.end)) }
 {

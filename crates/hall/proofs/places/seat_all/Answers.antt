@@ -12,6 +12,13 @@ seat_place-requires-clause-store g c =
     at_pop g.S.Source.objects c.args.stores.now.items c.loop-store.stores.items c.pop.new.self.items c.in-Some.store None c.loop-store.invariant.6 was
     ∙ ap (λ told. slice_index_or told (length c.pop.new.self.items) None) (sym c.requires.told) ∙ ap (λ j. slice_index_or g.N.Hall.told j None) (sym i)
 
+pub seat_place-requires-clause-draft : goal.seat_place-requires-clause-draft
+seat_place-requires-clause-draft g c =
+    let was : c.loop-store.stores.items ≡ c.pop.new.self.items ++ c.in-Some.store ∷ [] = search rules in
+    let i : c.len-i.result ≡ length c.pop.new.self.items = search rules in
+    at_pop g.S.Source.draft c.args.stores.now.items c.loop-store.stores.items c.pop.new.self.items c.in-Some.store None c.loop-store.invariant.6 was
+    ∙ ap (λ drafts. slice_index_or drafts (length c.pop.new.self.items) None) (sym c.requires.drafts) ∙ ap (λ j. slice_index_or g.N.Hall.drafts j None) (sym i)
+
 pub seat_place-requires-clause-stands : goal.seat_place-requires-clause-stands
 seat_place-requires-clause-stands g c =
     let was : c.loop-store.stores.items ≡ c.pop.new.self.items ++ c.in-Some.store ∷ [] = search rules in
@@ -37,7 +44,7 @@ loop-store-preserved g c =
     let i : c.len-i.result ≡ length c.pop.new.self.items = search rules in
     let one : length c.loop-store.stores.items ≡ length c.pop.new.self.items + 1 = ap length was ∙ length-append c.pop.new.self.items (c.in-Some.store ∷ []) in
     let here = put_below c.loop-store.places c.len-i.result c.seat_place.new.place
-    (λ i o. IsSome o × IfSome o (λ p. IsIdle g.N.Hall.told g.N.Hall.counts i p.seat.number p.seat.job (option_map (λ k. k.outcome) p.kept) (g.S.Source.objects p.store) (g.S.Source.faults p.store) p.cuts.parts p.cuts.amount))
+    (λ i o. IsSome o × IfSome o (λ p. IsIdle g.N.Hall.told g.N.Hall.drafts g.N.Hall.counts i p.seat.number p.seat.job (option_map (λ k. k.outcome) p.kept) (g.S.Source.objects p.store) (g.S.Source.draft p.store) (g.S.Source.faults p.store) p.cuts.parts p.cuts.amount))
     (omega (arith, i, one, inv.4)) (e.there, e.idle) (λ k d from l. inv.7 k d (omega (arith, i, one, from)) l) in (
       omega (arith, e.parts, inv.0, one),
       e.outs ∙ inv.1,

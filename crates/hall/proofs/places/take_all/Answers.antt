@@ -8,7 +8,7 @@ use Rattle.hall.proofs.places.take_all.Goals as goal
 pub take_place-requires-clause-rested : goal.take_place-requires-clause-rested
 take_place-requires-clause-rested g c =
     let o = c.index-places-i.result in
-    at_place c.loop-i.places c.loop-i.i o c.in-Some.place (λ p. IsRested g.N.Hall.told g.N.Hall.counts c.loop-i.i p.seat.job (option_map (λ k. k.outcome) p.kept) (g.S.Source.objects p.store) (g.S.Source.faults p.store) p.cuts.parts p.cuts.amount)
+    at_place c.loop-i.places c.loop-i.i o c.in-Some.place (λ p. IsRested g.N.Hall.told g.N.Hall.drafts g.N.Hall.counts c.loop-i.i p.seat.job (option_map (λ k. k.outcome) p.kept) (g.S.Source.objects p.store) (g.S.Source.draft p.store) (g.S.Source.faults p.store) p.cuts.parts p.cuts.amount)
     c.index-places-i.is (c.index-places-i.is ∙ sym c.take.ensures.value ∙ c.in-Some.is) ((c.loop-i.invariant.10 c.loop-i.i o (omega arith) (search rules)).1)
 
 pub take_place-requires-clause-fits : goal.take_place-requires-clause-fits
@@ -24,14 +24,16 @@ loop-i-preserved g c =
     let i = c.loop-i.i in
     let place = c.in-Some.place in
     let o = c.index-places-i.result in
-    let rested : IsRested g.N.Hall.told g.N.Hall.counts i place.seat.job (option_map (λ k. k.outcome) place.kept) (g.S.Source.objects place.store) (g.S.Source.faults place.store) place.cuts.parts place.cuts.amount =
-    at_place c.loop-i.places i o place (λ p. IsRested g.N.Hall.told g.N.Hall.counts i p.seat.job (option_map (λ k. k.outcome) p.kept) (g.S.Source.objects p.store) (g.S.Source.faults p.store) p.cuts.parts p.cuts.amount)
+    let rested : IsRested g.N.Hall.told g.N.Hall.drafts g.N.Hall.counts i place.seat.job (option_map (λ k. k.outcome) place.kept) (g.S.Source.objects place.store) (g.S.Source.draft place.store) (g.S.Source.faults place.store) place.cuts.parts place.cuts.amount =
+    at_place c.loop-i.places i o place (λ p. IsRested g.N.Hall.told g.N.Hall.drafts g.N.Hall.counts i p.seat.job (option_map (λ k. k.outcome) p.kept) (g.S.Source.objects p.store) (g.S.Source.draft p.store) (g.S.Source.faults p.store) p.cuts.parts p.cuts.amount)
     c.index-places-i.is (c.index-places-i.is ∙ sym c.take.ensures.value ∙ c.in-Some.is) ((inv.10 i o (omega arith) (search rules)).1) in
     let below : i < length c.loop-i.places = search rules in
     let told : i < length g.N.Hall.told = search rules in
     let counts : i < length g.N.Hall.counts = search rules in
+    let drafts : i < length g.N.Hall.drafts = search rules in
     let objects = g.S.Source.objects in
     let faults = g.S.Source.faults in
+    let draft = g.S.Source.draft in
     let stores = c.loop-i.stores.items in (
       omega (arith, t.parts, inv.0),
       t.outs,
@@ -44,9 +46,10 @@ loop-i-preserved g c =
       omega (arith, t.room, inv.7),
       omega (arith, t.left_room, inv.8),
       t.left,
-      after_take c.loop-i.places i c.take.new.self (λ i o. IsSome o × IfSome o (λ p. IsRested g.N.Hall.told g.N.Hall.counts i p.seat.job (option_map (λ k. k.outcome) p.kept) (g.S.Source.objects p.store) (g.S.Source.faults p.store) p.cuts.parts p.cuts.amount)) inv.10,
+      after_take c.loop-i.places i c.take.new.self (λ i o. IsSome o × IfSome o (λ p. IsRested g.N.Hall.told g.N.Hall.drafts g.N.Hall.counts i p.seat.job (option_map (λ k. k.outcome) p.kept) (g.S.Source.objects p.store) (g.S.Source.draft p.store) (g.S.Source.faults p.store) p.cuts.parts p.cuts.amount)) inv.10,
       after_take c.loop-i.places i c.take.new.self (λ i o. IfSome o (λ p. IfSome p.kept (λ k. Fits g.N.Hall.told g.N.Hall.dataset k.outcome (g.E.Link.stream k.end) (g.E.Link.sent k.end) (g.E.Link.faults k.end)))) inv.11,
       none_step g.N.Hall.counts (map faults stores) (map faults c.take_place.new.stores.items) i (faults place.store) counts inv.12 rested.later (ap (map faults) t.stores ∙ map-append faults stores (place.store ∷ [])),
+      told_more g.N.Hall.drafts (map draft stores) (map draft c.take_place.new.stores.items) i (draft place.store) None drafts inv.13 rested.writes (ap (map draft) t.stores ∙ map-append draft stores (place.store ∷ [])),
     )
 
 pub returns-clause-paid : goal.returns-clause-paid

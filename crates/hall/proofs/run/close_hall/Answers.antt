@@ -24,6 +24,7 @@ returns g c =
           (each_by ran failed g.N.Hall.told g.N.Hall.dataset (g.X.Exit.served c.close-exit.result.0) g.N.Hall.counts (map g.S.Source.faults c.args.stores.items) c.args.all.now.amount c.requires.paid c.close-exit.ensures.each);
       stores_later = c.requires.later;
       told = c.requires.told;
+      writes = c.requires.drafts;
       later = c.close-entrance.ensures.later;
       rose =
           λ e. rose_by ran failed g.N.Hall.count (g.D.Entrance.faults c.close-entrance.result.0) (λ f. c.close-entrance.ensures.rose (sym c.close-entrance.ensures.failed ∙ f)) (sym c.end_of.ensures ∙ e);

@@ -11,6 +11,7 @@ abbrev pub ghosts-run_named-N-Hall : goal.ghosts-run_named-N-Hall
 ghosts-run_named-N-Hall g a = record {
   dataset = a.dataset.now;
   told = map g.S.Source.objects a.stores.items;
+  drafts = map g.S.Source.draft a.stores.items;
   counts = map g.S.Source.faults a.stores.items;
   bound = g.D.Entrance.bound a.entrance;
   accepted = g.D.Entrance.accepted a.entrance;

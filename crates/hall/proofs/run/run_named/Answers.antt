@@ -22,6 +22,7 @@ returns-in_default g c =
       each = each_none g.N.Hall.told g.N.Hall.dataset (is_short ended.OutOfMemory) (g.X.Exit.served c.args.exit) g.N.Hall.counts counts c.requires.noted (sym c.requires.counts);
       stores_later = subst (λ before. NoneFell before counts) (sym c.requires.counts) (none_stands counts);
       told = sym c.requires.told;
+      writes = sym c.requires.drafts;
       later = later;
       rose = λ e. absurd (cc e);
       stands = λ e. absurd (cc e);
