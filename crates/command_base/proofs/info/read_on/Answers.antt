@@ -23,5 +23,8 @@ returns-clause-read g c =
     ∙ ap (λ xs. c.args.document.items ++ xs) (ap (take c.in_ok-more.more) c.deref.ensures.value ∙ front_of c.in_ok-more.more _ c.read_piece.new.piece _ (omega (arith, c.deref_mut.ensures.len, c.in_ok-more.ensures.few)) (omega (arith, c.read_piece.auto.piece, c.in_ok-more.ensures.few))))
     c.judge_info.ensures.judged))
 
-pub returns-clause-cause : goal.returns-clause-cause
-returns-clause-cause g c = judged_cause c.judge_info.result c.in_ok-more.more _ _ c.judge_info.ensures.unasked c.in_ok-more.ensures.cause
+pub returns-clause-reads : goal.returns-clause-reads
+returns-clause-reads g c = record {
+  kept = c.read_piece.ensures.reads.kept;
+  cause = judged_cause c.judge_info.result c.in_ok-more.more _ _ c.judge_info.ensures.unasked c.in_ok-more.ensures.reads.cause;
+}
