@@ -71,15 +71,7 @@ pub(crate) fn read_stored<S: Source>(
     match origin.scale.sharding {
         Some(sharding) => {
             let id = chunk_id(&origin.scale, cell);
-            shards.read_chunk(
-                store,
-                &origin.dataset,
-                &origin.scale,
-                &sharding,
-                limit,
-                id,
-                buffer,
-            )
+            shards.read_chunk(store, origin, &sharding, limit, id, buffer)
         }
         None => {
             let name = object_name(&origin.dataset, &origin.scale, cell);

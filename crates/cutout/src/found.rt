@@ -48,7 +48,7 @@ fn find_span<S: Source>(
 {
     let limit = chunk_limit(&origin.scale, cell);
     shards.forget();
-    shards.locate(store, &origin.dataset, &origin.scale, sharding, limit, id)
+    shards.locate(store, origin, sharding, limit, id)
 }
 
 // The name of the shard that the chunk of an id belongs into.

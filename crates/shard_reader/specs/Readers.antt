@@ -1,5 +1,6 @@
 -- What a reader of shards keeps between two look-ups, as its calls say it (this project's).
 use Rattle.std.specs.Prelude.{◌≡◌, ℕ, ◌+◌, ◌-◌, ◌*◌, ◌<◌, ◌≤◌, ◌==◌, ◌&&◌, Option, None, Some, if◌then◌else◌}
+use Rattle.std.specs.FinMap as map
 use Rattle.minishard.specs.Walks.{Progress}
 use Rattle.vol_base.specs.Outside.{Objects, part}
 use Rattle.vol_spec.specs.Places.{minishard_of, shard_of}
@@ -8,6 +9,7 @@ use Rattle.vol_spec.specs.ShardNames.{shard_name}
 use Rattle.vol_spec.specs.Types.{Bytes, Name}
 use Rattle.vol_spec.specs.declared.scale.Scale.{Scale}
 use Rattle.vol_spec.specs.declared.sharding.Sharding.{Sharding}
+use Rattle.vol_spec.specs.declared.stored_scale.StoredScale.{StoredScale}
 use Rattle.shard_reader.specs.Keeping.{IsOf, KeepsIndex}
 use Rattle.shard_reader.specs.Reading.{EndsAt, resumed}
 use Rattle.shard_reader.specs.declared.kept.KeptIndex.{KeptIndex}
@@ -18,6 +20,10 @@ abbrev pub Keeps : Option Objects → Name → Scale → Sharding → ShardReade
 Keeps objects dataset s sharding reader = KeepsIndex objects
     (shard_name dataset s) sharding reader.kept reader.window.before reader.window.count
     reader.window.columns.bytes
+
+-- the object of the shard that an id belongs into
+abbrev pub object_of : Objects → StoredScale → Sharding → ℕ → Option Bytes
+object_of m stored sharding id = map.get m (shard_name stored.dataset stored.scale (shard_of sharding id))
 
 -- it keeps nothing: whatever the objects are
 abbrev pub KeepsNothing : ShardReader → Type 0

@@ -5,7 +5,6 @@ ghost use Rattle.shard_reader.specs.Keeping.{IsKept, IsOf};
 ghost use Rattle.shard_reader.specs.Reading.{Answers, chunk_bytes, chunk_cost, cost_of, found_of, Gets, IsWindow, OnIndex, Opens};
 ghost use Rattle.vol_base.specs.Calls.{ReadsFrom};
 ghost use Rattle.vol_spec.specs.Costs.{span_cost};
-ghost use Rattle.vol_spec.specs.Places.{shard_of};
 ghost use Rattle.vol_spec.specs.ShardNames.{shard_name};
 
 use crate::bytes::LookupFault;
@@ -18,7 +17,7 @@ use crate::window::Window;
 use chunk_pool::Frame;
 use shard_index::{ShardPlace, place, shard_name};
 use vol_base::{Name, Source};
-use vol_spec::{ChunkSpan, Scale, Sharding};
+use vol_spec::{ChunkSpan, Sharding, StoredScale};
 
 /// Finds and reads chunks in the shards of a scale by byte ranges alone. It keeps the index that it
 /// opened last, with a window of its rows, so that the next look-up may go on from there; that is of use
@@ -50,7 +49,7 @@ fn kept_of(kept: &Option<KeptIndex>, place: &ShardPlace) -> Option<OpenedIndex>
 }
 
 impl ShardReader {
-    ghost use Rattle.shard_reader.specs.Readers.{AsksOnce, EndsKept, Keeps, KeepsNothing, KeepsOf, rows_left, rows_past};
+    ghost use Rattle.shard_reader.specs.Readers.{AsksOnce, EndsKept, Keeps, KeepsNothing, KeepsOf, object_of, rows_left, rows_past};
 
     /// A reader that keeps nothing, over a frame of `WINDOW_LEN` bytes.
     pub fn new(window: Frame) -> ShardReader
@@ -74,15 +73,14 @@ impl ShardReader {
     fn open<S: Source>(
         &mut self,
         store: &mut S,
-        dataset: &Name,
-        scale: &Scale,
+        stored: &StoredScale,
         name: &Name,
         sharding: &Sharding,
         place: &ShardPlace,
     ) -> Result<Option<OpenedIndex>, LookupFault>
         requires minishard { place.now.minishard < 2 ^ sharding.now.minishard_bits }
-        requires name { name.now ≡ shard_name dataset.now scale.now place.now.shard }
-        requires keeps { Keeps (S.objects store.old) dataset.now scale.now sharding.now self.old }
+        requires name { name.now ≡ shard_name stored.now.dataset stored.now.scale place.now.shard }
+        requires keeps { Keeps (S.objects store.old) stored.now.dataset stored.now.scale sharding.now self.old }
         ensures opened { IfSome (S.objects store.old) (λ m.
             Opens sharding.now place.now.minishard (map.get m name.now) result) }
         ensures few { IfOk result (λ o. IfSome o (λ opened. opened.index.rows ≤ 2 ^ 22)) }
@@ -129,52 +127,47 @@ impl ShardReader {
     pub fn locate<S: Source>(
         &mut self,
         store: &mut S,
-        dataset: &Name,
-        scale: &Scale,
+        stored: &StoredScale,
         sharding: &Sharding,
         limit: u64,
         id: u64,
     ) -> Result<Option<ChunkSpan>, LookupFault>
-        requires dataset { length dataset.now ≤ 200 }
-        requires sharding { scale.now.sharding ≡ Some sharding.now }
-        requires keeps { Keeps (S.objects store.old) dataset.now scale.now sharding.now self.old }
+        requires sharding { stored.now.scale.sharding ≡ Some sharding.now }
+        requires keeps { Keeps (S.objects store.old) stored.now.dataset stored.now.scale sharding.now self.old }
         ensures found { IfSome (S.objects store.old) (λ m.
-            Answers (found_of (map.get m (shard_name dataset.now scale.now
-            (shard_of sharding.now id))) sharding.now limit id) result) }
+            Answers (found_of (object_of m stored.now sharding.now id) sharding.now limit id) result) }
         ensures short { IfOk result (λ span. IfSome span (λ s. s.len ≤ limit)) }
         ensures within { IfOk result (λ span. IfSome span (λ s. s.start + s.len < 2 ^ 64)) }
-        ensures keeps { Keeps (S.objects store.old) dataset.now scale.now sharding.now self.new }
+        ensures keeps { Keeps (S.objects store.old) stored.now.dataset stored.now.scale sharding.now self.new }
         ensures reads { ReadsFrom S.Source LookupFault.NotRead store.old store.new result }
         ensures still { IfErr result (λ fault. fault ≢ LookupFault.NotRead → S.faults store.new ≡ S.faults store.old) }
 
         // The bytes asked for: an entry and an index, less what is kept of them, and none where the look-up
         // ends at a row that is kept.
         ensures asked { IfSome (S.objects store.old) (λ m.
-            S.asked store.new ≤ S.asked store.old + cost_of
-            (map.get m (shard_name dataset.now scale.now (shard_of sharding.now id))) sharding.now id) }
+            S.asked store.new ≤ S.asked store.old
+            + cost_of (object_of m stored.now sharding.now id) sharding.now id) }
         ensures once { IfSome (S.objects store.old) (λ m.
-            S.asked store.new + 24 * rows_past self.old sharding.now id ≤ S.asked store.old + cost_of
-            (map.get m (shard_name dataset.now scale.now (shard_of sharding.now id))) sharding.now id) }
+            S.asked store.new + 24 * rows_past self.old sharding.now id ≤ S.asked store.old
+            + cost_of (object_of m stored.now sharding.now id) sharding.now id) }
         ensures onward { IfSome (S.objects store.old) (λ _. OnOk result (AsksOnce sharding.now id self.old
             self.new (S.asked store.old) (S.asked store.new) 16)) }
         ensures asked_most { S.asked store.new ≤ S.asked store.old + (16 + 24 * 2 ^ 22) }
         ensures asked_left { IfSome (rows_left self.old sharding.now id) (λ rows.
             S.asked store.new ≤ S.asked store.old + 24 * rows) }
         ensures again { IfSome (S.objects store.old) (λ m.
-            EndsKept self.old sharding.now id (map.get m
-            (shard_name dataset.now scale.now (shard_of sharding.now id))) →
+            EndsKept self.old sharding.now id (object_of m stored.now sharding.now id) →
             S.asked store.new ≡ S.asked store.old) }
 
         // Behind a look-up that found a chunk its index is kept, and the row at which it ended: the same look-up
         // again asks for nothing.
         ensures stays { IfOk result (λ span. IfSome span (λ _. KeepsOf self.new sharding.now id)) }
-        ensures ends { IfSome (S.objects store.old) (λ m.
-            IfOk result (λ span. IfSome span (λ _. EndsKept self.new sharding.now id
-            (map.get m (shard_name dataset.now scale.now (shard_of sharding.now id)))))) }
+        ensures ends { IfSome (S.objects store.old) (λ m. IfOk result (λ span. IfSome span (λ _.
+            EndsKept self.new sharding.now id (object_of m stored.now sharding.now id)))) }
     {
         let place = place(sharding, id);
-        let name = shard_name(dataset, scale, place.shard);
-        match self.open(store, dataset, scale, &name, sharding, &place) {
+        let name = shard_name(&stored.dataset, &stored.scale, place.shard);
+        match self.open(store, stored, &name, sharding, &place) {
             Err(fault) => Err(fault),
             Ok(None) => Ok(None),
             Ok(Some(opened)) => find_chunk(
@@ -194,44 +187,40 @@ impl ShardReader {
     pub fn read_chunk<S: Source>(
         &mut self,
         store: &mut S,
-        dataset: &Name,
-        scale: &Scale,
+        stored: &StoredScale,
         sharding: &Sharding,
         limit: u64,
         id: u64,
         buffer: &mut [u8],
     ) -> Result<Option<u64>, LookupFault>
-        requires dataset { length dataset.now ≤ 200 }
-        requires sharding { scale.now.sharding ≡ Some sharding.now }
+        requires sharding { stored.now.scale.sharding ≡ Some sharding.now }
         requires room { limit ≤ length buffer.old }
-        requires keeps { Keeps (S.objects store.old) dataset.now scale.now sharding.now self.old }
+        requires keeps { Keeps (S.objects store.old) stored.now.dataset stored.now.scale sharding.now self.old }
         ensures gets { IfSome (S.objects store.old) (λ m.
-            Gets result buffer.new (chunk_bytes (map.get m
-            (shard_name dataset.now scale.now (shard_of sharding.now id))) sharding.now limit id)) }
+            Gets result buffer.new (chunk_bytes (object_of m stored.now sharding.now id) sharding.now limit id)) }
         ensures short { IfOk result (λ n. IfSome n (λ len. len ≤ limit)) }
-        ensures keeps { Keeps (S.objects store.old) dataset.now scale.now sharding.now self.new }
+        ensures keeps { Keeps (S.objects store.old) stored.now.dataset stored.now.scale sharding.now self.new }
         ensures stays { IfOk result (λ n. IfSome n (λ _. KeepsOf self.new sharding.now id)) }
-        ensures ends { IfSome (S.objects store.old) (λ m.
-            IfOk result (λ n. IfSome n (λ _. EndsKept self.new sharding.now id
-            (map.get m (shard_name dataset.now scale.now (shard_of sharding.now id)))))) }
+        ensures ends { IfSome (S.objects store.old) (λ m. IfOk result (λ n. IfSome n (λ _.
+            EndsKept self.new sharding.now id (object_of m stored.now sharding.now id)))) }
         ensures reads { ReadsFrom S.Source LookupFault.NotRead store.old store.new result }
         ensures asked { IfSome (S.objects store.old) (λ m.
-            S.asked store.new ≤ S.asked store.old + chunk_cost
-            (map.get m (shard_name dataset.now scale.now (shard_of sharding.now id))) sharding.now limit id) }
+            S.asked store.new ≤ S.asked store.old
+            + chunk_cost (object_of m stored.now sharding.now id) sharding.now limit id) }
 
         // Less what is kept of the index; and what was read of it needn't be read for an id behind this one.
         ensures once { IfSome (S.objects store.old) (λ m.
-            S.asked store.new + 24 * rows_past self.old sharding.now id ≤ S.asked store.old + chunk_cost
-            (map.get m (shard_name dataset.now scale.now (shard_of sharding.now id))) sharding.now limit id) }
+            S.asked store.new + 24 * rows_past self.old sharding.now id ≤ S.asked store.old
+            + chunk_cost (object_of m stored.now sharding.now id) sharding.now limit id) }
         ensures onward { IfSome (S.objects store.old) (λ m. OnOk result (AsksOnce sharding.now id self.old
-            self.new (S.asked store.old) (S.asked store.new) (16 + span_cost (found_of
-            (map.get m (shard_name dataset.now scale.now (shard_of sharding.now id))) sharding.now limit id)))) }
+            self.new (S.asked store.old) (S.asked store.new)
+            (16 + span_cost (found_of (object_of m stored.now sharding.now id) sharding.now limit id)))) }
     {
-        match self.locate(store, dataset, scale, sharding, limit, id) {
+        match self.locate(store, stored, sharding, limit, id) {
             Err(fault) => Err(fault),
             Ok(None) => Ok(None),
             Ok(Some(span)) => {
-                let name = shard_name(dataset, scale, place(sharding, id).shard);
+                let name = shard_name(&stored.dataset, &stored.scale, place(sharding, id).shard);
                 match read_span(store, &name, &span, buffer) {
                     Err(fault) => Err(fault),
                     Ok(()) => Ok(Some(span.len)),

@@ -11,7 +11,7 @@ use std::alloc::{AllocError, Global};
 use std::process::Abort;
 use std::test::Fail;
 use vol_base::{Fault, IndexFault, MemoryStore, Name, ShardFault};
-use vol_spec::{ChunkSizes, ChunkSpan, Encoding, HashKind, Scale, Sharding};
+use vol_spec::{ChunkSizes, ChunkSpan, Encoding, HashKind, Scale, Sharding, StoredScale};
 
 fn name(rt: &impl Abort, text: &[u8]) -> Name
     ensures { length result ≤ 200 }
@@ -46,6 +46,16 @@ fn one_voxel(key: Name, sharding: Sharding) -> Scale
         encoding: Encoding::Raw,
         sharding: Some(sharding),
         more: ChunkSizes::none(),
+    }
+}
+
+// The scale `s` of one voxel, of the data set `d`.
+fn stored_voxel(rt: &impl Abort, sharding: Sharding) -> StoredScale
+    ensures { result.scale.sharding ≡ Some sharding }
+{
+    StoredScale {
+        dataset: name(rt, b"d"),
+        scale: one_voxel(name(rt, b"s"), sharding),
     }
 }
 
@@ -88,19 +98,17 @@ fn check_row(
     rt: &impl Abort,
     reader: &mut ShardReader,
     store: &mut MemoryStore,
-    dataset: &Name,
-    scale: &Scale,
+    stored: &StoredScale,
     sharding: &Sharding,
     id: u64,
     wanted: Result<Option<ChunkSpan>, LookupFault>,
     asked: u64,
 )
-    requires dataset { length dataset.now ≤ 200 }
-    requires sharding { scale.now.sharding ≡ Some sharding.now }
-    requires keeps { Keeps (Some (seen store.old).objects) dataset.now scale.now sharding.now reader.old }
-    ensures { Keeps (Some (seen store.new).objects) dataset.now scale.now sharding.now reader.new }
+    requires sharding { stored.now.scale.sharding ≡ Some sharding.now }
+    requires keeps { Keeps (Some (seen store.old).objects) stored.now.dataset stored.now.scale sharding.now reader.old }
+    ensures { Keeps (Some (seen store.new).objects) stored.now.dataset stored.now.scale sharding.now reader.new }
 {
-    let found = reader.locate(store, dataset, scale, sharding, 1, id);
+    let found = reader.locate(store, stored, sharding, 1, id);
     assert_eq!(rt; found, wanted);
     assert_eq!(rt; store.asked(), asked);
 }
@@ -122,9 +130,8 @@ fn walks_windows(rt: HostRuntime) -> Result<(), Fail> {
     put_rows(2500, 2300, &mut object[2516..]);
     let mut store = MemoryStore::new(alloc, Vec::new(alloc));
     store.put(&name(&rt, b"d/s/0.shard"), object)?;
-    let dataset = name(&rt, b"d");
     let sharding = one_minishard();
-    let scale = one_voxel(name(&rt, b"s"), sharding);
+    let stored = stored_voxel(&rt, sharding);
     let mut reader = reader(&rt, alloc)?;
     let bad = Err(LookupFault::Faulty(Fault::Index(IndexFault::BadId { row: 2300 })));
     let looks = [
@@ -146,8 +153,7 @@ fn walks_windows(rt: HostRuntime) -> Result<(), Fail> {
             &rt,
             &mut reader,
             &mut store,
-            &dataset,
-            &scale,
+            &stored,
             &sharding,
             id,
             wanted,
@@ -187,11 +193,10 @@ fn read_one(
 ) -> Result<Result<Option<u64>, LookupFault>, Fail> {
     let mut store = store_of_one(alloc, entry, row, failing)?;
     let mut reader = reader(rt, alloc)?;
-    let dataset = name(rt, b"d");
     let sharding = one_minishard();
-    let scale = one_voxel(name(rt, b"s"), sharding);
+    let stored = stored_voxel(rt, sharding);
     let mut buffer = [0; 1];
-    let read = reader.read_chunk(&mut store, &dataset, &scale, &sharding, 1, 0, &mut buffer);
+    let read = reader.read_chunk(&mut store, &stored, &sharding, 1, 0, &mut buffer);
     if read == Ok(Some(1)) {
         assert!(rt; buffer == [7] && store.asked() == 41);
     }
