@@ -80,7 +80,7 @@ seg_narrow s cell block bytes x y z c seg h =
     let same : width (sizes_in s cell) ≡ s.width = width_is s cell block seg in
     number-lt s.width (take (width (sizes_in s cell)) (drop from bytes)) (omega (arith, length-take (width (sizes_in s cell)) (drop from bytes))) (bytes_part (width (sizes_in s cell)) from bytes h)
 
-value_narrow : (s : Scale) (cell bytes : List ℕ) (p : List ℤ) (c : ℕ) → AreBytes bytes → value_at s cell bytes p c < 256 ^ s.width
+pub value_narrow : (s : Scale) (cell bytes : List ℕ) (p : List ℤ) (c : ℕ) → AreBytes bytes → value_at s cell bytes p c < 256 ^ s.width
 value_narrow s cell bytes p c h = by s.encoding refl
   where
     by : (e : Encoding) → s.encoding ≡ e

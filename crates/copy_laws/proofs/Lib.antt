@@ -4,3 +4,4 @@ pub mod CopyLaw
 pub mod CopySteps
 pub mod CopyValues
 pub mod FolderSteps
+pub mod TwinSteps

@@ -1,3 +1,4 @@
 pub mod Agreement
 pub mod Copied
 pub mod Laws
+pub mod Twins
