@@ -16,3 +16,4 @@ pub mod ServeSteps
 pub mod StoredSteps
 pub mod StreamSteps
 pub mod TakeSteps
+pub mod TakingSteps

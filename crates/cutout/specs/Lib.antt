@@ -9,4 +9,5 @@ pub mod Runs
 pub mod Searching
 pub mod Serving
 pub mod Streaming
+pub mod Taking
 pub mod Targets

@@ -59,9 +59,9 @@ impl CellReader {
         })
     }
 
-    // Reads the bytes of a cell's chunk into the reader's room for one, and says whether there are any: those
-    // in use there are then the chunk.
-    fn read_chunk<S: Source>(
+    /// Reads the bytes of a cell's chunk into the reader's room for one, and says whether there are any: those
+    /// in use there are then the chunk.
+    pub(crate) fn read_chunk<S: Source>(
         &mut self,
         store: &mut S,
         origin: &StoredScale,

@@ -1,16 +1,20 @@
 //! The reader of a scale that keeps an index from call to call.
-ghost use Rattle.std.specs.Prelude.{is_ok, ◌≡◌, ◌≢◌, ◌↔◌, ◌+◌, ◌≤◌, ◌^◌, length, IfSome, Err, Option};
+ghost use Rattle.std.specs.Prelude.{is_ok, ◌≡◌, ◌≢◌, ◌↔◌, ◌∷◌, [], ◌+◌, ◌≤◌, ◌^◌, length, IfOk, IfSome, Err, Option};
+ghost use Rattle.vol_base.specs.Bytes.{AreBytes};
 ghost use Rattle.vol_base.specs.Outside.{Objects};
 ghost use Rattle.vol_spec.specs.Costs.{cost};
-ghost use Rattle.vol_spec.specs.Grid.{cells_in, Inside};
+ghost use Rattle.vol_spec.specs.Encodings.{raw_size};
+ghost use Rattle.vol_spec.specs.Grid.{cells_in, Inside, IsCell};
 ghost use Rattle.vol_spec.specs.Raw.{raw_len};
 ghost use Rattle.cutout.specs.Kept.{KeepsIndex};
 ghost use Rattle.vol_base.specs.Calls.{ReadsFrom};
 ghost use Rattle.cutout.specs.Reading.{HasCut};
 ghost use Rattle.cutout.specs.Runs.{RunsOn};
+ghost use Rattle.cutout.specs.Taking.{HasOwnChunk, TakesCell};
 
 use crate::CutFault;
 use crate::cells::CellReader;
+use crate::speller::Speller;
 use std::marker::Model;
 use vol_base::{Box3, Source};
 use vol_spec::StoredScale;
@@ -22,11 +26,14 @@ use vol_spec::StoredScale;
 pub struct KeepingReader {
     pub(crate) origin: StoredScale,
     pub(crate) cells: CellReader,
+    pub(crate) speller: Option<Speller>,
 }
 
 impl Model for KeepingReader {
     ghost use Rattle.cutout.specs.Kept.{Keeping};
     ghost use Rattle.cutout.specs.Serving.{HasRoom};
+    ghost use Rattle.cutout.specs.Taking.{IsSpeller};
+    ghost use Rattle.std.specs.Prelude.{IfSome};
 
     ghost Value = { Keeping };
 
@@ -35,7 +42,7 @@ impl Model for KeepingReader {
       shards = r.cells.shards;
     } };
 
-    ghost invariant = { λ r. HasRoom r.origin.scale r.cells };
+    ghost invariant = { λ r. HasRoom r.origin.scale r.cells × IfSome r.speller (IsSpeller r.origin.scale) };
 }
 
 impl KeepingReader {
@@ -79,5 +86,34 @@ impl KeepingReader {
         ensures reads { ReadsFrom S.Source CutFault.StoreFault store.old store.new result }
     {
         self.cells.cut_box(store, &self.origin, part, out)
+    }
+
+    /// Takes a cell's chunk as it is stored, where this reader tells it for one that this writer spells, and tells how
+    /// many bytes in front of `out` it has; else puts the cell's values. It is damaged where the cell has a
+    /// fault. As `cutout` it forgets nothing, and what it keeps must be what the objects say.
+    pub fn take_cell<S: Source>(
+        &mut self,
+        store: &mut S,
+        cell: [u64; 3],
+        out: &mut [u8],
+    ) -> Result<Option<usize>, CutFault>
+        requires cell { IsCell self.old.opened.scale cell }
+        requires len { length out.old ≡ raw_size self.old.opened.scale cell }
+        requires keeps { KeepsIndex (S.objects store.old) self.old }
+        ensures taken { IfSome (S.objects store.old) (λ m.
+            TakesCell result m self.old.opened.dataset self.old.opened.scale cell out.new) }
+        ensures inside { result ≢ Err CutFault.OutsideScale }
+        ensures own { IfOk result (λ len. IfSome len (HasOwnChunk self.old.opened.scale cell out.new)) }
+        ensures bytes { AreBytes out.new }
+        ensures len { length out.new ≡ length out.old }
+        ensures keeps { KeepsIndex (S.objects store.old) self.new }
+        ensures same { self.new.opened ≡ self.old.opened }
+        ensures run { IfSome (S.objects store.old) (λ m. RunsOn (is_ok result) m self.old.opened.dataset
+            self.old.opened.scale (cell ∷ []) (S.asked store.old) (S.asked store.new) self.old.shards
+            self.new.shards) }
+        ensures reads { ReadsFrom S.Source CutFault.StoreFault store.old store.new result }
+    {
+        self.cells
+            .take_cell(store, &self.origin, cell, &mut self.speller, out)
     }
 }

@@ -11,7 +11,9 @@ mod found;
 mod keeping;
 mod layers;
 mod reader;
+mod speller;
 mod stream;
+mod taking;
 mod values;
 
 pub use cells::CellReader;
