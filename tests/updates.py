@@ -157,6 +157,44 @@ def takes_other_spellings(trial):
         want_files(update.files, volume.files(due), "the model's file")
 
 
+# The values 2, 7, 2, 7 in two blocks of two voxels, as this program spells them, and in other ways.
+BITS_1, BITS_2 = 1 << 24, 2 << 24
+SPELLED = [1, 5 | BITS_1, 4, 5 | BITS_1, 7, 0b10, 2, 7, 0b10]
+OTHERWISE = {
+    "a table that descends": [1, 5 | BITS_1, 4, 5 | BITS_1, 7, 0b01, 7, 2, 0b01],
+    "a table that is there twice": [1, 5 | BITS_1, 4, 8 | BITS_1, 7, 0b10, 2, 7, 0b10, 2, 7],
+    "indices of more bits": [1, 5 | BITS_2, 4, 5 | BITS_2, 7, 0b0100, 2, 7, 0b0100],
+    "a value that no index has": [1, 5 | BITS_2, 4, 5 | BITS_2, 8, 0b0100, 2, 7, 9, 0b0100],
+    "a value that is there twice": [1, 5 | BITS_2, 4, 5 | BITS_2, 8, 0b1000, 2, 2, 7, 0b1000],
+    "bits behind the indices": [1, 5 | BITS_1, 4, 5 | BITS_1, 7, 0b10 | 1 << 31, 2, 7, 0b10],
+    "a table before its indices": [1, 4 | BITS_1, 6, 4 | BITS_1, 7, 2, 7, 0b10, 0b10],
+    "a gap before indices": [1, 5 | BITS_1, 4, 5 | BITS_1, 8, 0b10, 2, 7, 0, 0b10],
+    "a word behind": [*SPELLED, 0],
+    "a word before the channel": [2, 0, *SPELLED[1:]],
+    "nothing": SPELLED,
+}
+
+# The values 2, 7, 2 of an edge chunk, and an index of the voxel behind.
+EDGE_SPELLED = [1, 5 | BITS_1, 4, 7, 7, 0b10, 2, 7, 2]
+EDGE_OTHERWISE = [1, 5 | BITS_1, 4, 5 | BITS_1, 7, 0b10, 2, 7, 0b10]
+
+
+def spells_kept_chunk(trial, words):
+    """A kept chunk comes out as this program spells it, beside one that is spelled so and one that is written."""
+    volume, own = line(12, 4, width=4, block=(2, 1, 1), sharding=Sharding()), chunk_of(SPELLED)
+    trial.store(volume, {(0, 0, 0): chunk_of(words), (1, 0, 0): own})
+    update = trial.want_update(volume, [(along(8, 12), chunk_of([2, 7, 2, 7]))])
+    want_files(update.files, volume.files({(number, 0, 0): own for number in range(3)}), "the model's file")
+
+
+def spells_edge_chunk(trial):
+    """The same of an edge chunk, in which an index of no voxel says nothing."""
+    volume = line(7, 4, width=4, block=(2, 1, 1), sharding=Sharding())
+    trial.store(volume, {(1, 0, 0): chunk_of(EDGE_OTHERWISE)})
+    update = trial.want_update(volume, [(along(0, 4), chunk_of([2, 7, 2, 7]))])
+    want_files(update.files, volume.files({(0, 0, 0): chunk_of(SPELLED), (1, 0, 0): chunk_of(EDGE_SPELLED)}), "the model's file")
+
+
 def keeps_many_rows(trial):
     """A minishard of more rows than a window of an index, some of which are missing; boxes at its ends and in the middle."""
     volume, held = line(2500, sharding=Sharding(preshift=64)), {number for number in range(2500) if number % 7 != 3}
@@ -334,6 +372,9 @@ def rows(count):
     for (title, *case), workers in itertools.product(STORED, WORKERS):
         yield f"{title}, {workers} workers", leaves_objects, *case, f"--workers={workers}"
     yield "other spellings", takes_other_spellings
+    for title, words in OTHERWISE.items():
+        yield f"a kept chunk with {title}", spells_kept_chunk, words
+    yield "an edge chunk that is kept, with an index of no voxel", spells_edge_chunk
     yield "a minishard of many rows", keeps_many_rows
     yield "two scales", leaves_scales_apart
     yield "files beside objects", leaves, {**THREE_RUN.before, **BESIDE}, UPDATE, stored(3, 3), THREE, THREE_RUN.stream
