@@ -27,3 +27,7 @@ only_more peer (Some before) (Some list) new x (inl e) =
     let is : list ≡ before ++ replicate n peer = some_list x in
     let more : list ++ peer ∷ [] ≡ before ++ replicate (n + 1) peer = ap (λ l. l ++ peer ∷ []) is ∙ append_assoc before (replicate n peer) (peer ∷ []) ∙ ap (λ r. before ++ r) (replicate-append-replicate n 1 peer) in
     only_by peer (n + 1) (Some before) new (e ∙ ap Some more)
+
+-- by a name and a port that are the peer's
+pub only_to : (peer : List ℕ × ℕ) (before : Option Dialled) (host : List ℕ) (port : ℕ) (old new : Option Dialled) → host ≡ peer.0 → port ≡ peer.1 → DialsOnly peer before old → Dials (host, port) old new → DialsOnly peer before new
+only_to peer before host port old new h p x e = only_more peer before old new x (subst (λ q. Dials (peer.0, q) old new) p (subst (λ q. Dials (q, port) old new) h e))

@@ -27,3 +27,4 @@ pub mod RemoteSteps
 pub mod JudgedSteps
 pub mod AimedSteps
 pub mod EndSteps
+pub mod SentSteps

@@ -162,6 +162,13 @@ module _ (answer : Result (Option Promise) Failed) (r : Result Promise Failed) (
       by_cases (Ok o) (Err x) said cause f = λ calm. f (sym said)
       by_cases (Err e) (Err x) said cause f = λ calm. absurd (calm cause.failed)
 
+  settled_dropped : (Q : Type 0) → (promise_in answer ≡ None → Q) → OnErr r Q
+  settled_dropped Q f = by_cases r said
+    where
+      by_cases : (r : Result Promise Failed) → result_ok r ≡ promise_in answer → OnErr r Q
+      by_cases (Ok q) said = tt
+      by_cases (Err x) said = f (sym said)
+
   -- and how it leaves the end
   pub settled_end : (key dataset full : List ℕ) {name host : List ℕ} {port there : ℕ} {ws : List ℕ} {old_kept kept holds : Bool} {p0 p1 : Option Peer} {l0 l1 : Option Line} {d0 d1 : Option Dialled} {dial0 dial1 : ℕ}
       → KeepsEnd (IsShort key) (name, port) there ws old_kept kept holds p0 p1 l0 l1 d0 d1 answer → HasCause dial0 dial1 answer → IsShort key dataset → (IsTrue old_kept → IsQuietFor dataset p0 l0) → name ≡ host → take there full ≡ take there ws
@@ -171,6 +178,7 @@ module _ (answer : Result (Option Promise) Failed) (r : Result Promise Failed) (
     again = subst (λ h. OnErr r ((Rose dial0 dial1 → ⊥) → there ≡ 0 → DialsOnce (h, port) d0 d1)) same (settled_again (there ≡ 0 → DialsOnce (name, port) d0 d1) dial0 dial1 cause e.again);
     goes_on = settled (λ _. IsTrue old_kept → IsServed dataset p0 → d1 ≡ d0) (IfOk-weaker answer _ _ (λ _ stays on served. stays dataset short on (quiet on) served) e.goes_on);
     kept_end = subst (λ bytes. IfOk r (λ _. IsKeptBehind bytes kept)) (sym front) (settled_some (λ _. IsKeptBehind (take there ws) kept) e.kept_end);
+    dropped = settled_dropped (kept ≡ false) e.dropped;
   }
 
   module _ (dataset : List ℕ) (peer0 peer1 : Option Peer) (dial0 dial1 own0 own1 : ℕ) (same : peer1 ≡ peer0) (cause : HasCause dial0 dial1 answer)

@@ -1,11 +1,12 @@
 -- How a call goes about the end to its peer (this project's).
-use Rattle.std.specs.Prelude.{◌≡◌, ◌≤◌, ◌+◌, ℕ, Bool, IsTrue, List, length, take, Option, None, IfOk, IfSome, OnErr, Result}
+use Rattle.std.specs.Prelude.{◌≡◌, ◌≤◌, ◌+◌, ℕ, Bool, false, IsTrue, List, length, take, Option, None, IfOk, IfSome, OnErr, Result}
 use Rattle.vol_base.specs.Causes.{Rose}
 use Rattle.remote_store.specs.Asking.{IsAskFor}
 use Rattle.remote_store.specs.Bodies.{IsKeptBehind}
 use Rattle.remote_store.specs.Dials.{Dialled, Dials, DialsOnce, Line, Peer}
 use Rattle.remote_store.specs.Quiet.{IsQuietFor}
 use Rattle.remote_store.specs.Shown.{IsServed}
+use Rattle.remote_store.specs.Talks.{promise_in}
 use Rattle.remote_store.specs.declared.wanted.Promise.{Promise}
 use Rattle.remote_store.specs.declared.wanted.Wanted.{Wanted}
 
@@ -30,6 +31,7 @@ pub record KeepsEnd {E : Type 0} (asks : List ℕ → Type 0) (to : List ℕ × 
   pub goes_on : IfOk result (λ _. (dataset : List ℕ) → asks dataset → IsTrue old_kept →
       IsQuietFor dataset old_peer old_line → IsServed dataset old_peer → dialled ≡ old_dialled)
   pub kept_end : IfOk result (λ o. IfSome o (λ _. IsKeptBehind (take there received) kept))
+  pub dropped : promise_in result ≡ None → kept ≡ false
 
 -- the same of a store of a data set, whose call fails where no reply came that fits
 pub record StoreKeepsEnd {T E : Type 0} (dataset : List ℕ) (to : List ℕ × ℕ) (there : ℕ) (received : List ℕ)
@@ -39,3 +41,4 @@ pub record StoreKeepsEnd {T E : Type 0} (dataset : List ℕ) (to : List ℕ × �
   pub again : OnErr result ((Rose old_faults faults → ⊥) → there ≡ 0 → DialsOnce to old_dialled dialled)
   pub goes_on : IfOk result (λ _. IsTrue old_kept → IsServed dataset peer → dialled ≡ old_dialled)
   pub kept_end : IfOk result (λ _. IsKeptBehind (take there received) kept)
+  pub dropped : OnErr result (kept ≡ false)

@@ -17,3 +17,4 @@ pub mod Asking
 pub mod Hosts
 pub mod Remotes
 pub mod Ends
+pub mod Sent

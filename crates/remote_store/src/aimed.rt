@@ -1,16 +1,19 @@
-//! A dial to one port of one host.
-ghost use Rattle.std.specs.Prelude.{◌≡◌, ◌<◌, ◌≤◌, ◌++◌, ◌∷◌, [], None, List, ℕ, Option, string_bytes};
+//! A store of one data set of one peer.
+ghost use Rattle.std.specs.Prelude.{◌≡◌, [], None, List, ℕ, Option, string_bytes};
 ghost use Rattle.remote_store.specs.Dials.{Dialled, DialsOnly};
 
 use crate::dial::Dial;
+use crate::remote::Remote;
 use std::marker::{Brand, PhantomData};
-use vol_base::Failed;
+use vol_base::{Failed, Got, Name, Source};
 
-/// A port of a host, and what had been dialled before.
+/// A data set of a port of a host, and what had been dialled before.
 pub trait Aim {
     ghost host: { List ℕ };
 
     ghost port: { ℕ };
+
+    ghost dataset: { List ℕ };
 
     ghost before: { Option Dialled };
 }
@@ -20,85 +23,81 @@ impl Aim for Brand {
 
     ghost port = { 0 };
 
+    ghost dataset = { [] };
+
     ghost before = { None };
 }
 
-/// A dial that dials one port of one host, whatever it is asked for.
+/// A store over HTTP that stays one of this data set of this port of this host, and has dialled that port alone.
 #[derive(Drop)]
-pub struct AimedDial<N: Aim, D: Dial> {
-    pub dial: D,
-    host: String,
-    port: u16,
+pub struct AimedStore<N: Aim, D: Dial> {
+    remote: Remote<D>,
     of: PhantomData<N>,
 
-    ghost host_is: { string_bytes host ≡ N.host },
-    ghost port_is: { port ≡ N.port },
-    ghost only: { DialsOnly (N.host, N.port) N.before (D.dialled dial) },
+    ghost host_is: { string_bytes remote.host ≡ N.host },
+    ghost port_is: { remote.port ≡ N.port },
+    ghost dataset_is: { remote.dataset ≡ N.dataset },
+    ghost only: { DialsOnly (N.host, N.port) N.before (D.dialled remote.dial) },
 }
 
-impl<N: Aim, D: Dial> AimedDial<N, D> {
-    /// A dial to this port of this host. It has dialled nothing else.
-    pub fn new(dial: D, host: String, port: u16) -> AimedDial<N, D>
-        requires host { string_bytes host ≡ N.host }
-        requires port { port ≡ N.port }
-        requires before { D.dialled dial ≡ N.before }
-        ensures { result.dial ≡ dial }
+impl<N: Aim, D: Dial> AimedStore<N, D> {
+    /// The store itself, which has dialled nothing yet.
+    pub fn new(remote: Remote<D>) -> AimedStore<N, D>
+        requires host { string_bytes remote.host ≡ N.host }
+        requires port { remote.port ≡ N.port }
+        requires dataset { remote.dataset ≡ N.dataset }
+        requires before { D.dialled remote.dial ≡ N.before }
+        ensures { result.remote ≡ remote }
     {
-        AimedDial {
-            dial,
-            host,
-            port,
+        AimedStore {
+            remote,
             of: PhantomData,
         }
     }
 
-    /// The dial itself, which dialled this port of this host alone.
-    pub fn into_dial(self) -> D
-        ensures dial { result ≡ self.dial }
-        ensures only { DialsOnly (N.host, N.port) N.before (D.dialled result) }
+    /// The store itself: it is one of this data set, and dialled this port of this host alone.
+    pub fn into_remote(self) -> Remote<D>
+        ensures remote { result ≡ self.remote }
+        ensures host { string_bytes result.host ≡ N.host }
+        ensures port { result.port ≡ N.port }
+        ensures dataset { result.dataset ≡ N.dataset }
+        ensures only { DialsOnly (N.host, N.port) N.before (D.dialled result.dial) }
     {
-        let AimedDial {
-            dial,
-            host: _host,
-            port: _port,
-            of: _of,
-        } = self;
-        dial
+        let AimedStore { remote, of: _of } = self;
+        remote
     }
 }
 
-impl<N: Aim, D: Dial> Dial for AimedDial<N, D> {
-    ghost holds = { λ d. D.holds d.dial };
+impl<N: Aim, D: Dial> Source for AimedStore<N, D> {
+    ghost use Rattle.std.specs.Prelude.{[], None};
+    ghost use Rattle.vol_base.specs.Causes.{counted, is_count};
+    ghost use Rattle.remote_store.specs.Shown.{count_at, count_at_is, shown};
+    ghost use Rattle.remote_store.specs.ShownBytes.{shown_bytes};
 
-    ghost left = { λ d. D.left d.dial };
+    ghost objects = { λ s. shown s.remote.dataset (D.peer s.remote.dial) };
 
-    ghost received = { λ d. D.received d.dial };
+    ghost draft = { λ s. None };
 
-    ghost peer = { λ d. D.peer d.dial };
+    ghost history = { λ s. [] };
 
-    ghost line = { λ d. D.line d.dial };
+    ghost asked = { λ s. counted s.remote.asked };
 
-    ghost dialled = { λ d. None };
+    ghost faults = { λ s. count_at (shown s.remote.dataset (D.peer s.remote.dial))
+        (D.faults s.remote.dial) s.remote.faults };
 
-    ghost ends = { λ d. D.ends d.dial };
+    ghost counts = { λ s. (
+      is_count s.remote.asked,
+      count_at_is (shown s.remote.dataset (D.peer s.remote.dial)) (D.faults s.remote.dial) s.remote.faults
+          (D.counts s.remote.dial).1,
+    ) };
 
-    ghost faults = { λ d. D.faults d.dial };
+    ghost bytes = { λ s. shown_bytes s.remote.dataset (D.peer s.remote.dial) (D.plain s.remote.dial) };
 
-    ghost counts = { λ d. D.counts d.dial };
-
-    ghost replies = { λ d. D.replies d.dial };
-
-    ghost plain = { λ d. D.plain d.dial };
-
-    fn dial(&mut self, _host: &str, _port: u16) -> Result<(), Failed> {
-        self.dial.dial(self.host.as_str(), self.port)
+    fn size(&mut self, name: &Name) -> Result<Option<u64>, Failed> {
+        self.remote.size(name)
     }
 
-    fn recv(&mut self, out: &mut [u8]) -> Result<usize, Failed> {
-        self.dial.recv(out)
-    }
-
-    fn send(&mut self, piece: &[u8]) -> Result<usize, Failed> {
-        self.dial.send(piece)
+    fn read_at(&mut self, name: &Name, at: u64, out: &mut [u8]) -> Result<Got, Failed> {
+        self.remote.read_at(name, at, out)
     }
 }

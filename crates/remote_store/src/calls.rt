@@ -9,6 +9,7 @@ ghost use Rattle.remote_store.specs.Fits.{Fits, size_said};
 ghost use Rattle.remote_store.specs.Hosts.{is_host};
 ghost use Rattle.remote_store.specs.Quiet.{IsQuietFor};
 ghost use Rattle.remote_store.specs.Requests.{peer_value};
+ghost use Rattle.remote_store.specs.Sent.{Requests};
 ghost use Rattle.remote_store.specs.Talks.{IsUnfit, SaysLength, SaysPart};
 ghost use Rattle.remote_store.specs.declared.wanted.Wanted.TheVariants.{Length, Part};
 
@@ -86,6 +87,8 @@ pub(crate) fn call_length<D: Dial>(
     ensures end { KeepsEnd (IsShort key.now) (host.now, port) there.new received.new kept.old kept.new
         (D.holds dial.new) (D.peer dial.old) (D.peer dial.new) (D.line dial.old) (D.line dial.new)
         (D.dialled dial.old) (D.dialled dial.new) result }
+    ensures sent { IfOk result (λ _. Requests (host.now, port) key.now Length kept.old
+        (D.peer dial.old) (D.line dial.old) (D.line dial.new)) }
     ensures text { 1024 ≤ vec_capacity text.new }
     ensures peer { D.peer dial.new ≡ D.peer dial.old }
     ensures cause { HasCause (D.faults dial.old) (D.faults dial.new) result }
@@ -142,6 +145,8 @@ pub(crate) fn call_part<D: Dial>(
     ensures end { KeepsEnd (IsShort key.now) (host.now, port) there.new received.new kept.old kept.new
         (D.holds dial.new) (D.peer dial.old) (D.peer dial.new) (D.line dial.old) (D.line dial.new)
         (D.dialled dial.old) (D.dialled dial.new) result }
+    ensures sent { IfOk result (λ _. Requests (host.now, port) key.now (Part from (length out.old)) kept.old
+        (D.peer dial.old) (D.line dial.old) (D.line dial.new)) }
     ensures text { 1024 ≤ vec_capacity text.new }
     ensures peer { D.peer dial.new ≡ D.peer dial.old }
     ensures cause { HasCause (D.faults dial.old) (D.faults dial.new) result }

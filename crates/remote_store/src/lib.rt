@@ -23,7 +23,7 @@ mod text;
 mod wait;
 mod wanted;
 
-pub use aimed::{Aim, AimedDial};
+pub use aimed::{Aim, AimedStore};
 pub use dial::Dial;
 pub use hosts::is_host;
 pub use law::tell_reply;

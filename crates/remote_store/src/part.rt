@@ -9,6 +9,7 @@ ghost use Rattle.remote_store.specs.Dials.{SamePeer};
 ghost use Rattle.remote_store.specs.Ends.{Asks, KeepsEnd};
 ghost use Rattle.remote_store.specs.Fits.{Fits};
 ghost use Rattle.remote_store.specs.Quiet.{IsQuietFor};
+ghost use Rattle.remote_store.specs.Sent.{Sends};
 ghost use Rattle.remote_store.specs.Talks.{IsUnfit, SaysLength, SaysPart};
 ghost use Rattle.remote_store.specs.declared.wanted.Wanted.TheVariants.{Length, Part};
 
@@ -83,6 +84,7 @@ pub(crate) fn ask_length<D: Dial>(
     ensures end { KeepsEnd (Asks host.now port Length text.now) (host.now, port)
         there.new received.new kept.old kept.new (D.holds dial.new) (D.peer dial.old) (D.peer dial.new)
         (D.line dial.old) (D.line dial.new) (D.dialled dial.old) (D.dialled dial.new) result }
+    ensures sent { IfOk result (λ _. Sends kept.old text.now (D.peer dial.old) (D.line dial.old) (D.line dial.new)) }
     ensures peer { D.peer dial.new ≡ D.peer dial.old }
     ensures cause { HasCause (D.faults dial.old) (D.faults dial.new) result }
 {
@@ -143,6 +145,7 @@ pub(crate) fn ask_part<D: Dial>(
     ensures end { KeepsEnd (Asks host.now port (Part from (length out.old)) text.now) (host.now, port)
         there.new received.new kept.old kept.new (D.holds dial.new) (D.peer dial.old) (D.peer dial.new)
         (D.line dial.old) (D.line dial.new) (D.dialled dial.old) (D.dialled dial.new) result }
+    ensures sent { IfOk result (λ _. Sends kept.old text.now (D.peer dial.old) (D.line dial.old) (D.line dial.new)) }
     ensures peer { D.peer dial.new ≡ D.peer dial.old }
     ensures cause { HasCause (D.faults dial.old) (D.faults dial.new) result }
 {

@@ -1,22 +1,22 @@
 //! A store over HTTP.
-ghost use Rattle.std.specs.Prelude.{◌≡◌, ◌+◌, ◌<◌, ◌≤◌, ◌^◌, length, take, string_bytes, vec_capacity, IfOk, IfSome, IsTrue, OnErr, OnOk, None, Ok, Some};
+ghost use Rattle.std.specs.Prelude.{◌≡◌, ◌+◌, ◌<◌, ◌≤◌, ◌^◌, length, take, false, string_bytes, vec_capacity, IfOk, IfSome, IsTrue, OnErr, OnOk, None, Ok, Some};
 ghost use Rattle.std.specs.Option.{option_map};
 ghost use Rattle.std.specs.FinMap as map;
 ghost use Rattle.vol_base.specs.Causes.{HasCause, Rose, counted, is_count};
 ghost use Rattle.vol_base.specs.Outside.{KeepsRest, OnlyReads, Reads, asked_after};
 ghost use Rattle.remote_store.specs.Bodies.{IsKeptBehind, got_of_kind, stretch_count};
 ghost use Rattle.remote_store.specs.Answers.{IsAsked};
-ghost use Rattle.remote_store.specs.Dials.{Dials, DialsOnce, DialsOnly};
+ghost use Rattle.remote_store.specs.Dials.{Dials, DialsOnce};
 ghost use Rattle.remote_store.specs.Ends.{StoreKeepsEnd};
 ghost use Rattle.remote_store.specs.Hosts.{is_host};
 ghost use Rattle.remote_store.specs.Quiet.{IsQuietFor};
 ghost use Rattle.remote_store.specs.Remotes.{IsJudged, IsPlaced, IsRead, IsSame, IsSize, wanted_of};
 ghost use Rattle.remote_store.specs.Requests.{peer_value};
+ghost use Rattle.remote_store.specs.Sent.{Requests};
 ghost use Rattle.remote_store.specs.Shown.{IsServed, count_at, key_in, shown};
 ghost use Rattle.remote_store.specs.Talks.{SaysLength, SaysPart};
 ghost use Rattle.remote_store.specs.declared.wanted.Wanted.TheVariants.{Length, Part};
 
-use crate::aimed::{Aim, AimedDial};
 use crate::calls::{call_length, call_part, find_empty_got, find_got, find_size};
 use crate::counts::settle;
 use crate::dial::Dial;
@@ -109,54 +109,6 @@ impl<D: Dial + Drop> Remote<D> {
     }
 }
 
-impl<N: Aim, D: Dial> Remote<AimedDial<N, D>> {
-    /// The same store over the dial itself, which dialled that port of that host alone. No end is kept.
-    pub fn release(self) -> Remote<D>
-        ensures dial { result.dial ≡ self.dial.dial }
-        ensures host { result.host ≡ self.host }
-        ensures port { result.port ≡ self.port }
-        ensures dataset { result.dataset ≡ self.dataset }
-        ensures faults { result.faults ≡ self.faults }
-        ensures asked { result.asked ≡ self.asked }
-        ensures last { take result.there result.received.items ≡ take self.there self.received.items }
-        ensures body { result.body ≡ self.body }
-        ensures only { DialsOnly (N.host, N.port) N.before (D.dialled result.dial) }
-    {
-        let Remote {
-            dial,
-            host,
-            port,
-            dataset,
-            kept: _kept,
-            peer,
-            text,
-            received,
-            there,
-            body,
-            scratch,
-            spans,
-            asked,
-            faults,
-        } = self;
-        Remote {
-            dial: dial.into_dial(),
-            host,
-            port,
-            dataset,
-            kept: false,
-            peer,
-            text,
-            received,
-            there,
-            body,
-            scratch,
-            spans,
-            asked,
-            faults,
-        }
-    }
-}
-
 impl<D: Dial> Remote<D> {
     /// The first 8,192 bytes that came in the last call.
     pub fn last(&self) -> &[u8]
@@ -183,8 +135,11 @@ impl<D: Dial> Remote<D> {
         ensures end { StoreKeepsEnd self.old.dataset (string_bytes self.old.host, self.old.port) self.new.there
             self.new.received.items self.old.kept self.new.kept (D.peer self.old.dial) (D.faults self.old.dial)
             (D.faults self.new.dial) (D.dialled self.old.dial) (D.dialled self.new.dial) result }
+        ensures sent { IfOk result (λ _. Requests (string_bytes self.old.host, self.old.port) key.now Length
+            self.old.kept (D.peer self.old.dial) (D.line self.old.dial) (D.line self.new.dial)) }
         ensures peer { D.peer self.new.dial ≡ D.peer self.old.dial }
         ensures same { (self.new.dataset ≡ self.old.dataset) × (self.new.asked ≡ self.old.asked) }
+        ensures to { (self.new.host ≡ self.old.host) × (self.new.port ≡ self.old.port) }
         ensures cause { HasCause
             (count_at (shown self.old.dataset (D.peer self.old.dial)) (D.faults self.old.dial) self.old.faults)
             (count_at (shown self.old.dataset (D.peer self.new.dial)) (D.faults self.new.dial) self.new.faults) result }
@@ -219,8 +174,11 @@ impl<D: Dial> Remote<D> {
         ensures end { StoreKeepsEnd self.old.dataset (string_bytes self.old.host, self.old.port) self.new.there
             self.new.received.items self.old.kept self.new.kept (D.peer self.old.dial) (D.faults self.old.dial)
             (D.faults self.new.dial) (D.dialled self.old.dial) (D.dialled self.new.dial) result }
+        ensures sent { IfOk result (λ _. Requests (string_bytes self.old.host, self.old.port) key.now (Part at (length out.old))
+            self.old.kept (D.peer self.old.dial) (D.line self.old.dial) (D.line self.new.dial)) }
         ensures peer { D.peer self.new.dial ≡ D.peer self.old.dial }
         ensures same { (self.new.dataset ≡ self.old.dataset) × (self.new.asked ≡ self.old.asked) }
+        ensures to { (self.new.host ≡ self.old.host) × (self.new.port ≡ self.old.port) }
         ensures cause { HasCause
             (count_at (shown self.old.dataset (D.peer self.old.dial)) (D.faults self.old.dial) self.old.faults)
             (count_at (shown self.old.dataset (D.peer self.new.dial)) (D.faults self.new.dial) self.new.faults) result }
@@ -292,6 +250,12 @@ impl<D: Dial> Source for Remote<D> {
         ensures goes_on { IfOk result (λ _. IsTrue self.old.kept → IsServed self.old.dataset (D.peer self.old.dial)
             → D.dialled self.new.dial ≡ D.dialled self.old.dial) }
         ensures kept_end { IfOk result (λ _. IsKeptBehind (take self.new.there self.new.received.items) self.new.kept) }
+        ensures dropped { OnErr result (self.new.kept ≡ false) }
+        ensures sent { IfSome (key_in self.old.dataset name.now) (λ key. IfOk result (λ _.
+            Requests (string_bytes self.old.host, self.old.port) key Length self.old.kept
+            (D.peer self.old.dial) (D.line self.old.dial) (D.line self.new.dial))) }
+        ensures stays { (self.new.host ≡ self.old.host) × (self.new.port ≡ self.old.port)
+            × (self.new.dataset ≡ self.old.dataset) }
     {
         self.there = 0;
         self.body = 0;
@@ -332,6 +296,12 @@ impl<D: Dial> Source for Remote<D> {
         ensures goes_on { IfOk result (λ _. IsTrue self.old.kept → IsServed self.old.dataset (D.peer self.old.dial)
             → D.dialled self.new.dial ≡ D.dialled self.old.dial) }
         ensures kept_end { IfOk result (λ _. IsKeptBehind (take self.new.there self.new.received.items) self.new.kept) }
+        ensures dropped { OnErr result (self.new.kept ≡ false) }
+        ensures sent { IfSome (key_in self.old.dataset name.now) (λ key. IfOk result (λ _.
+            Requests (string_bytes self.old.host, self.old.port) key (wanted_of at (length out.old)) self.old.kept
+            (D.peer self.old.dial) (D.line self.old.dial) (D.line self.new.dial))) }
+        ensures stays { (self.new.host ≡ self.old.host) × (self.new.port ≡ self.old.port)
+            × (self.new.dataset ≡ self.old.dataset) }
     {
         self.there = 0;
         self.body = 0;

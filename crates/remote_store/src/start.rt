@@ -1,5 +1,6 @@
 //! A request that is sent, and the front of the reply to it.
-ghost use Rattle.std.specs.Prelude.{◌≡◌, ◌≢◌, ◌≤◌, ℕ, List, None, length, take, IfOk, IfSome, IsTrue, OnErr};
+ghost use Rattle.std.specs.Prelude.{◌≡◌, ◌≢◌, ◌≤◌, ◌++◌, ℕ, List, None, length, take, IfOk, IfSome, IsTrue, OnErr};
+ghost use Rattle.std.specs.Option.{option_map};
 ghost use Rattle.vol_base.specs.Causes.{HasCause};
 ghost use Rattle.vol_base.specs.Gains.{Gains};
 ghost use Rattle.remote_store.specs.Answers.{IsAsked};
@@ -7,6 +8,7 @@ ghost use Rattle.remote_store.specs.Asking.{HasBegun, IsAskFor};
 ghost use Rattle.remote_store.specs.Bodies.{IsBegun, IsCounted};
 ghost use Rattle.remote_store.specs.Dials.{Dials, DialsOnce, SamePeer};
 ghost use Rattle.remote_store.specs.Quiet.{IsQuietFor};
+ghost use Rattle.remote_store.specs.Sent.{Sends, sent_on};
 ghost use Rattle.remote_store.specs.Shown.{IsServed};
 ghost use Rattle.remote_store.specs.Talks.{IsUnfit};
 
@@ -43,6 +45,8 @@ fn ask_once<D: Dial>(
         → IsQuietFor dataset (D.peer dial.old) (D.line dial.old)
         → HasBegun dataset (D.peer dial.old) text.now (take there.new received.new)
         (D.left dial.new) (D.line dial.new) o) }
+    ensures sent { IfOk result (λ _. sent_on (D.line dial.new)
+        ≡ option_map (λ sent. sent ++ text.now) (sent_on (D.line dial.old))) }
     ensures counted { IsCounted wanted (take there.new received.new) body.new }
     ensures ends { D.ends dial.old ≤ D.ends dial.new }
     ensures held { D.holds dial.new ≡ D.holds dial.old }
@@ -91,6 +95,8 @@ fn ask_kept<D: Dial>(
         → (IsTrue kept → IsQuietFor dataset (D.peer dial.old) (D.line dial.old))
         → HasBegun dataset (D.peer dial.old) text.now (take there.new received.new)
         (D.left dial.new) (D.line dial.new) o)) }
+    ensures sent { IfOk result (λ t. IfSome t (λ _. Sends kept text.now (D.peer dial.old)
+        (D.line dial.old) (D.line dial.new))) }
     ensures counted { IsCounted wanted (take there.new received.new) body.new }
     ensures held { IfOk result (λ t. IfSome t (λ o. IsTrue (D.holds dial.new))) }
     ensures ends { D.ends dial.old ≤ D.ends dial.new }
@@ -145,6 +151,7 @@ pub(crate) fn start<D: Dial>(
         → (IsTrue kept → IsQuietFor dataset (D.peer dial.old) (D.line dial.old))
         → HasBegun dataset (D.peer dial.old) text.now (take there.new received.new)
         (D.left dial.new) (D.line dial.new) o) }
+    ensures sent { IfOk result (λ _. Sends kept text.now (D.peer dial.old) (D.line dial.old) (D.line dial.new)) }
     ensures held { IfOk result (λ _. IsTrue (D.holds dial.new)) }
     ensures ends { D.ends dial.old ≤ D.ends dial.new }
     ensures dialled { Dials (host.now, port) (D.dialled dial.old) (D.dialled dial.new) }

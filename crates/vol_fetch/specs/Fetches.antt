@@ -1,5 +1,5 @@
 -- What `vol_fetch` answers (this project's).
-use Rattle.std.specs.Prelude.{◌≡◌, ◌⊎◌, ℕ, Option, Some, IfSome, IsSomeAnd}
+use Rattle.std.specs.Prelude.{◌≡◌, ◌⊎◌, ℕ, List, Option, Some, IfSome, IsSomeAnd}
 use Rattle.vol_base.specs.Causes.{Rose}
 use Rattle.vol_base.specs.Outside.{Objects}
 use Rattle.command_base.specs.Ending.{EndsWell}
@@ -25,3 +25,7 @@ abbrev pub Completes : Option Request → Status → (Request → Option Objects
 Completes asked status shown dial dial_now out out_now =
     IfSome asked (λ r. (m : Objects) → shown r ≡ Some m → CanCut m r.dataset r.key r.part
     → (Rose dial dial_now → ⊥) → (Rose out out_now → ⊥) → EndsWell status)
+
+-- the store is one of the host, the port and the data set of the words: each request that it sends names them
+abbrev pub IsMade : Option Request → List ℕ → List ℕ → ℕ → List ℕ → Type 0
+IsMade asked word host port dataset = IfSome asked (λ r. (host ≡ word) × (port ≡ r.port) × (dataset ≡ r.dataset))

@@ -8,42 +8,44 @@ ghost use Rattle.remote_store.specs.Dials.{DialsOnly};
 ghost use Rattle.remote_store.specs.Hosts.{is_host};
 ghost use Rattle.remote_store.specs.Shown.{count_at, shown};
 ghost use Rattle.vol_base.specs.Causes.{counted};
-ghost use Rattle.vol_fetch.specs.Fetches.{Completes, Fetches, Untried};
+ghost use Rattle.vol_fetch.specs.Fetches.{Completes, Fetches, IsMade, Untried};
 ghost use Rattle.vol_fetch.specs.Words.{fetch_line, first_word};
 
 use crate::words::{Request, first_word, read_words};
 use command_base::{Status, tell};
 use cutout_cmd::run_cutout;
-use remote_store::{Aim, AimedDial, Dial, Remote};
+use remote_store::{Aim, AimedStore, Dial, Remote};
 use std::alloc::Global;
 use std::marker::Brand;
 use vol_base::{Name, OutOfMemory, Outlet};
 
-// The objects of a data set of the peer at a port of a host, by a dial that dials nothing else.
+// The objects of a data set of the peer at a port of a host, as a store that stays that.
 fn open_store<N: Aim, D: Dial + Drop>(
     alloc: Global,
     dial: D,
     host: &str,
     port: u16,
     dataset: &Name,
-) -> Result<Remote<AimedDial<N, D>>, OutOfMemory>
+) -> Result<AimedStore<N, D>, OutOfMemory>
     requires named { IsTrue (is_host host.now) }
     requires host { host.now ≡ N.host }
     requires port { port ≡ N.port }
+    requires dataset { dataset.now ≡ N.dataset }
     requires before { D.dialled dial ≡ N.before }
-    ensures dial { IfOk result (λ r. r.dial.dial ≡ dial) }
-    ensures dataset { IfOk result (λ r. r.dataset ≡ dataset.now) }
-    ensures faults { IfOk result (λ r. r.faults ≡ 0) }
-    ensures asked { IfOk result (λ r. r.asked ≡ 0) }
+    ensures dial { IfOk result (λ s. s.remote.dial ≡ dial) }
+    ensures host { IfOk result (λ s. string_bytes s.remote.host ≡ host.now) }
+    ensures port { IfOk result (λ s. s.remote.port ≡ port) }
+    ensures dataset { IfOk result (λ s. s.remote.dataset ≡ dataset.now) }
+    ensures faults { IfOk result (λ s. s.remote.faults ≡ 0) }
+    ensures asked { IfOk result (λ s. s.remote.asked ≡ 0) }
 {
-    let Ok(aim) = String::from_str(alloc, host) else {
-        return Err(OutOfMemory);
-    };
     let Ok(name) = String::from_str(alloc, host) else {
         return Err(OutOfMemory);
     };
-    let dial = AimedDial::new(dial, aim, port);
-    Remote::new(alloc, dial, name, port, dataset)
+    match Remote::new(alloc, dial, name, port, dataset) {
+        Ok(remote) => Ok(AimedStore::new(remote)),
+        Err(OutOfMemory) => Err(OutOfMemory),
+    }
 }
 
 // A cutout from the objects that are asked for. Where it was tried the store is handed back.
@@ -60,6 +62,7 @@ fn fetch_from<N: Aim, D: Dial + Drop, O: Outlet, E: Outlet>(
     requires key { length request.now.key ≤ 200 }
     requires host { first_word (map string_bytes words.now) ≡ N.host }
     requires port { request.now.port ≡ N.port }
+    requires of { request.now.dataset ≡ N.dataset }
     requires before { D.dialled dial ≡ N.before }
     ensures used { result.0 ≢ Status.Usage }
     ensures untried { IfNone result.1 (Untried result.0
@@ -78,6 +81,8 @@ fn fetch_from<N: Aim, D: Dial + Drop, O: Outlet, E: Outlet>(
     ensures unprinted { refuses result.0 ≡ true → out.new ≡ out.old }
     ensures dialled { IfSome result.1 (λ remote. DialsOnly (first_word (map string_bytes words.now), request.now.port)
         (D.dialled dial) (D.dialled remote.dial)) }
+    ensures made { IfSome result.1 (λ remote. IsMade (Some request.now) (first_word (map string_bytes words.now))
+        (string_bytes remote.host) remote.port remote.dataset) }
 {
     let mut store = match open_store::<N, D>(
         alloc,
@@ -101,12 +106,12 @@ fn fetch_from<N: Aim, D: Dial + Drop, O: Outlet, E: Outlet>(
         &request.key,
         &request.part,
     );
-    (status, Some(store.release()))
+    (status, Some(store.into_remote()))
 }
 
 /// `HOST PORT DATASET KEY BOX`: writes the values of a box of the scale of a key of a data set that a peer serves, as
 /// `cutout` writes those of objects that are at hand, and tells a refusal as it does. The store is handed back where there
-/// was one: it dialled that port of that host alone.
+/// was one: it is one of that data set of that port of that host, and dialled that port alone.
 pub fn fetch<D: Dial + Drop, O: Outlet, E: Outlet>(
     alloc: Global,
     words: &[String],
@@ -133,6 +138,8 @@ pub fn fetch<D: Dial + Drop, O: Outlet, E: Outlet>(
     ensures unprinted { refuses result.0 ≡ true → out.new ≡ out.old }
     ensures dialled { IfSome result.1 (λ remote. IfSome (fetch_line (map string_bytes words.now)) (λ r.
         DialsOnly (first_word (map string_bytes words.now), r.port) (D.dialled dial) (D.dialled remote.dial))) }
+    ensures made { IfSome result.1 (λ remote. IsMade (fetch_line (map string_bytes words.now))
+        (first_word (map string_bytes words.now)) (string_bytes remote.host) remote.port remote.dataset) }
 {
     let Some(request) = read_words(words) else {
         tell(err, Status::Usage);

@@ -2,6 +2,7 @@ use Rattle.std.proofs.Common.{◌∙◌}
 use Rattle.remote_store.specs.declared.wanted.Wanted.TheVariants.{Length}
 use Rattle.remote_store.proofs.EndSteps.{end_of}
 use Rattle.remote_store.proofs.CallSteps.{asks_for, peer_fits, told_length}
+use Rattle.remote_store.proofs.SentSteps.{sent_request}
 use Rattle.remote_store.proofs.calls.call_length.Goals as goal
 
 pub write_request-requires-clause-peer : goal.write_request-requires-clause-peer
@@ -20,3 +21,9 @@ returns-clause-end g c =
     end_of c.ask_length.result
     (λ dataset short. (c.args.key.now, asks_for c.args.host.now c.args.peer.now c.as_slice.result.now c.args.key.now c.args.port Length c.requires.host c.requires.peer c.ranges.port.fits c.as_bytes-name.ensures.form tt bytes dataset short))
     c.ask_length.ensures.end
+
+pub returns-clause-sent : goal.returns-clause-sent
+returns-clause-sent g c =
+    let bytes = c.as_slice.ensures.value ∙ c.write_request.ensures.bytes in
+    sent_request c.ask_length.result c.args.host.now c.args.peer.now c.as_slice.result.now c.args.key.now c.args.port Length c.args.kept.now (g.D.Dial.peer c.args.dial.now) (g.D.Dial.line c.args.dial.now) (g.D.Dial.line c.ask_length.new.dial)
+    c.requires.peer bytes c.ask_length.ensures.sent

@@ -2,6 +2,7 @@ use Rattle.std.proofs.Common.{◌∙◌, length}
 use Rattle.remote_store.specs.declared.wanted.Wanted.TheVariants.{Part}
 use Rattle.remote_store.proofs.EndSteps.{end_of}
 use Rattle.remote_store.proofs.CallSteps.{asks_for, peer_fits, told_part}
+use Rattle.remote_store.proofs.SentSteps.{sent_request}
 use Rattle.remote_store.proofs.calls.call_part.Goals as goal
 
 pub write_request-requires-clause-peer : goal.write_request-requires-clause-peer
@@ -21,3 +22,9 @@ returns-clause-end g c =
     end_of c.ask_part.result
     (λ dataset short. (c.args.key.now, asks_for c.args.host.now c.args.peer.now c.as_slice.result.now c.args.key.now c.args.port (Part c.args.from (length c.args.out.now)) c.requires.host c.requires.peer c.ranges.port.fits c.as_bytes-name.ensures.form c.requires.asked bytes dataset short))
     c.ask_part.ensures.end
+
+pub returns-clause-sent : goal.returns-clause-sent
+returns-clause-sent g c =
+    let bytes = c.as_slice.ensures.value ∙ c.write_request.ensures.bytes in
+    sent_request c.ask_part.result c.args.host.now c.args.peer.now c.as_slice.result.now c.args.key.now c.args.port (Part c.args.from (length c.args.out.now)) c.args.kept.now (g.D.Dial.peer c.args.dial.now) (g.D.Dial.line c.args.dial.now) (g.D.Dial.line c.ask_part.new.dial)
+    c.requires.peer bytes c.ask_part.ensures.sent

@@ -29,6 +29,7 @@ returns-in-Ok-Some-clause-end g c =
       again = λ none. absurd (cc none);
       goes_on = λ dataset asks. c.in-Ok-Some.ensures.goes_on dataset asks.0 asks.1;
       kept_end = kept_behind begun.heard;
+      dropped = λ none. absurd (cc none);
     }
 
 pub returns-in-Ok-None-clause-end : goal.returns-in-Ok-None-clause-end

@@ -2,6 +2,7 @@ use Rattle.std.proofs.Common.{◌≡◌, ◌≤◌, ◌∙◌, ◌++◌, true, f
 use Rattle.remote_store.specs.Dials.{Dials}
 use Rattle.remote_store.proofs.EndSteps.{end_dropped}
 use Rattle.remote_store.proofs.HeardParts.{begun_some, heard_there, kept_behind}
+use Rattle.remote_store.proofs.SentSteps.{sent_still}
 use Rattle.remote_store.proofs.ToldAsks.{has_some, part_quiet, part_told, part_untold, replied_begun, replied_cut, replied_err, replied_failed, replied_whole}
 use Rattle.remote_store.proofs.part.ask_part.Goals as goal
 
@@ -76,6 +77,7 @@ returns-in-Ok-true-clause-end g c =
       again = λ none. absurd (cc none);
       goes_on = λ dataset asks on quiet served. same.same_dialled ∙ c.in-Ok-Some.ensures.goes_on dataset asks.0 asks.1 on quiet served;
       kept_end = kept_behind (begun_some c.in-Ok-Some.field-0 is c.in-Ok-Some.ensures.begun).heard;
+      dropped = λ none. absurd (cc none);
     }
 
 pub returns-in-Ok-false-clause-end : goal.returns-in-Ok-false-clause-end
@@ -89,3 +91,15 @@ returns-in-Ok-false-clause-end g c =
 pub returns-in-Err-finish_part-clause-end : goal.returns-in-Err-finish_part-clause-end
 returns-in-Err-finish_part-clause-end g c =
     end_dropped (Err c.in-Err-finish_part.failed) tt (subst (Dials (c.args.host.now, c.args.port) (g.D.Dial.dialled c.args.dial.now)) (sym c.finish_part.ensures.same.same_dialled) c.start.ensures.dialled) tt tt
+
+pub returns-in-Ok-true-clause-sent : goal.returns-in-Ok-true-clause-sent
+returns-in-Ok-true-clause-sent g c =
+    let is : c.finish_part.result ≡ Ok true = c.in-Ok-true.is ∙ ap Ok c.in-Ok-true.field-0-test in
+    let fin = c.finish_part.ensures.finished in
+    sent_still c.finish_part.result true is c.args.kept.now c.args.text.now fin.0 (g.D.Dial.peer c.args.dial.now) _ _ (g.D.Dial.line c.args.dial.now) (g.D.Dial.line c.start.new.dial) (g.D.Dial.line c.finish_part.new.dial) fin.1.came c.in-Ok-Some.ensures.sent
+
+pub returns-in-Ok-false-clause-sent : goal.returns-in-Ok-false-clause-sent
+returns-in-Ok-false-clause-sent g c =
+    let is : c.finish_part.result ≡ Ok false = c.in-Ok-false.is ∙ ap Ok c.in-Ok-false.field-0-test in
+    let fin = c.finish_part.ensures.finished in
+    sent_still c.finish_part.result false is c.args.kept.now c.args.text.now fin.0 (g.D.Dial.peer c.args.dial.now) _ _ (g.D.Dial.line c.args.dial.now) (g.D.Dial.line c.start.new.dial) (g.D.Dial.line c.finish_part.new.dial) fin.1.came c.in-Ok-Some.ensures.sent

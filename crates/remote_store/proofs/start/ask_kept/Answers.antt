@@ -1,4 +1,4 @@
-use Rattle.std.proofs.Common.{◌≡◌, None, IsTrue, refl, rules}
+use Rattle.std.proofs.Common.{◌≡◌, None, IsTrue, inl, refl, rules}
 use Rattle.remote_store.proofs.ToldAsks.{has_none}
 use Rattle.remote_store.proofs.start.ask_kept.Goals as goal
 
@@ -13,3 +13,13 @@ returns-then-there-eq0-clause-goes_on g c = λ none dataset host key port asks o
     let is : c.in-Ok-None.field-0 ≡ None = cc in
     let begun = has_none c.in-Ok-None.field-0 is (c.in-Ok-None.ensures.told dataset host key port asks quiet) in
     (begun served.0 served.1 served.2).0 refl
+
+pub returns-else-there-eq0-clause-sent : goal.returns-else-there-eq0-clause-sent
+returns-else-there-eq0-clause-sent g c =
+    let on : IsTrue c.args.kept = search rules in
+    inl (on, c.in-Ok-None.ensures.sent)
+
+pub returns-in-Ok-Some-clause-sent : goal.returns-in-Ok-Some-clause-sent
+returns-in-Ok-Some-clause-sent g c =
+    let on : IsTrue c.args.kept = search rules in
+    inl (on, c.in-Ok-Some.ensures.sent)

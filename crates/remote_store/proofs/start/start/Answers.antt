@@ -1,5 +1,6 @@
 use Rattle.std.proofs.Common.{◌≡◌, Some, None, take}
 use Rattle.std.proofs.lemmas.Result.{IfOk-weaker}
+use Rattle.remote_store.proofs.SentSteps.{sent_new, some_kept}
 use Rattle.remote_store.proofs.ToldParts.{told_kept, told_new}
 use Rattle.remote_store.proofs.start.start.Goals as goal
 
@@ -18,3 +19,13 @@ pub returns-clause-goes_on : goal.returns-clause-goes_on
 returns-clause-goes_on g c =
     let none : c.in-Ok-None.field-0 ≡ None = cc in
     IfOk-weaker c.ask_once.result _ _ (λ _ _ dataset key asks on quiet served. absurd (c.in-Ok-None.ensures.goes_on none dataset c.args.host.now key c.args.port asks on quiet served)) c.ask_once.ensures.begun
+
+pub returns-in-Ok-Some-clause-sent : goal.returns-in-Ok-Some-clause-sent
+returns-in-Ok-Some-clause-sent g c =
+    let is : c.in-Ok-Some.field-0 ≡ Some c.in-Ok-Some.answer = cc in
+    some_kept c.in-Ok-Some.field-0 c.in-Ok-Some.answer is c.in-Ok-Some.ensures.sent
+
+pub returns-clause-sent : goal.returns-clause-sent
+returns-clause-sent g c =
+    sent_new c.ask_once.result c.args.kept c.args.text.now (g.D.Dial.peer c.args.dial.now) (g.D.Dial.peer c.ask_kept.new.dial) (g.D.Dial.line c.args.dial.now) (g.D.Dial.line c.dial.new.self) (g.D.Dial.line c.ask_once.new.dial)
+    c.ask_kept.ensures.same.same_peer c.in-Ok.ensures.line c.ask_once.ensures.sent

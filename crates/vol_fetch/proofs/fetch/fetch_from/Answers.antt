@@ -1,4 +1,4 @@
-use Rattle.std.proofs.Common.{◌≡◌, ◌+◌, ◌≤◌, ◌^◌, Some, ap, arith, refl, sym}
+use Rattle.std.proofs.Common.{◌≡◌, ◌∙◌, ◌+◌, ◌≤◌, ◌^◌, Some, ap, arith, refl, sym}
 use Rattle.remote_store.specs.Shown.{shown}
 use Rattle.vol_base.specs.Causes.{counted}
 use Rattle.vol_fetch.proofs.FetchSteps.{asked_for, caused, completed, fetched, not_usage}
@@ -11,18 +11,18 @@ pub returns-clause-cuts : goal.returns-clause-cuts
 returns-clause-cuts g c =
     let r = c.args.request.now in
     let s = c.in-Ok.store in
-    let told : shown s.dataset (g.D.Dial.peer s.dial.dial) ≡ shown r.dataset (g.D.Dial.peer c.args.dial) = λ i. shown (c.in-Ok.ensures.dataset i) (g.D.Dial.peer (c.in-Ok.ensures.dial i)) in
-    fetched (Some r) r c.run_cutout-status.result (λ r. shown r.dataset (g.D.Dial.peer c.args.dial)) _ (shown s.dataset (g.D.Dial.peer s.dial.dial)) refl told c.run_cutout-status.ensures.cuts
+    let told : shown s.remote.dataset (g.D.Dial.peer s.remote.dial) ≡ shown r.dataset (g.D.Dial.peer c.args.dial) = λ i. shown (c.in-Ok.ensures.dataset i) (g.D.Dial.peer (c.in-Ok.ensures.dial i)) in
+    fetched (Some r) r c.run_cutout-status.result (λ r. shown r.dataset (g.D.Dial.peer c.args.dial)) _ (shown s.remote.dataset (g.D.Dial.peer s.remote.dial)) refl told c.run_cutout-status.ensures.cuts
 
 pub returns-clause-complete : goal.returns-clause-complete
 returns-clause-complete g c =
     let r = c.args.request.now in
     let s = c.in-Ok.store in
     let n = c.run_cutout-status.new.store in
-    let told : shown s.dataset (g.D.Dial.peer s.dial.dial) ≡ shown r.dataset (g.D.Dial.peer c.args.dial) = λ i. shown (c.in-Ok.ensures.dataset i) (g.D.Dial.peer (c.in-Ok.ensures.dial i)) in
-    let now : g.D.Dial.faults n.dial.dial ≡ g.D.Dial.faults c.release.result.dial = ap g.D.Dial.faults (sym c.release.ensures.dial) in
-    let all = completed (Some r) r c.run_cutout-status.result (λ r. shown r.dataset (g.D.Dial.peer c.args.dial)) (shown s.dataset (g.D.Dial.peer s.dial.dial)) (shown n.dataset (g.D.Dial.peer n.dial.dial))
-    (g.D.Dial.faults s.dial.dial) (g.D.Dial.faults c.args.dial) (g.D.Dial.faults n.dial.dial) s.faults n.faults _ _ refl told c.run_cutout-status.ensures.kept.same_objects (ap g.D.Dial.faults c.in-Ok.ensures.dial) c.run_cutout-status.ensures.complete in
+    let told : shown s.remote.dataset (g.D.Dial.peer s.remote.dial) ≡ shown r.dataset (g.D.Dial.peer c.args.dial) = λ i. shown (c.in-Ok.ensures.dataset i) (g.D.Dial.peer (c.in-Ok.ensures.dial i)) in
+    let now : g.D.Dial.faults n.remote.dial ≡ g.D.Dial.faults c.into_remote.result.dial = ap (λ r. g.D.Dial.faults r.dial) (sym c.into_remote.ensures.remote) in
+    let all = completed (Some r) r c.run_cutout-status.result (λ r. shown r.dataset (g.D.Dial.peer c.args.dial)) (shown s.remote.dataset (g.D.Dial.peer s.remote.dial)) (shown n.remote.dataset (g.D.Dial.peer n.remote.dial))
+    (g.D.Dial.faults s.remote.dial) (g.D.Dial.faults c.args.dial) (g.D.Dial.faults n.remote.dial) s.remote.faults n.remote.faults _ _ refl told c.run_cutout-status.ensures.kept.same_objects (ap g.D.Dial.faults c.in-Ok.ensures.dial) c.run_cutout-status.ensures.complete in
     rw (sym now) all
 
 pub returns-clause-causes : goal.returns-clause-causes
@@ -30,11 +30,11 @@ returns-clause-causes g c =
     let r = c.args.request.now in
     let s = c.in-Ok.store in
     let n = c.run_cutout-status.new.store in
-    let told : shown s.dataset (g.D.Dial.peer s.dial.dial) ≡ shown r.dataset (g.D.Dial.peer c.args.dial) = λ i. shown (c.in-Ok.ensures.dataset i) (g.D.Dial.peer (c.in-Ok.ensures.dial i)) in
-    let now : g.D.Dial.faults n.dial.dial ≡ g.D.Dial.faults c.release.result.dial = ap g.D.Dial.faults (sym c.release.ensures.dial) in
-    let own : n.faults ≡ c.release.result.faults = sym c.release.ensures.faults in
-    let all = caused (Some r) r c.run_cutout-status.result (λ r. shown r.dataset (g.D.Dial.peer c.args.dial)) (shown s.dataset (g.D.Dial.peer s.dial.dial)) (shown n.dataset (g.D.Dial.peer n.dial.dial))
-    (g.D.Dial.faults s.dial.dial) (g.D.Dial.faults c.args.dial) (g.D.Dial.faults n.dial.dial) s.faults n.faults _ _ _ _ refl told c.run_cutout-status.ensures.kept.same_objects c.in-Ok.ensures.faults (ap g.D.Dial.faults c.in-Ok.ensures.dial)
+    let told : shown s.remote.dataset (g.D.Dial.peer s.remote.dial) ≡ shown r.dataset (g.D.Dial.peer c.args.dial) = λ i. shown (c.in-Ok.ensures.dataset i) (g.D.Dial.peer (c.in-Ok.ensures.dial i)) in
+    let now : g.D.Dial.faults n.remote.dial ≡ g.D.Dial.faults c.into_remote.result.dial = ap (λ r. g.D.Dial.faults r.dial) (sym c.into_remote.ensures.remote) in
+    let own : n.remote.faults ≡ c.into_remote.result.faults = ap (λ r. r.faults) (sym c.into_remote.ensures.remote) in
+    let all = caused (Some r) r c.run_cutout-status.result (λ r. shown r.dataset (g.D.Dial.peer c.args.dial)) (shown s.remote.dataset (g.D.Dial.peer s.remote.dial)) (shown n.remote.dataset (g.D.Dial.peer n.remote.dial))
+    (g.D.Dial.faults s.remote.dial) (g.D.Dial.faults c.args.dial) (g.D.Dial.faults n.remote.dial) s.remote.faults n.remote.faults _ _ _ _ refl told c.run_cutout-status.ensures.kept.same_objects c.in-Ok.ensures.faults (ap g.D.Dial.faults c.in-Ok.ensures.dial)
     c.run_cutout-status.ensures.causes in
     rw (sym now) (rw (sym own) all)
 
@@ -43,13 +43,18 @@ returns-clause-asked g c =
     let r = c.args.request.now in
     let s = c.in-Ok.store in
     let n = c.run_cutout-status.new.store in
-    let told : shown s.dataset (g.D.Dial.peer s.dial.dial) ≡ shown r.dataset (g.D.Dial.peer c.args.dial) = λ i. shown (c.in-Ok.ensures.dataset i) (g.D.Dial.peer (c.in-Ok.ensures.dial i)) in
-    asked_for (Some r) r (λ r. shown r.dataset (g.D.Dial.peer c.args.dial)) (shown s.dataset (g.D.Dial.peer s.dial.dial)) s.asked n.asked c.release.result.asked refl told c.in-Ok.ensures.asked (sym c.release.ensures.asked) c.run_cutout-status.ensures.asked
+    let told : shown s.remote.dataset (g.D.Dial.peer s.remote.dial) ≡ shown r.dataset (g.D.Dial.peer c.args.dial) = λ i. shown (c.in-Ok.ensures.dataset i) (g.D.Dial.peer (c.in-Ok.ensures.dial i)) in
+    asked_for (Some r) r (λ r. shown r.dataset (g.D.Dial.peer c.args.dial)) (shown s.remote.dataset (g.D.Dial.peer s.remote.dial)) s.remote.asked n.remote.asked c.into_remote.result.asked refl told c.in-Ok.ensures.asked (ap (λ r. r.asked) (sym c.into_remote.ensures.remote)) c.run_cutout-status.ensures.asked
 
 pub returns-clause-unread : goal.returns-clause-unread
 returns-clause-unread g c = λ refused.
     let s = c.in-Ok.store in
     let n = c.run_cutout-status.new.store in
-    let now : counted n.asked ≡ counted c.release.result.asked = ap counted (sym c.release.ensures.asked) in
-    let most : counted n.asked ≤ counted s.asked + (2 ^ 20 + 1) = c.run_cutout-status.ensures.unread refused in
+    let now : counted n.remote.asked ≡ counted c.into_remote.result.asked = ap counted (ap (λ r. r.asked) (sym c.into_remote.ensures.remote)) in
+    let most : counted n.remote.asked ≤ counted s.remote.asked + (2 ^ 20 + 1) = c.run_cutout-status.ensures.unread refused in
     omega (arith, c.in-Ok.ensures.asked, now, most)
+
+pub returns-clause-made : goal.returns-clause-made
+returns-clause-made g c =
+    let e = c.into_remote.ensures in
+    (e.host ∙ sym c.requires.host, e.port ∙ sym c.requires.port, e.dataset ∙ sym c.requires.of)

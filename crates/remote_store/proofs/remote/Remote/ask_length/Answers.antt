@@ -1,5 +1,7 @@
-use Rattle.std.proofs.Common.{◌∙◌, ◌≤◌, take, length, length-take, ap, arith}
+use Rattle.std.proofs.Common.{IfOk, subst, string_bytes, ◌∙◌, ◌≤◌, take, length, length-take, ap, arith}
+use Rattle.remote_store.specs.Sent.{Requests}
 use Rattle.remote_store.specs.Talks.{SaysLength}
+use Rattle.remote_store.specs.declared.wanted.Wanted.TheVariants.{Length}
 use Rattle.std.specs.Vec.{with_items}
 use Rattle.remote_store.proofs.JudgedSteps.{judged_length, written_front}
 use Rattle.remote_store.proofs.RemoteSteps.{refilled, length_at, length_comes, settled, settled_cause, settled_end}
@@ -54,3 +56,9 @@ returns-clause-end g c =
     let e = c.call_length-answer.ensures in
     let front = written_front s.received c.call_length-answer.new.received c.call_length-answer.new.there (c.call_length-answer.auto.received ∙ ap length c.as_mut_slice.ensures.value) in
     settled_end c.call_length-answer.result c.settle.result c.settle.ensures.said c.args.key.now s.dataset (with_items s.received c.call_length-answer.new.received).items e.end e.cause c.requires s.quiet c.as_str.ensures.value front
+
+pub returns-clause-sent : goal.returns-clause-sent
+returns-clause-sent g c =
+    let s = c.args.self.now in
+    settled c.call_length-answer.result c.settle.result c.settle.ensures.said (λ o. Requests (string_bytes s.host, s.port) c.args.key.now Length s.kept (g.D.Dial.peer s.dial) (g.D.Dial.line s.dial) (g.D.Dial.line c.call_length-answer.new.dial))
+    (subst (λ host. IfOk c.call_length-answer.result (λ _. Requests (host, s.port) c.args.key.now Length s.kept (g.D.Dial.peer s.dial) (g.D.Dial.line s.dial) (g.D.Dial.line c.call_length-answer.new.dial))) c.as_str.ensures.value c.call_length-answer.ensures.sent)

@@ -1,7 +1,9 @@
-use Rattle.std.proofs.Common.{◌∙◌, ◌≤◌, take, length, ap, ◌<◌, arith}
+use Rattle.std.proofs.Common.{IfOk, subst, string_bytes, ◌∙◌, ◌≤◌, take, length, ap, ◌<◌, arith}
 use Rattle.vol_base.specs.Outside.{KeepsRest}
 use Rattle.remote_store.specs.Bodies.{got_of_kind, stretch_count}
+use Rattle.remote_store.specs.Sent.{Requests}
 use Rattle.remote_store.specs.Talks.{SaysPart}
+use Rattle.remote_store.specs.declared.wanted.Wanted.TheVariants.{Part}
 use Rattle.std.specs.Vec.{with_items}
 use Rattle.remote_store.proofs.JudgedSteps.{judged_part, written_front}
 use Rattle.remote_store.proofs.RemoteSteps.{refilled, part_at, part_comes, replied_kept, settled, settled_cause, settled_end, settled_some}
@@ -63,3 +65,9 @@ returns-clause-end g c =
     let e = c.call_part-answer.ensures in
     let front = written_front s.received c.call_part-answer.new.received c.call_part-answer.new.there (c.call_part-answer.auto.received ∙ ap length c.as_mut_slice.ensures.value) in
     settled_end c.call_part-answer.result c.settle.result c.settle.ensures.said c.args.key.now s.dataset (with_items s.received c.call_part-answer.new.received).items e.end e.cause c.requires.key s.quiet c.as_str.ensures.value front
+
+pub returns-clause-sent : goal.returns-clause-sent
+returns-clause-sent g c =
+    let s = c.args.self.now in
+    settled c.call_part-answer.result c.settle.result c.settle.ensures.said (λ o. Requests (string_bytes s.host, s.port) c.args.key.now (Part c.args.at (length c.args.out.now)) s.kept (g.D.Dial.peer s.dial) (g.D.Dial.line s.dial) (g.D.Dial.line c.call_part-answer.new.dial))
+    (subst (λ host. IfOk c.call_part-answer.result (λ _. Requests (host, s.port) c.args.key.now (Part c.args.at (length c.args.out.now)) s.kept (g.D.Dial.peer s.dial) (g.D.Dial.line s.dial) (g.D.Dial.line c.call_part-answer.new.dial))) c.as_str.ensures.value c.call_part-answer.ensures.sent)

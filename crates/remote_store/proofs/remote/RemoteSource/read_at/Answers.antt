@@ -1,4 +1,4 @@
-use Rattle.std.proofs.Common.{◌≡◌, Some, None, length, subst, sym, arith, ◌≢◌, []}
+use Rattle.std.proofs.Common.{string_bytes, ◌≡◌, Some, None, length, subst, sym, arith, ◌≢◌, []}
 use Rattle.std.specs.FinMap as map
 use Rattle.vol_base.specs.Outside.{Reads}
 use Rattle.remote_store.specs.Shown.{key_in, shown}
@@ -8,6 +8,7 @@ use Rattle.remote_store.proofs.Looked.{if_shown, no_bytes}
 use Rattle.remote_store.specs.Remotes.{IsPlaced, IsRead, IsSame, wanted_of}
 use Rattle.remote_store.specs.declared.wanted.Wanted.TheVariants.{Length, Part}
 use Rattle.remote_store.proofs.JudgedSteps.{if_any, if_none, judged_empty, judged_failed, judged_read, wanted_none, wanted_some}
+use Rattle.remote_store.proofs.SentSteps.{at_key, no_key, request_of_wanted}
 use Rattle.remote_store.proofs.RemoteSteps.{empty_told, read_told}
 use Rattle.remote_store.proofs.remote.RemoteSource.read_at.Goals as goal
 
@@ -75,3 +76,28 @@ returns-in-Err-ask_part-clause-judged g c =
 
 pub returns-in-None-clause-kept_end : goal.returns-in-None-clause-kept_end
 returns-in-None-clause-kept_end g c = kept_nowhere c.args.self.now.kept
+
+pub returns-in-None-clause-sent : goal.returns-in-None-clause-sent
+returns-in-None-clause-sent g c =
+    let e : key_in c.args.self.now.dataset c.args.name.now ≡ None = cc in
+    no_key _ (key_in c.args.self.now.dataset c.args.name.now) e
+
+pub returns-in-Ok-clause-sent : goal.returns-in-Ok-clause-sent
+returns-in-Ok-clause-sent g c =
+    let e : key_in c.args.self.now.dataset c.args.name.now ≡ Some c.in-Some.key = cc in
+    let none : length c.args.out.now ≡ 0 = omega (arith, c.if-count-eq0.true) in
+    let same = wanted_none [] 0 None None 0 0 0 0 c.args.at (length c.args.out.now) none in
+    at_key _ (key_in c.args.self.now.dataset c.args.name.now) c.in-Some.key e (request_of_wanted (string_bytes c.args.self.now.host, c.args.self.now.port) c.in-Some.key Length (wanted_of c.args.at (length c.args.out.now)) c.args.self.now.kept (g.D.Dial.peer c.args.self.now.dial) (g.D.Dial.line c.args.self.now.dial) _ same c.in-Ok.ensures.sent)
+
+pub returns-in-Err-clause-sent : goal.returns-in-Err-clause-sent
+returns-in-Err-clause-sent g c = if_any (key_in c.args.self.now.dataset c.args.name.now) tt
+
+pub returns-in-Ok-ask_part-clause-sent : goal.returns-in-Ok-ask_part-clause-sent
+returns-in-Ok-ask_part-clause-sent g c =
+    let e : key_in c.args.self.now.dataset c.args.name.now ≡ Some c.in-Some.key = cc in
+    let some : length c.args.out.now ≢ 0 = λ e. absurd (c.if-count-eq0.false e) in
+    let same = wanted_some [] 0 None None 0 0 0 0 c.args.at (length c.args.out.now) some in
+    at_key _ (key_in c.args.self.now.dataset c.args.name.now) c.in-Some.key e (request_of_wanted (string_bytes c.args.self.now.host, c.args.self.now.port) c.in-Some.key (Part c.args.at (length c.args.out.now)) (wanted_of c.args.at (length c.args.out.now)) c.args.self.now.kept (g.D.Dial.peer c.args.self.now.dial) (g.D.Dial.line c.args.self.now.dial) _ same c.in-Ok-ask_part.ensures.sent)
+
+pub returns-in-Err-ask_part-clause-sent : goal.returns-in-Err-ask_part-clause-sent
+returns-in-Err-ask_part-clause-sent g c = if_any (key_in c.args.self.now.dataset c.args.name.now) tt

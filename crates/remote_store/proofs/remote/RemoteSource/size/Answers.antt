@@ -6,6 +6,7 @@ use Rattle.remote_store.proofs.Looked.{if_shown, no_length}
 use Rattle.remote_store.specs.Remotes.{IsSame, IsSize}
 use Rattle.remote_store.specs.declared.wanted.Wanted.TheVariants.{Length}
 use Rattle.remote_store.proofs.JudgedSteps.{if_any, if_none, judged_failed, judged_size}
+use Rattle.remote_store.proofs.SentSteps.{at_key, no_key}
 use Rattle.remote_store.proofs.RemoteSteps.{found_told}
 use Rattle.remote_store.proofs.remote.RemoteSource.size.Goals as goal
 
@@ -41,3 +42,16 @@ returns-in-Err-clause-judged g c = if_any (key_in c.args.self.now.dataset c.args
 
 pub returns-in-None-clause-kept_end : goal.returns-in-None-clause-kept_end
 returns-in-None-clause-kept_end g c = kept_nowhere c.args.self.now.kept
+
+pub returns-in-None-clause-sent : goal.returns-in-None-clause-sent
+returns-in-None-clause-sent g c =
+    let e : key_in c.args.self.now.dataset c.args.name.now ≡ None = cc in
+    no_key _ (key_in c.args.self.now.dataset c.args.name.now) e
+
+pub returns-in-Ok-clause-sent : goal.returns-in-Ok-clause-sent
+returns-in-Ok-clause-sent g c =
+    let e : key_in c.args.self.now.dataset c.args.name.now ≡ Some c.in-Some.key = cc in
+    at_key _ (key_in c.args.self.now.dataset c.args.name.now) c.in-Some.key e c.in-Ok.ensures.sent
+
+pub returns-in-Err-clause-sent : goal.returns-in-Err-clause-sent
+returns-in-Err-clause-sent g c = if_any (key_in c.args.self.now.dataset c.args.name.now) tt

@@ -1,9 +1,0 @@
-use Rattle.remote_store.proofs.AimedSteps.{only_none}
-use Rattle.remote_store.proofs.aimed.AimedDial.new.Goals as goal
-
-pub invariant_of-result : goal.invariant_of-result
-invariant_of-result g c = record {
-  host_is = c.requires.host;
-  port_is = c.requires.port;
-  only = only_none (g.N.Aim.host, g.N.Aim.port) g.N.Aim.before (g.D.Dial.dialled c.args.dial) c.requires.before;
-}

@@ -1,0 +1,14 @@
+use Rattle.std.proofs.Common.{◌∙◌, ap, string_bytes}
+use Rattle.remote_store.proofs.AimedSteps.{only_to}
+use Rattle.remote_store.proofs.aimed.AimedStoreSource.read_at.Goals as goal
+
+pub invariant_of-self : goal.invariant_of-self
+invariant_of-self g c =
+    let s = c.args.self.now in
+    let e = c.read_at.ensures in
+    record {
+      host_is = ap string_bytes e.stays.0 ∙ s.host_is;
+      port_is = e.stays.1 ∙ s.port_is;
+      dataset_is = e.stays.2 ∙ s.dataset_is;
+      only = only_to (g.N.Aim.host, g.N.Aim.port) g.N.Aim.before (string_bytes s.remote.host) s.remote.port (g.D.Dial.dialled s.remote.dial) (g.D.Dial.dialled c.read_at.new.self.dial) s.host_is s.port_is s.only e.dialled;
+    }
