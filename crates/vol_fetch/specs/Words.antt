@@ -2,11 +2,10 @@
 use Rattle.std.specs.Prelude.{ℕ, Bool, ◌&&◌, ◌==◌, not, List, [], ◌∷◌, length, slice_index, nat_le, Option, Some, None, option_and_then, if◌then◌else◌}
 use Rattle.std.specs.Char.{is_ascii_digit}
 use Rattle.std.specs.List.{list_all}
-use Rattle.std.specs.Result.{result_ok}
 use Rattle.std.specs.Str.Parse.{digits_value}
-use Rattle.vol_base.specs.BoxText.{box_numbers, parsed}
 use Rattle.vol_base.specs.Names.{is_name}
 use Rattle.vol_base.specs.declared.boxes.Box3.{Box3}
+use Rattle.line_words.specs.Words.{box_of}
 use Rattle.remote_store.specs.Hosts.{is_host}
 use Rattle.vol_fetch.specs.declared.words.Request.{Request}
 
@@ -26,10 +25,6 @@ port_of word = option_and_then port_within (digits_of word)
 -- DATASET and KEY: a name of at most 200 bytes that doesn't begin with `-`
 abbrev pub short_name : List ℕ → Option (List ℕ)
 short_name word = if is_name word && nat_le (length word) 200 && not (slice_index word 0 == 45) then Some word else None
-
--- BOX: the box that the word spells, if it spells one
-abbrev pub box_of : List ℕ → Option Box3
-box_of word = result_ok (parsed (box_numbers word))
 
 abbrev pub request_of : Option ℕ → Option (List ℕ) → Option (List ℕ) → Option Box3 → Option Request
 request_of (Some port) (Some dataset) (Some key) (Some part) = Some (record { port = port; dataset = dataset; key = key; part = part })

@@ -3,8 +3,10 @@ ghost use Rattle.std.specs.Prelude.{◌≡◌, ◌≤◌, ◌&&◌, ◌==◌, If
 ghost use Rattle.std.specs.Char.{is_ascii_digit};
 ghost use Rattle.std.specs.List.{list_all};
 ghost use Rattle.remote_store.specs.Hosts.{is_host};
-ghost use Rattle.vol_fetch.specs.Words.{box_of, digits_of, fetch_line, first_word, is_port_word, port_of, port_within, request_of, scale_line, short_name};
+ghost use Rattle.vol_fetch.specs.Words.{digits_of, fetch_line, first_word, is_port_word, port_of, port_within, request_of, scale_line, short_name};
+ghost use Rattle.line_words.specs.Words.{box_of};
 
+use line_words::read_box;
 use remote_store::is_host;
 use vol_base::{Box3, Name};
 
@@ -87,12 +89,6 @@ fn read_name(word: &str) -> Option<Name>
     } else {
         None
     }
-}
-
-fn read_box(word: &str) -> Option<Box3>
-    ensures { result ≡ box_of word.now }
-{
-    Box3::parse(word).ok()
 }
 
 fn read_request(port: Option<u16>, dataset: &str, key: &str, part: &str) -> Option<Request>
