@@ -39,6 +39,10 @@ OTHER_HOST = "127.0.0.2"
 FAULT = refused("store fault")
 REPLIES = 50
 
+# How long a head may take, and how far the rest of a reply may fall back behind one of so many bytes a second.
+HEAD = 30
+BEHIND, PACE = 10, 16384
+
 ONE = Volume([11, 1, 1], [11, 1, 1])
 ONE_IN_SHARD = dataclasses.replace(ONE, sharding=Sharding())
 CHUNK = b"0123456789a"
@@ -177,6 +181,11 @@ def in_pieces(reply):
     return [stream[begin:end] for begin, end in itertools.pairwise(cuts)]
 
 
+def cut_after(stream, first, every):
+    """The front of a stream, and the rest in pieces of so many bytes."""
+    return [stream[:first], *(stream[begin : begin + every] for begin in range(first, len(stream), every))]
+
+
 CHANCE = random.Random(0)
 
 # Replies that fit, what is then, and whether each is on a connection of its own.
@@ -208,7 +217,7 @@ class Fetching(Trial):
     def honest(self, request):
         return honest(request, read_file(self.folder / "d" / request.target[1:]))
 
-    def telling(self, stream=Honest.whole, then=KEEP, at=0, suits=lambda reply: True):
+    def telling(self, stream=Honest.whole, then=KEEP, at=0, suits=lambda reply: True, pause=0.001):
         """A server whose replies `stream` makes of honest ones that suit, from the request of a number on; the others are honest."""
 
         def answer(request):
@@ -219,7 +228,7 @@ class Fetching(Trial):
             told = told.whole() if isinstance(told, Honest) else told
             return [told] if isinstance(told, bytes) else told, then
 
-        return telling(answer)
+        return telling(answer, pause=pause)
 
     def servers(self):
         folder = self.folder / "d"
@@ -461,6 +470,37 @@ class Cases(Fetching):
             done = subprocess.run(words, capture_output=True, timeout=LIMIT, check=False)
         want_ending((done.returncode, done.stdout, done.stderr), printed(CHUNK))
         want_set(noted.read_text())
+
+    def a_head_that_drips(self):
+        """A byte of it every 3 seconds."""
+        with self.telling(lambda reply: cut_after(reply.whole(), 1, 1), at=1, pause=3) as server, within(HEAD - 1, HEAD + 5):
+            self.want_fetched(FAULT, server.server_port)
+
+    def a_head_that_comes_slowly(self):
+        """In five pieces, within its limit."""
+        with self.telling(lambda reply: cut_after(reply.whole(), 20, 20)[:4] + [reply.whole()[80:]], at=1, pause=4) as server:
+            with within(4 * 4, HEAD):
+                self.want_fetched(printed(CHUNK), server.server_port)
+
+    def _fetch_slowly(self, rate, seconds):
+        """A chunk that comes at a rate for so many seconds, in pieces behind its first 16 KiB; what it ends with, and what it should."""
+        values = random.Random(0).randbytes(16384 + rate * seconds)
+        volume = Volume([len(values), 1, 1], [len(values), 1, 1])
+        self.lay_out({**infos_of(volume), **volume.files({(0, 0, 0): values})})
+        with self.telling(lambda reply: cut_after(reply.whole(), 16384, rate // 2), at=1, pause=0.5) as server:
+            return self.fetch(server.server_port, volume), printed(values)
+
+    def a_reply_that_drips(self):
+        """It falls back more and more behind the pace: it is left once it is so far back."""
+        with within(BEHIND - 1, BEHIND + 5):
+            found, wanted = self._fetch_slowly(PACE // 8, 60)
+        want_front(found, wanted, "a reply that drips")
+
+    def a_reply_that_keeps_pace(self):
+        """For longer than it may fall back."""
+        with within(BEHIND + 2, BEHIND + 10):
+            found, wanted = self._fetch_slowly(2 * PACE, BEHIND + 4)
+        want_ending(found, wanted)
 
     def a_server_that_takes_no_connection(self):
         """One whose queue of them is full."""

@@ -228,7 +228,7 @@ class Peer(socketserver.StreamRequestHandler):
         while (request := self.read_request()) is not None:
             pieces, then = self.server.answer(request)
             for number, piece in enumerate(pieces):
-                time.sleep(0.001 if number > 0 else 0)
+                time.sleep(self.server.pause if number > 0 else 0)
                 self.request.sendall(piece)
             if then == CLOSE:
                 self.request.shutdown(socket.SHUT_WR)
@@ -253,9 +253,10 @@ class Breaking(Peer):
         self.break_off()
 
 
-def telling(answer, peer=Peer):
+def telling(answer, peer=Peer, pause=0.001):
     """
-    A server that is told what to say: `answer` says of each request in which pieces the reply comes, and what then is: KEEP waits for the
-    next one, CLOSE ends what is sent, RESET breaks the connection off, and HOLD says nothing more. All requests are noted.
+    A server that is told what to say: `answer` says of each request in which pieces the reply comes, with pauses between them, and what then
+    is: KEEP waits for the next one, CLOSE ends what is sent, RESET breaks the connection off, and HOLD says nothing more. All requests are
+    noted.
     """
-    return running(peer, answer=answer, lock=threading.Lock(), connections=0, requests=[])
+    return running(peer, answer=answer, pause=pause, lock=threading.Lock(), connections=0, requests=[])

@@ -2,6 +2,8 @@
 #![tactic(auto)]
 
 mod fetch;
+mod known;
+mod limits;
 mod tcp;
 #[cfg(test)]
 mod tests;

@@ -4,10 +4,15 @@ ghost use Rattle.std.specs.Duration.{as_nanos};
 ghost use Rattle.std.specs.Option.{is_some};
 ghost use Rattle.vol_base.specs.Causes.{counted, is_count};
 
+#[cfg(test)]
+mod dial_rows;
+
+use crate::known::Known;
+use crate::limits::{Course, Limits, from_now, wait_until};
 use remote_store::Dial;
 use std::io::{self, ErrorKind, Read, Write};
 use std::net::{Ipv4Addr, Net, OpenStream, SocketAddr, SocketAddrV4};
-use std::time::Duration;
+use std::time::{Clock, Duration, Instant};
 use vol_base::Failed;
 
 // How many addresses of a host are tried at most.
@@ -15,33 +20,52 @@ const MOST_ADDRESSES: usize = 16;
 
 /// Connections over TCP, one after the other, as a dial, which tells nothing of what came or was sent.
 ///
-/// The system looks up a host's name. Each connection, receive and send that takes longer than `silence` is a fault.
+/// The system looks up a host's name once: the first of its addresses that takes a connection is dialled from then on. Each
+/// connection, receive and send that takes longer than `silence` is a fault; so is a look-up with what is dialled for it that
+/// takes longer than `dialling`, a head that comes more slowly than `head`, and a reply that falls behind by `reply`.
 #[derive(Drop)]
 pub struct TcpDial<R: Net> {
     rt: R,
-    silence: Duration,
+    limits: Limits,
+    known: Option<Known>,
     stream: Option<R::Stream>,
+    course: Course,
     ends: u64,
     faults: u64,
 }
 
 impl<R: Net> TcpDial<R> {
-    /// No end is held, and nothing failed. A peer may be silent for 10 seconds.
+    /// No end is held, and nothing failed. A peer may be silent for 10 seconds. What is looked up and dialled has 30 seconds in
+    /// all, and so has a head; a reply may fall back 10 seconds.
     pub fn new(rt: R) -> TcpDial<R>
         ensures faults { result.faults ≡ 0 }
-        ensures silence { as_nanos result.silence ≡ 10 * 10 ^ 9 }
+        ensures silence { as_nanos result.limits.silence ≡ 10 * 10 ^ 9 }
+        ensures dialling { as_nanos result.limits.dialling ≡ 30 * 10 ^ 9 }
+        ensures head { as_nanos result.limits.head ≡ 30 * 10 ^ 9 }
+        ensures reply { as_nanos result.limits.reply ≡ 10 * 10 ^ 9 }
     {
-        TcpDial::with_silence(rt, Duration::from_secs(10))
+        TcpDial::with_limits(
+            rt,
+            Limits {
+                silence: Duration::from_secs(10),
+                dialling: Duration::from_secs(30),
+                head: Duration::from_secs(30),
+                reply: Duration::from_secs(10),
+            },
+        )
     }
 
-    fn with_silence(rt: R, silence: Duration) -> TcpDial<R>
+    /// The same, with limits of its own.
+    pub fn with_limits(rt: R, limits: Limits) -> TcpDial<R>
         ensures faults { result.faults ≡ 0 }
-        ensures silence { result.silence ≡ silence }
+        ensures limits { result.limits ≡ limits }
     {
         TcpDial {
             rt,
-            silence,
+            limits,
+            known: None,
             stream: None,
+            course: Course::begun(),
             ends: 0,
             faults: 0,
         }
@@ -55,44 +79,100 @@ fn count_fault(faults: &mut u64)
     *faults = faults.saturating_add(1);
 }
 
-// The first address of some that takes a connection.
-fn connect_any<R: Net>(rt: &R, found: &[SocketAddr], silence: Duration) -> io::Result<R::Stream> {
+// A connection to the first address of some that takes one until a moment, and which it is.
+fn connect_any<R: Net + Clock>(
+    rt: &R,
+    found: &[SocketAddr],
+    silence: Duration,
+    end: Option<Instant>,
+) -> io::Result<(R::Stream, SocketAddr)> {
     let mut last = io::Error::from(ErrorKind::NotFound);
     for address in found {
-        match rt.connect_timeout(*address, silence) {
-            Ok(stream) => return Ok(stream),
+        let wait = match wait_until(rt, end, silence) {
+            Some(wait) if !wait.is_zero() => wait,
+            _ => return Err(io::Error::from(ErrorKind::TimedOut)),
+        };
+        match rt.connect_timeout(*address, wait) {
+            Ok(stream) => return Ok((stream, *address)),
             Err(error) => last = error,
         }
     }
     Err(last)
 }
 
-// A connection to a port of a host, which sends without delay, with a limit for each call.
-fn open_stream<R: Net>(rt: &R, host: &str, port: u16, silence: Duration) -> io::Result<R::Stream> {
-    let nowhere = SocketAddr::V4(SocketAddrV4::new(Ipv4Addr::UNSPECIFIED, 0));
-    let mut found = [nowhere; MOST_ADDRESSES];
-    let count = rt.lookup_host(host, port, &mut found)?;
-    let stream = connect_any(rt, &found[..count], silence)?;
-    stream.set_nodelay(true)?;
-    stream.set_read_timeout(Some(silence))?;
-    stream.set_write_timeout(Some(silence))?;
-    Ok(stream)
+// The addresses of a port of a host: the one that is known, or those that the system looks up.
+fn find_addresses<R: Net>(
+    rt: &R,
+    known: Option<Known>,
+    host: &str,
+    port: u16,
+    found: &mut [SocketAddr],
+) -> io::Result<usize>
+    requires { 0 < length found.old }
+    ensures { IfOk result (λ n. n ≤ length found.new) }
+{
+    let Some(address) = known.and_then(|known| known.find(host, port)) else {
+        return rt.lookup_host(host, port, found);
+    };
+    found[0] = address;
+    Ok(1)
 }
 
-// Reads some bytes, and none only at the end, which it is too where the peer breaks the connection off, as a server may that
-// closes it with a request unread. What a signal broke off is tried again.
-fn read_some<S: Read>(stream: &mut S, out: &mut [u8]) -> Result<usize, Failed>
+// A connection to a port of a host, which sends without delay, with a limit for each send; and its address.
+fn open_stream<R: Net + Clock>(
+    rt: &R,
+    limits: &Limits,
+    known: Option<Known>,
+    host: &str,
+    port: u16,
+) -> io::Result<(R::Stream, SocketAddr)> {
+    let end = from_now(rt, limits.dialling);
+    let nowhere = SocketAddr::V4(SocketAddrV4::new(Ipv4Addr::UNSPECIFIED, 0));
+    let mut found = [nowhere; MOST_ADDRESSES];
+    let count = find_addresses(rt, known, host, port, &mut found)?;
+    let (stream, address) = connect_any(rt, &found[..count], limits.silence, end)?;
+    stream.set_nodelay(true)?;
+    stream.set_write_timeout(Some(limits.silence))?;
+    Ok((stream, address))
+}
+
+// Reads some bytes, and waits for them until a moment at most: a stream takes no limit of no time. What a signal broke off is
+// tried again.
+fn read_until<C: Clock, S: Read + OpenStream>(
+    clock: &C,
+    stream: &mut S,
+    end: Option<Instant>,
+    most: Duration,
+    out: &mut [u8],
+) -> io::Result<usize>
     ensures { IfOk result (λ n. n ≤ length out.old) }
 {
     for _ in 0..u64::MAX {
+        stream.set_read_timeout(Some(wait_until(clock, end, most).unwrap_or(Duration::ZERO)))?;
         match stream.read(out) {
-            Ok(given) => return Ok(given),
             Err(error) if error.kind() == ErrorKind::Interrupted => {}
-            Err(error) if error.kind() == ErrorKind::ConnectionReset => return Ok(0),
-            Err(_) => return Err(Failed),
+            given => return given,
         }
     }
-    Err(Failed)
+    Err(io::Error::from(ErrorKind::TimedOut))
+}
+
+// Reads some bytes, and none only at the end, which it is too where the peer breaks the connection off, as a server may that
+// closes it with a request unread.
+fn read_some<C: Clock, S: Read + OpenStream>(
+    clock: &C,
+    stream: &mut S,
+    end: Option<Instant>,
+    most: Duration,
+    out: &mut [u8],
+) -> Result<usize, Failed>
+    ensures { IfOk result (λ n. n ≤ length out.old) }
+{
+    match read_until(clock, stream, end, most, out) {
+        Ok(given) => Ok(given),
+        Err(error) if error.kind() == ErrorKind::ConnectionReset => Ok(0),
+        Err(_) => Err(Failed),
+    }
 }
 
 // Writes some bytes of a piece, at least one. What a signal broke off is tried again. Where the peer broke the connection off,
@@ -114,12 +194,18 @@ fn write_some<S: Write>(stream: &mut S, piece: &[u8]) -> Result<usize, Failed>
     Err(Failed)
 }
 
-fn read_end<S: Read>(stream: &mut Option<S>, out: &mut [u8]) -> Result<usize, Failed>
+fn read_end<C: Clock, S: Read + OpenStream>(
+    clock: &C,
+    stream: &mut Option<S>,
+    end: Option<Instant>,
+    most: Duration,
+    out: &mut [u8],
+) -> Result<usize, Failed>
     ensures held { is_some stream.new ≡ is_some stream.old }
     ensures within { IfOk result (λ n. n ≤ length out.old) }
 {
     match stream {
-        Some(stream) => read_some(stream, out),
+        Some(stream) => read_some(clock, stream, end, most, out),
         None => Err(Failed),
     }
 }
@@ -135,7 +221,7 @@ fn write_end<S: Write>(stream: &mut Option<S>, piece: &[u8]) -> Result<usize, Fa
     }
 }
 
-impl<R: Net> Dial for TcpDial<R> {
+impl<R: Net + Clock> Dial for TcpDial<R> {
     ghost holds = { λ d. is_some d.stream };
 
     ghost left = { λ _. None };
@@ -160,8 +246,10 @@ impl<R: Net> Dial for TcpDial<R> {
 
     fn dial(&mut self, host: &str, port: u16) -> Result<(), Failed> {
         self.stream = None;
-        match open_stream(&self.rt, host, port, self.silence) {
-            Ok(stream) => {
+        match open_stream(&self.rt, &self.limits, self.known, host, port) {
+            Ok((stream, address)) => {
+                self.known = Known::new(host, port, address);
+                self.course = Course::new(&self.rt, &self.limits);
                 self.stream = Some(stream);
                 Ok(())
             }
@@ -173,8 +261,10 @@ impl<R: Net> Dial for TcpDial<R> {
     }
 
     fn recv(&mut self, out: &mut [u8]) -> Result<usize, Failed> {
-        match read_end(&mut self.stream, out) {
+        let end = self.course.due();
+        match read_end(&self.rt, &mut self.stream, end, self.limits.silence, out) {
             Ok(n) => {
+                self.course.note(&self.rt, &self.limits, n);
                 if n == 0 {
                     self.ends = self.ends.saturating_add(1);
                 }
@@ -188,7 +278,9 @@ impl<R: Net> Dial for TcpDial<R> {
     }
 
     fn send(&mut self, piece: &[u8]) -> Result<usize, Failed> {
-        match write_end(&mut self.stream, piece) {
+        let sent = write_end(&mut self.stream, piece);
+        self.course = Course::new(&self.rt, &self.limits);
+        match sent {
             Ok(n) => Ok(n),
             Err(failed) => {
                 count_fault(&mut self.faults);
@@ -204,7 +296,7 @@ mod tests {
     use std::net::TcpListener;
     use std::test::Fail;
 
-    // A listener of the loopback address, and a dial that holds a connection to it and waits so long.
+    // A listener of the loopback address, and a dial that holds a connection to it and waits so long for a byte.
     fn connect(
         rt: HostRuntime,
         silence: Duration,
@@ -213,7 +305,8 @@ mod tests {
     {
         let listener = TcpListener::bind(&rt, "127.0.0.1:0")?;
         let port = listener.local_addr()?.port();
-        let mut dial = TcpDial::with_silence(rt, silence);
+        let mut dial = TcpDial::new(rt);
+        dial.limits.silence = silence;
         if dial.dial("127.0.0.1", port).is_err() {
             return Err("no connection".into());
         }
