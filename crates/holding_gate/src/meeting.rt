@@ -5,15 +5,17 @@ use std::thread;
 use vol_base::{Gate, Moment};
 
 // How many turns a worker is held at most, each with a yield.
-const TURNS: u64 = 2_000_000;
+const TURNS: u64 = 1_000_000;
 
-/// Holds whoever comes with one of the first jobs until somebody came with each of these, or for two million turns. Of a scale that
-/// is written once more, as for a second chunk size, it does so again. As a gate it holds a seat that has claimed such a job.
+/// Holds whoever comes with one of the first jobs until somebody came with each of these, or for a million turns, and then nobody
+/// any more. Of a scale that is written once more, as for a second chunk size, it does so again. As a gate it holds a seat that has
+/// claimed such a job.
 #[derive(Drop)]
 pub struct Meeting {
     seats: usize,
     came: [AtomicU64; 4],
     met: AtomicU64,
+    missed: AtomicU64,
 }
 
 impl Meeting {
@@ -28,6 +30,7 @@ impl Meeting {
                 AtomicU64::new(0),
             ],
             met: AtomicU64::new(0),
+            missed: AtomicU64::new(0),
         }
     }
 
@@ -40,15 +43,19 @@ impl Meeting {
         all
     }
 
-    // Waits until somebody came so often with each job, and counts who met the others.
+    // Waits until somebody came so often with each job, or somebody waited in vain, and counts who met the others.
     fn wait_for(&self, times: u64) {
         for _ in 0..TURNS {
             if self.have_come(times) {
                 self.met.fetch_add(1, Ordering::SeqCst);
                 return;
             }
+            if self.missed.load(Ordering::SeqCst) != 0 {
+                return;
+            }
             thread::yield_now();
         }
+        self.missed.store(1, Ordering::SeqCst);
     }
 
     /// Comes with a job.
