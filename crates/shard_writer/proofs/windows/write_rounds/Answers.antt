@@ -1,4 +1,4 @@
-use Rattle.std.proofs.Common.{◌≡◌, ◌≤◌, Ok, arith, inr, refl, subst}
+use Rattle.std.proofs.Common.{◌≡◌, Ok, arith, inr, refl, subst}
 use Rattle.vol_base.specs.declared.outside.StoreRefusal.{StoreRefusal}
 use Rattle.shard_writer.specs.Plain.{ready_objects}
 use Rattle.shard_writer.specs.Works.{Puts}
