@@ -1,5 +1,6 @@
 //! The command `cutout`.
 ghost use Rattle.std.specs.Prelude.{◌≡◌, ◌≢◌, ◌≤◌, ◌+◌, ◌^◌, true, length, IfErr, IfSome, Some};
+ghost use Rattle.vol_base.specs.Calls.{ReadsFrom};
 ghost use Rattle.vol_base.specs.Causes.{HasCauseOf, Rose};
 ghost use Rattle.vol_base.specs.Outside.{Objects, OnlyReads};
 ghost use Rattle.command_base.specs.Ending.{EndsWell, IsCaused};
@@ -65,9 +66,7 @@ pub fn stream_part<S: Source, O: Outlet>(
     ensures broken { IfErr result IsBroken }
     ensures asked { IfSome (S.objects store.old) (λ m.
         S.asked store.new ≤ S.asked store.old + parts_cost m reader.old.dataset reader.old.scale part.now) }
-    ensures kept { OnlyReads (S.objects store.old) (S.objects store.new) (S.draft store.old)
-        (S.draft store.new) }
-    ensures cause { HasCauseOf CutoutRefusal.StoreFault (S.faults store.old) (S.faults store.new) result }
+    ensures reads { ReadsFrom S.Source CutoutRefusal.StoreFault store.old store.new result }
     ensures out_cause { HasCauseOf CutoutRefusal.OutFault (O.faults out.old) (O.faults out.new) result }
     ensures unwritten { Writes result part.now (O.written out.old) (O.written out.new) }
 {
@@ -91,9 +90,7 @@ fn cut_scale<S: Source, O: Outlet>(
         CutsScale result m dataset.now scale.now part.now (O.written out.old) (O.written out.new)) }
     ensures asked { IfSome (S.objects store.old) (λ m.
         S.asked store.new ≤ S.asked store.old + parts_cost m dataset.now scale.now part.now) }
-    ensures kept { OnlyReads (S.objects store.old) (S.objects store.new) (S.draft store.old)
-        (S.draft store.new) }
-    ensures cause { HasCauseOf CutoutRefusal.StoreFault (S.faults store.old) (S.faults store.new) result }
+    ensures reads { ReadsFrom S.Source CutoutRefusal.StoreFault store.old store.new result }
     ensures out_cause { HasCauseOf CutoutRefusal.OutFault (O.faults out.old) (O.faults out.new) result }
     ensures unwritten { Writes result part.now (O.written out.old) (O.written out.new) }
     // Of a box that is refused neither the store nor the output is called.
@@ -123,9 +120,7 @@ fn cut_out<S: Source, O: Outlet>(
         dataset.now part.now (O.written out.old) (O.written out.new)) }
     ensures asked { IfSome (S.objects store.old) (λ m.
         AsksFor m dataset.now key.now part.now (S.asked store.old) (S.asked store.new)) }
-    ensures kept { OnlyReads (S.objects store.old) (S.objects store.new) (S.draft store.old)
-        (S.draft store.new) }
-    ensures cause { HasCauseOf CutoutRefusal.StoreFault (S.faults store.old) (S.faults store.new) result }
+    ensures reads { ReadsFrom S.Source CutoutRefusal.StoreFault store.old store.new result }
     ensures out_cause { HasCauseOf CutoutRefusal.OutFault (O.faults out.old) (O.faults out.new) result }
     ensures unwritten { Writes result part.now (O.written out.old) (O.written out.new) }
     ensures unread { IfErr result (λ refusal. refuses (cutout_status refusal) ≡ true →

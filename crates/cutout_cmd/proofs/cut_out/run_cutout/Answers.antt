@@ -11,5 +11,5 @@ pub returns-in-Err-clause-complete : goal.returns-in-Err-clause-complete
 returns-in-Err-clause-complete g c = λ m told can kept written.
     cutout_complete c.in-Err.refusal c.report.result m c.args.dataset.now c.args.key.now c.args.part.now
     (outlets_of g.O.Outlet.written g.O.Outlet.faults g.E.Outlet.written g.E.Outlet.faults c.args.out.now c.cut_out.new.out c.args.err.now c.report.new.err)
-    (from_told _ _ m told c.in-Err.ensures.cuts) can (λ is. kept (c.cut_out.ensures.cause.failed (c.in-Err.is ∙ ap Err is))) (λ is. written (c.cut_out.ensures.out_cause.failed (c.in-Err.is ∙ ap Err is)))
+    (from_told _ _ m told c.in-Err.ensures.cuts) can (λ is. kept (c.cut_out.ensures.reads.cause.failed (c.in-Err.is ∙ ap Err is))) (λ is. written (c.cut_out.ensures.out_cause.failed (c.in-Err.is ∙ ap Err is)))
     c.report.ensures.told

@@ -27,13 +27,16 @@ returns-in-Err-clause-cuts g c =
 pub returns-in-Err-clause-broken : goal.returns-in-Err-clause-broken
 returns-in-Err-clause-broken g c = subst IsBroken (sym c.as_refusal.ensures) (broken_comes c.in-Err.fault (λ e. c.stream.ensures.outside.0 (c.in-Err.is ∙ ap Err e) c.requires.part.0))
 
-pub returns-in-Err-clause-cause : goal.returns-in-Err-clause-cause
-returns-in-Err-clause-cause g c = record {
-  later = c.stream.ensures.reads.cause.later;
-  failed = λ is.
-      let told : c.as_refusal.result ≡ StoreFault = cc is in
-      c.stream.ensures.reads.cause.failed (c.in-Err.is ∙ ap Err (broken_store c.in-Err.fault (λ e. c.stream.ensures.outside.0 (c.in-Err.is ∙ ap Err e) c.requires.part.0) (sym c.as_refusal.ensures ∙ told)));
-  stands = tt;
+pub returns-in-Err-clause-reads : goal.returns-in-Err-clause-reads
+returns-in-Err-clause-reads g c = record {
+  kept = c.stream.ensures.reads.kept;
+  cause = record {
+    later = c.stream.ensures.reads.cause.later;
+    failed = λ is.
+        let told : c.as_refusal.result ≡ StoreFault = cc is in
+        c.stream.ensures.reads.cause.failed (c.in-Err.is ∙ ap Err (broken_store c.in-Err.fault (λ e. c.stream.ensures.outside.0 (c.in-Err.is ∙ ap Err e) c.requires.part.0) (sym c.as_refusal.ensures ∙ told)));
+    stands = tt;
+  };
 }
 
 pub returns-in-Err-clause-out_cause : goal.returns-in-Err-clause-out_cause
