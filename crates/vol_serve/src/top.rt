@@ -90,6 +90,7 @@ where
         (D.accepted result.entrance) }
     ensures bound { IsBoundTo serving.now.port (D.bound result.entrance) }
     ensures kept { map S.objects result.stores.items ≡ map S.objects stores.items }
+    ensures draft { map S.draft result.stores.items ≡ map S.draft stores.items }
     ensures out_later { O.faults out.old ≤ O.faults out.new }
     ensures out_fault { result.status ≡ HallStatus.OutFault → Rose (O.faults out.old) (O.faults out.new) }
     ensures out_stands { result.status ≡ HallStatus.Ok → O.faults out.new ≡ O.faults out.old }
@@ -182,6 +183,7 @@ where
     ensures says { SaysFixed (fixed_line (as_status result.status))
         (outlets_of O.written O.faults E.written E.faults out.old out.new err.old err.new) }
     ensures kept { map S.objects result.stores.items ≡ map S.objects stores.items }
+    ensures draft { map S.draft result.stores.items ≡ map S.draft stores.items }
     ensures out_later { O.faults out.old ≤ O.faults out.new }
     ensures err_later { E.faults err.old ≤ E.faults err.new }
     ensures quiet { result.status ≡ HallStatus.Ok → E.faults err.new ≡ E.faults err.old }
