@@ -114,7 +114,7 @@ held_again h jobs first count old frames fs held frames_are len within filled ea
       each = subst (All (Holds h.to)) (sym same) each;
     }
 
-held_in : (lo hi : Bool) (bytes : List ℕ) → lo ≡ true → hi ≡ true → (if lo && hi then Some bytes else None) ≡ Some bytes
+pub held_in : (lo hi : Bool) (bytes : List ℕ) → lo ≡ true → hi ≡ true → (if lo && hi then Some bytes else None) ≡ Some bytes
 held_in true true bytes e f = refl
 held_in true false bytes e f = absurd (cc f)
 held_in false hi bytes e f = absurd (cc e)
@@ -158,13 +158,13 @@ split_some true true bytes n h = (refl, refl, h)
 split_some true false bytes n h = absurd h
 split_some false hi bytes n h = absurd h
 
-le_from : (a b : ℕ) → nat_le a b ≡ true → a ≤ b
+pub le_from : (a b : ℕ) → nat_le a b ≡ true → a ≤ b
 le_from a b e = grind (arith, nat_tests)
 
-lt_from : (a b : ℕ) → nat_lt a b ≡ true → a < b
+pub lt_from : (a b : ℕ) → nat_lt a b ≡ true → a < b
 lt_from a b e = grind (arith, nat_tests)
 
-ready_facts : (h : Held) (job n : ℕ) → IsSomeAnd (ready_of h job) (λ b. length b ≡ n) → (h.first ≤ job) × (job < h.first + h.count) × (raw_size h.to (cell_of (cells_of h) job) ≡ n)
+pub ready_facts : (h : Held) (job n : ℕ) → IsSomeAnd (ready_of h job) (λ b. length b ≡ n) → (h.first ≤ job) × (job < h.first + h.count) × (raw_size h.to (cell_of (cells_of h) job) ≡ n)
 ready_facts h job n some =
     let parts = split_some (nat_le h.first job) (nat_lt job (h.first + h.count)) (front (raw_size h.to (cell_of (cells_of h) job)) (slice_index_or h.frames (job - h.first) [])) n some in
     (le_from h.first job parts.0, lt_from job (h.first + h.count) parts.1, sym (length-front (raw_size h.to (cell_of (cells_of h) job)) (slice_index_or h.frames (job - h.first) [])) ∙ parts.2)

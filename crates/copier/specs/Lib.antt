@@ -1,3 +1,5 @@
+pub mod Filled
+pub mod Frames
 pub mod Held
 pub mod HeldLaws
 pub mod Marks

@@ -1,19 +1,27 @@
 //! The copier.
-ghost use Rattle.std.specs.Prelude.{◌≡◌, ◌≢◌, ◌-◌, ◌<◌, ◌≤◌, ◌^◌, ◌+◌, [], All, AllPairs, List, ℕ, length, map, slice_index_or, take, IfOk, IfSome, IsOk, IsSome, OnOk};
+ghost use Rattle.std.specs.Prelude.{◌≡◌, ◌≢◌, ◌-◌, ◌<◌, ◌≤◌, ◌^◌, ◌+◌, [], All, AllPairs, List, ℕ, length, map, slice_index_or, take, unwrap_or, IfOk, IfSome, IsOk, IsSome, OnOk};
+ghost use Rattle.vol_base.specs.Bytes.{AreBytes};
 ghost use Rattle.vol_base.specs.Calls.{ReadsFrom};
 ghost use Rattle.vol_base.specs.Causes.{HasCauseOf};
 ghost use Rattle.vol_spec.specs.Copies.{AreOfOneVolume, copied_cells};
+ghost use Rattle.vol_spec.specs.Encodings.{encoded};
 ghost use Rattle.vol_spec.specs.Grid.{IsCell};
+ghost use Rattle.vol_spec.specs.Limits.{limit_of};
+ghost use Rattle.vol_spec.specs.StoredCells.{cell_of};
 ghost use Rattle.vol_spec.specs.StoredLists.{in_key_order};
 ghost use Rattle.vol_spec.specs.declared.scale.Scale.{Scale};
 ghost use Rattle.write_plan.specs.Jobs.{AreReady, Prepares, jobs_fault, window_of};
 ghost use Rattle.write_plan.specs.Pairs.{cell_count};
+ghost use Rattle.copier.specs.Frames.{HasRoom};
 ghost use Rattle.copier.specs.Held.{HasFront, Holds, cells_of};
 ghost use Rattle.copier.specs.Sources.{HasPrepared, window_cost};
 
+use crate::filling::{find_frame, hand_chunk, put_values};
 use crate::found::find_placed;
+use crate::frame::JobFrame;
 use crate::placing::Copies;
 use crate::reading::read_jobs;
+use crate::twins::{are_twins, keep_reader};
 use cutout::{KeepingReader, Reader};
 use std::alloc::{AllocError, Global};
 use std::marker::Model;
@@ -32,6 +40,20 @@ pub fn reserve_frames(alloc: Global, scale: &Scale, count: u64) -> Result<Vec<Ve
     for _ in 0..count {
         let frame = Vec::with_capacity(alloc, len)?;
         frames.push(frame)?;
+    }
+    Ok(frames)
+}
+
+// So many frames, each with room for the values of each cell of a scale, and with neither values nor a chunk yet.
+fn reserve_jobs(alloc: Global, scale: &Scale, count: u64) -> Result<Vec<JobFrame>, AllocError>
+    ensures count { IfOk result (λ frames. length frames.items ≡ count) }
+    ensures each { IfOk result (λ frames. All (HasRoom scale.now) frames.items) }
+{
+    let len = scale.raw_limit() as usize;
+    let mut frames = Vec::with_capacity(alloc, count as usize)?;
+    for _ in 0..count {
+        let bytes = Vec::with_capacity(alloc, len)?;
+        frames.push(JobFrame { bytes, own: None })?;
     }
     Ok(frames)
 }
@@ -55,20 +77,21 @@ pub struct Copier {
     jobs: JobList,
     first: u64,
     count: u64,
-    frames: Vec<Vec<u8>>,
+    twins: bool,
+    frames: Vec<JobFrame>,
 }
 
 impl Model for Copier {
-    ghost use Rattle.copier.specs.Held.{Held, IsHeld, holding, keeping};
+    ghost use Rattle.copier.specs.Frames.{IsHeldIn, holding_frames};
+    ghost use Rattle.copier.specs.Held.{Held, keeping};
 
     ghost Value = { Held };
 
-    ghost view = { λ c. keeping (holding c.reader.opened.dataset c.reader.opened.scale c.to c.jobs c.first
-        c.count c.frames.items) c.reader.shards };
+    ghost view = { λ c. keeping (holding_frames c.reader.opened.dataset c.reader.opened.scale c.to c.jobs
+        c.first c.count c.frames.items) c.reader.shards };
 
-    ghost invariant = { λ c. IsHeld
-        (holding c.reader.opened.dataset c.reader.opened.scale c.to c.jobs c.first c.count c.frames.items)
-        c.jobs c.frames.items };
+    ghost invariant = { λ c. IsHeldIn (holding_frames c.reader.opened.dataset c.reader.opened.scale c.to
+        c.jobs c.first c.count c.frames.items) c.jobs c.twins c.frames.items };
 }
 
 impl Copier {
@@ -107,15 +130,20 @@ impl Copier {
         let Ok(jobs) = JobList::of(alloc, to, cells) else {
             return Err(StoreRefusal::OutOfMemory);
         };
-        let Ok(frames) = reserve_frames(alloc, to, window(to).min(jobs.len())) else {
+        let Ok(frames) = reserve_jobs(alloc, to, window(to).min(jobs.len())) else {
+            return Err(StoreRefusal::OutOfMemory);
+        };
+        let twins = are_twins(from, to);
+        let Ok(reader) = keep_reader(alloc, reader, twins) else {
             return Err(StoreRefusal::OutOfMemory);
         };
         Ok(Copier {
-            reader: reader.keeping(),
+            reader,
             to: to.duplicate(),
             jobs,
             first: 0,
             count: 0,
+            twins,
             frames,
         })
     }
@@ -147,15 +175,20 @@ impl Copier {
         let Ok(jobs) = JobList::of(alloc, to, cells) else {
             return Err(OutOfMemory);
         };
-        let Ok(frames) = reserve_frames(alloc, to, jobs.len().min(window(to))) else {
+        let Ok(frames) = reserve_jobs(alloc, to, jobs.len().min(window(to))) else {
+            return Err(OutOfMemory);
+        };
+        let twins = are_twins(from, to);
+        let Ok(reader) = keep_reader(alloc, reader, twins) else {
             return Err(OutOfMemory);
         };
         Ok(Copier {
-            reader: reader.keeping(),
+            reader,
             to: to.duplicate(),
             jobs,
             first: 0,
             count: 0,
+            twins,
             frames,
         })
     }
@@ -192,7 +225,7 @@ impl Chunks for Copier {
         self.reader.forget();
     }
 
-    /// Cuts the boxes of the jobs out of the source. It takes no memory.
+    /// Cuts the boxes of the jobs out of the source, or takes their chunks as they are stored. It takes no memory.
     fn prepare<S: Store>(&mut self, store: &mut S, from: u64, to: u64) -> Result<(), PrepareFault>
         requires order { from ≤ to }
         requires within { to ≤ length (work_of self.old).cells }
@@ -230,6 +263,7 @@ impl Chunks for Copier {
             store,
             &self.to,
             &self.jobs,
+            self.twins,
             &mut self.frames,
             from,
             count as usize,
@@ -243,8 +277,23 @@ impl Chunks for Copier {
         }
     }
 
-    /// Puts the bytes of a job's frame. It takes no memory.
+    /// Puts the values of a job's frame. It takes no memory.
     fn fill(&self, job: u64, raw: &mut [u8]) {
-        put_front(&self.frames, self.first, job, raw);
+        put_values(&self.to, find_frame(&self.frames, self.first, job), raw);
+    }
+
+    /// Puts the chunk of a job's frame, where that was taken as it is stored.
+    fn chunk(&self, job: u64, out: &mut [u8]) -> Option<usize>
+        requires job { job < length (work_of self.now).cells }
+        requires ready { IsSome (ready_of self.now job) }
+        requires room { limit_of (work_of self.now).scale.encoding (work_of self.now).scale.width
+            (work_of self.now).scale.channels (work_of self.now).scale.size (work_of self.now).scale.chunk
+            ≤ length out.old }
+        ensures within { IfSome result (λ n. n ≤ length out.new) }
+        ensures chunk { IfSome result (λ n. take n out.new ≡ encoded (work_of self.now).scale
+            (cell_of (work_of self.now).cells job) (unwrap_or (ready_of self.now job) [])) }
+        ensures bytes { IfSome result (λ n. AreBytes (unwrap_or (ready_of self.now job) [])) }
+    {
+        hand_chunk(&self.to, find_frame(&self.frames, self.first, job), out)
     }
 }

@@ -1,20 +1,37 @@
-use Rattle.std.proofs.Common.{◌≡◌, ◌-◌, ◌∙◌, ℕ, List, [], Vec, Global, ap, length, map, subst, sym, take}
-use Rattle.std.specs.Prelude.{IsSomeAnd, slice_index_or}
-use Rattle.copier.specs.Held.{HasFront, Held, holding, ready_of}
-use Rattle.copier.proofs.HeldSteps.{ready_front, ready_put}
+use Rattle.std.proofs.Common.{◌≡◌, ◌-◌, ◌∙◌, List, ap, arith, get_or, length, refl, subst, sym, take}
+use Rattle.std.specs.Prelude.{IsSomeAnd}
+use Rattle.copier.specs.Frames.{holding_frames}
+use Rattle.copier.specs.Held.{Held, ready_of}
+use Rattle.copier.specs.declared.frame.JobFrame.{JobFrame}
+use Rattle.copier.proofs.ChunkSteps.{frame_fills, frame_values, job_inside}
+use Rattle.copier.proofs.HeldSteps.{ready_facts, ready_put}
 use Rattle.copier.proofs.copier.CopierChunks.fill.Goals as goal
 
-pub put_front-requires : goal.put_front-requires
-put_front-requires c =
-    let h : Held = holding c.self.inside.reader.opened.dataset c.self.inside.reader.opened.scale c.self.inside.to c.self.inside.jobs c.self.inside.first c.self.inside.count c.self.inside.frames.items in
-    let some : IsSomeAnd (ready_of h c.args.job) (λ b. length b ≡ length c.args.raw.now) = subst (λ x. IsSomeAnd (ready_of x c.args.job) (λ b. length b ≡ length c.args.raw.now)) (sym c.self.view_is) c.requires in
-    subst (λ (fs : List (Vec ℕ Global)). HasFront c.self.inside.first c.args.job (length c.args.raw.now) (map (λ (f : Vec ℕ Global). f.items) fs)) (sym c.deref.ensures.value)
-    (ready_front h c.self.inside.jobs c.self.inside.frames.items c.args.job (length c.args.raw.now) c.self.invariant.held some)
+pub find_frame-requires-clause-low : goal.find_frame-requires-clause-low
+find_frame-requires-clause-low c =
+    let h : Held = holding_frames c.self.inside.reader.opened.dataset c.self.inside.reader.opened.scale c.self.inside.to c.self.inside.jobs c.self.inside.first c.self.inside.count c.self.inside.frames.items in
+    (ready_facts h c.args.job (length c.args.raw.now) (subst (λ x. IsSomeAnd (ready_of x c.args.job) (λ b. length b ≡ length c.args.raw.now)) (sym c.self.view_is) c.requires)).0
+
+pub find_frame-requires-clause-within : goal.find_frame-requires-clause-within
+find_frame-requires-clause-within c =
+    let h : Held = holding_frames c.self.inside.reader.opened.dataset c.self.inside.reader.opened.scale c.self.inside.to c.self.inside.jobs c.self.inside.first c.self.inside.count c.self.inside.frames.items in
+    let facts = ready_facts h c.args.job (length c.args.raw.now) (subst (λ x. IsSomeAnd (ready_of x c.args.job) (λ b. length b ≡ length c.args.raw.now)) (sym c.self.view_is) c.requires) in
+    let inside = job_inside h c.self.inside.jobs c.self.inside.twins c.self.inside.frames.items c.self.invariant refl c.args.job facts.0 facts.1 in
+    let same = ap length c.deref.ensures.value in
+    omega (arith, inside, same)
+
+pub put_values-requires : goal.put_values-requires
+put_values-requires c =
+    let h : Held = holding_frames c.self.inside.reader.opened.dataset c.self.inside.reader.opened.scale c.self.inside.to c.self.inside.jobs c.self.inside.first c.self.inside.count c.self.inside.frames.items in
+    frame_fills h c.self.inside.jobs c.self.inside.twins c.self.inside.frames.items c.self.invariant refl c.args.job c.find_frame.result.now
+    (subst (λ (fs : List JobFrame). (d : JobFrame) → c.find_frame.result.now ≡ get_or fs (c.args.job - c.self.inside.first) d) c.deref.ensures.value c.find_frame.ensures) (length c.args.raw.now) (subst (λ x. IsSomeAnd (ready_of x c.args.job) (λ b. length b ≡ length c.args.raw.now)) (sym c.self.view_is) c.requires)
 
 pub returns : goal.returns
 returns c =
-    let h : Held = holding c.self.inside.reader.opened.dataset c.self.inside.reader.opened.scale c.self.inside.to c.self.inside.jobs c.self.inside.first c.self.inside.count c.self.inside.frames.items in
-    let some : IsSomeAnd (ready_of h c.args.job) (λ b. length b ≡ length c.args.raw.now) = subst (λ x. IsSomeAnd (ready_of x c.args.job) (λ b. length b ≡ length c.args.raw.now)) (sym c.self.view_is) c.requires in
+    let h : Held = holding_frames c.self.inside.reader.opened.dataset c.self.inside.reader.opened.scale c.self.inside.to c.self.inside.jobs c.self.inside.first c.self.inside.count c.self.inside.frames.items in
+    let some = (subst (λ x. IsSomeAnd (ready_of x c.args.job) (λ b. length b ≡ length c.args.raw.now)) (sym c.self.view_is) c.requires) in
+    let facts = ready_facts h c.args.job (length c.args.raw.now) some in
     ap (λ x. ready_of x c.args.job) (sym c.self.view_is)
-    ∙ ready_put h c.self.inside.jobs c.self.inside.frames.items c.args.job (length c.args.raw.now) c.put_front.new.raw c.self.invariant.held some
-    (c.put_front.ensures ∙ ap (λ (fs : List (Vec ℕ Global)). take (length c.args.raw.now) (slice_index_or (map (λ (f : Vec ℕ Global). f.items) fs) (c.args.job - c.self.inside.first) [])) c.deref.ensures.value)
+    ∙ ready_put h c.self.inside.jobs _ c.args.job (length c.args.raw.now) c.put_values.new.raw c.self.invariant.held some
+    (c.put_values.ensures ∙ ap (take (length c.args.raw.now)) (sym (frame_values h c.self.inside.jobs c.self.inside.twins c.self.inside.frames.items c.self.invariant refl c.args.job c.find_frame.result.now
+    (subst (λ (fs : List JobFrame). (d : JobFrame) → c.find_frame.result.now ≡ get_or fs (c.args.job - c.self.inside.first) d) c.deref.ensures.value c.find_frame.ensures) facts.0 facts.1)))
