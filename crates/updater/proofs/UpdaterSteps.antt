@@ -1,16 +1,18 @@
 -- What preparing and filling in jobs of an updater leaves.
-use Rattle.std.proofs.Common.{◌≡◌, ℕ, ◌<◌, ◌≤◌, nat_lt, Bool, true, false, List, [], length, Option, Some, None, IfSome, Result, Ok, Err, refl, ap, ◌∙◌, sym, subst, arith}
-use Rattle.std.specs.Prelude.{IsSome, IsSomeAnd, OnOk, ⊤, if◌then◌else◌}
+use Rattle.std.proofs.Common.{◌≡◌, ℕ, ◌<◌, ◌≤◌, nat_lt, Bool, true, false, List, [], length, take, Option, Some, None, IfSome, Result, Ok, Err, refl, ap, ◌∙◌, sym, subst, arith}
+use Rattle.std.specs.Prelude.{IsSome, IsSomeAnd, OnOk, ⊤, if◌then◌else◌, unwrap_or}
 use Rattle.std.specs.Option.{option_map}
 use Rattle.std.proofs.lemmas.Bool.Decides.{nat_tests}
 use Rattle.std.proofs.lemmas.List.{length-map}
+use Rattle.vol_base.specs.Bytes.{AreBytes}
 use Rattle.vol_base.specs.Outside.{Objects}
-use Rattle.vol_spec.specs.Encodings.{raw_size}
+use Rattle.vol_spec.specs.Encodings.{encoded, raw_size}
 use Rattle.vol_spec.specs.Grid.{IsCell}
-use Rattle.vol_spec.specs.StoredCells.{cell_of}
+use Rattle.vol_spec.specs.StoredCells.{cell_of, met}
 use Rattle.vol_spec.specs.Types.{Writes}
 use Rattle.vol_spec.specs.declared.scale.Scale.{Scale}
 use Rattle.update_laws.specs.Overlaid.{overlaid}
+use Rattle.update_laws.proofs.UnmetSteps.{overlaid_unmet}
 use Rattle.write_plan.specs.Jobs.{AreReady, Work, job_at, job_of, jobs_of}
 use Rattle.write_plan.specs.declared.jobs.Job.{Job}
 use Rattle.write_plan.specs.declared.chunks.PrepareFault.{PrepareFault}
@@ -111,3 +113,32 @@ filled_is h writes job s cell read out low ready scale at is =
     ∙ ap (λ t. Some (overlaid t writes (cell_of (cells_of h) job) read)) (sym scale)
     ∙ ap (λ c. Some (overlaid s writes c read)) (sym at)
     ∙ ap Some (sym is)
+
+-- the chunk of a cell that no write meets
+some_under : (o : Option (List ℕ)) (f : List ℕ → List ℕ) → IsSome (option_map f o) → IsSome o
+some_under None f some = absurd (cc some)
+some_under (Some x) f some = refl
+
+pub some_read : (h : Held) (writes : Writes) (job : ℕ) → job < length (cells_of h) → IsSome (ready_of (record { held = h; writes = writes }) job) → IsSome (held.ready_of h job)
+some_read h writes job low some = some_under (held.ready_of h job) (overlaid h.to writes (cell_of (cells_of h) job)) (subst IsSome (ready_over h writes job low) some)
+
+unmet_ready : (s : Scale) (writes : Writes) (cell : List ℕ) (o : Option (List ℕ)) → IsCell s cell → met s writes cell ≡ false → IsSome o → AreBytes (unwrap_or o []) → IfSome o (λ bytes. length bytes ≡ raw_size s cell)
+    → unwrap_or (option_map (overlaid s writes cell) o) [] ≡ unwrap_or o []
+unmet_ready s writes cell None is unmet some small len = absurd (cc some)
+unmet_ready s writes cell (Some bytes) is unmet some small len = overlaid_unmet s writes cell bytes is unmet small len
+
+-- its bytes are those that are read
+pub ready_unmet : (h : Held) (writes : Writes) (job : ℕ) (s : Scale) (cell : List ℕ) → job < length (cells_of h) → s ≡ h.to → cell ≡ cell_of (cells_of h) job → false ≡ met s writes cell → IsSome (held.ready_of h job)
+    → AreBytes (unwrap_or (held.ready_of h job) []) → unwrap_or (ready_of (record { held = h; writes = writes }) job) [] ≡ unwrap_or (held.ready_of h job) []
+ready_unmet h writes job s cell low scale at unmet some small =
+    let here : met h.to writes (cell_of (cells_of h) job) ≡ false = sym (unmet ∙ ap (λ t. met t writes cell) scale ∙ ap (met h.to writes) at) in
+    ap (λ o. unwrap_or o []) (ready_over h writes job low)
+    ∙ unmet_ready h.to writes (cell_of (cells_of h) job) (held.ready_of h job) (job_in_grid h job low) here some small (laws.ready_fits h job)
+
+pub chunk_unmet : (h : Held) (writes : Writes) (job : ℕ) (s : Scale) (cell : List ℕ) (r : Option ℕ) (out : List ℕ) → job < length (cells_of h) → s ≡ h.to → cell ≡ cell_of (cells_of h) job → false ≡ met s writes cell → IsSome (held.ready_of h job)
+    → IfSome r (λ n. AreBytes (unwrap_or (held.ready_of h job) []))
+    → IfSome r (λ n. take n out ≡ encoded h.to (cell_of (cells_of h) job) (unwrap_or (held.ready_of h job) []))
+    → IfSome r (λ n. take n out ≡ encoded h.to (cell_of (cells_of h) job) (unwrap_or (ready_of (record { held = h; writes = writes }) job) []))
+chunk_unmet h writes job s cell None out low scale at unmet some small chunk = tt
+chunk_unmet h writes job s cell (Some n) out low scale at unmet some small chunk =
+    chunk ∙ ap (encoded h.to (cell_of (cells_of h) job)) (sym (ready_unmet h writes job s cell low scale at unmet some small))

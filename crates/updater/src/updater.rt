@@ -134,4 +134,12 @@ impl Chunks for Updater {
         let cell = self.copier.jobs().get(job).cell;
         self.plan.overlay(cell, raw);
     }
+
+    /// Hands out the chunk of a cell that no write meets, where it was taken as it is stored.
+    fn chunk(&self, job: u64, out: &mut [u8]) -> Option<usize> {
+        if self.plan.meets(self.copier.jobs().get(job).cell) {
+            return None;
+        }
+        self.copier.chunk(job, out)
+    }
 }
