@@ -30,10 +30,11 @@ use Rattle.shard_writer.specs.declared.written.WriteFault.{WriteFault}
 use Rattle.shard_writer.specs.declared.written.WriteFault.TheVariants as writes
 use Rattle.write_plan.proofs.KeySteps.{distinct_cells, from_key_order, length-in_key_order, to_key_order}
 use Rattle.write_plan.specs.Jobs.{KeepsOthers}
+use Rattle.copy_laws.proofs.TwinSteps.{own_fault}
 use Rattle.update_laws.specs.Overlaid.{after, after_cells, after_raw, overlaid}
 use Rattle.update_laws.specs.Laws.{CanUpdate}
 use Rattle.update_laws.proofs.NameSteps.{untouched_name}
-use Rattle.update_laws.proofs.OwnSteps.{fault_own, overlaid_read, own_fault, raw_own}
+use Rattle.update_laws.proofs.OwnSteps.{fault_own, overlaid_read, raw_own}
 use Rattle.update_laws.proofs.ReadSteps.{updated_sound, updated_value}
 use Rattle.update_laws.proofs.UpdateSteps.{AreInOrder-after}
 use Rattle.updater.specs.Updates as updater
