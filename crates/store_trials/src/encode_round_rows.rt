@@ -2,6 +2,7 @@
 ghost use Rattle.std.specs.Prelude.{◌≡◌, ◌≤◌, ◌<◌, IfOk, length};
 ghost use Rattle.encode_round.specs.Serving.{ServesBench, size_in};
 ghost use Rattle.vol_spec.specs.Writable.{IsWritable};
+ghost use Rattle.write_plan.specs.Jobs.{FitsWindow};
 
 use encode_round::{Bench, run_round, run_within};
 use holding_gate::HoldingGate;
@@ -52,6 +53,7 @@ fn run_three<R: Threads + Wait + Sync, C: Chunks + Sync>(
     requires count { 3 ≤ length (C.work chunks.old).cells }
     requires bench { ServesBench scale.now bench.old }
     requires size { 3 ≤ size_in bench.old }
+    requires window { FitsWindow C.holding (C.work chunks.old).scale 3 }
     requires writable { IsWritable scale.now }
 {
     chunks.forget();
@@ -134,6 +136,7 @@ fn count_done<R: Threads + Wait + Sync, C: Chunks + Sync>(
     requires count { 3 ≤ length (C.work chunks.old).cells }
     requires bench { ServesBench scale.now bench.old }
     requires size { 3 ≤ size_in bench.old }
+    requires window { FitsWindow C.holding (C.work chunks.old).scale 3 }
     requires writable { IsWritable scale.now }
 {
     chunks.forget();
@@ -160,7 +163,7 @@ fn check_ends<R: Threads + Wait + Abort + Sync>(
     let mut bench = Bench::reserve(alloc, scale, 1, 3)?;
     let done = count_done(rt, plan, &mut store, scale, &mut bench, limit)?;
     assert_eq!(rt; done, jobs);
-    assert_eq!(rt; bench.log().len() as u64, 2 * jobs);
+    assert_eq!(rt; bench.log().len() as u64, jobs.saturating_mul(2));
     Ok(())
 }
 
