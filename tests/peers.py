@@ -56,22 +56,23 @@ def in_halves(stream):
     return [piece for piece in (stream[: len(stream) // 2], stream[len(stream) // 2 :]) if piece]
 
 
-# What every connection is set to, and the calls that are looked at: those that make one, set it, and use it.
-OPTIONS = {"TCP_NODELAY", "SO_RCVTIMEO", "SO_SNDTIMEO"}
+# The calls that make a connection, set it, and use it; and what it is set to before it is used so.
 NOTED = "trace=socket,accept,accept4,setsockopt,sendto,recvfrom"
+OPTIONS = {"sendto": {"TCP_NODELAY", "SO_SNDTIMEO"}, "recvfrom": {"TCP_NODELAY", "SO_RCVTIMEO"}}
 
 
 def want_set(told):
-    """By the calls that strace noted, each connection sends at once, and waits for so long at most, before anything goes through it."""
-    options = {}
+    """By the calls that strace noted, each connection sends at once, and waits for so long at most: for what goes out, and what comes in."""
+    options, uses = {}, set()
     for line in told.splitlines():
         if made := re.search(r"\b(?:socket|accept4?)\b.*= (\d+)$", line):
             options[made[1]] = set()
         elif option := re.search(r" setsockopt\((\d+), \w+, ([A-Z_]+?)(?:_OLD|_NEW)?,", line):
             options[option[1]].add(option[2])
-        elif used := re.search(r" (?:sendto|recvfrom)\((\d+),", line):
-            want_true(OPTIONS <= options[used[1]], f"it is set to {options[used[1]]} alone before {line}")
-    want_true(any(OPTIONS <= one for one in options.values()), f"no connection is told: {told:.200}")
+        elif used := re.search(r" (sendto|recvfrom)\((\d+),", line):
+            want_true(OPTIONS[used[1]] <= options[used[2]], f"it is set to {options[used[2]]} alone before {line}")
+            uses.add(used[1])
+    want(uses, set(OPTIONS), "how connections are used")
 
 
 def words_of(connections, workers, port=0):
