@@ -38,7 +38,7 @@ fn check_seats<R: Threads + Wait + Abort + Sync>(
         rt, alloc, &words, &mut store, &mut feed, &mut out, &mut err, &mut door, &meeting,
     );
     assert_eq!(rt; status.number(), 0);
-    assert_eq!(rt; meeting.met(), 2 * seats as u64, "{line}");
+    assert_eq!(rt; meeting.met(), (seats as u64).saturating_mul(2), "{line}");
     Ok(())
 }
 
