@@ -2,17 +2,19 @@
 """
 Runs the built programs over what is larger than anything that the tests have, each at half its size and whole.
 
-    bench/large.py [--folder FOLDER] [--gib GIB] [NAME ..]
+    bench/large.py [--folder FOLDER] [--gib GIB] [--tries N] [NAME ..]
 
-Told are the seconds and the peak memory of each run, and how many times as long the whole takes: 2.0 where time grows as the work does. A
-NAME picks the groups of that name. The volume that is put slab by slab has GIB GiB, 20 if it is left out, in FOLDER, where TMPDIR says if
-that is left out. It wants Debian's python3-numpy.
+Told are the seconds of a processor, behind them those of the clock, and the peak memory of each run; and how many times as many seconds of
+a processor the whole takes: 2.0 where time grows as the work does. Those change less than the clock's where the machine does other work; of
+N tries in turn the best counts. A NAME picks the groups of that name. The volume that is put slab by slab has GIB GiB, 20 if it is left
+out, in FOLDER, where TMPDIR says if that is left out. It needs Debian's python3-numpy.
 """
 import argparse
 import dataclasses
 import os
 import pathlib
 import random
+import resource
 import shutil
 import subprocess
 import sys
@@ -36,23 +38,42 @@ vol_tool.write("d", "s", array, resolution=(8, 8, 40))
 """
 
 
+# Runs a program out of a small process, since what the process has that begins it counts as the program's memory too.
+RUNNER = """
+import os, sys, time
+begin = time.monotonic()
+_, status, usage = os.wait4(os.posix_spawn(sys.argv[1], sys.argv[1:], os.environ), 0)
+print(usage.ru_utime + usage.ru_stime, time.monotonic() - begin, usage.ru_maxrss / 1024, file=sys.stderr)
+sys.exit(os.waitstatus_to_exitcode(status))
+"""
+
+
 @dataclasses.dataclass
 class Taken:
-    """What a run took: its time in seconds, and its peak memory in MiB."""
+    """What a run took: seconds of a processor and of the clock, and its peak memory in MiB."""
 
+    processor: float
     seconds: float
     memory: float
 
+    def spell(self):
+        return f"{self.processor:.2f} ({self.seconds:.2f}) s"
 
-def run(words, feed=None, stdout=subprocess.DEVNULL):
-    """Runs the program, which has to end well."""
-    begin = time.monotonic()
-    child = subprocess.Popen([PROGRAM, *words], stdin=feed or subprocess.DEVNULL, stdout=stdout)
-    _, status, usage = os.wait4(child.pid, 0)
-    child.returncode = os.waitstatus_to_exitcode(status)
-    if child.returncode:
-        raise SystemExit(f"{' '.join(words)} ended with {child.returncode}")
-    return Taken(time.monotonic() - begin, usage.ru_maxrss / 1024)
+
+def start(program, words, **streams):
+    return subprocess.Popen([sys.executable, "-ISc", RUNNER, program, *words], stderr=subprocess.PIPE, text=True, **streams)
+
+
+def taken(child):
+    """What a program took, which has to end well."""
+    lines = child.stderr.read().splitlines()
+    if child.wait():
+        raise SystemExit(f"{' '.join(map(str, child.args[3:]))} ended with {child.returncode}: {lines}")
+    return Taken(*map(float, lines[-1].split()))
+
+
+def run(words, feed=None):
+    return taken(start(PROGRAM, words, stdin=feed or subprocess.DEVNULL, stdout=subprocess.DEVNULL))
 
 
 def put_in(command, volume, writes):
@@ -125,6 +146,16 @@ def index(bits):
     yield "update of the voxel of its last row", put_in("update", volume, [(along(cells - 1, cells), b"\7")])
 
 
+def cube(bits):
+    """The same of a cube of cells, which a box asks for in another order than that of their ids."""
+    size = [2**6, 2**6, 2 ** (bits - 12)]
+    volume = Volume(size, [1, 1, 1], sharding=Sharding())
+    lay_out(volume)
+    put_in("write", volume, [(volume.whole, bytes(1 + at % 255 for at in range(2**bits)))])
+    yield "verify of an index of rows, cells of a cube", run(volume.words("verify"))
+    yield "a cutout of all of these", run(volume.words("cutout", spell(volume.whole)))
+
+
 def copied_index(bits):
     """An index that a copy reads: each cell of the source is searched for from its front."""
     cells = 2**bits
@@ -156,9 +187,11 @@ def one_of(thousands):
 def slabs(gib):
     """An array that is put in slab by slab, of which all rows of z are alike; and a cutout of a slab of its end."""
     environment = {**os.environ, "PYTHONPATH": str(ROOT / "python")}
-    begin = time.monotonic()
+    begin, before = time.monotonic(), resource.getrusage(resource.RUSAGE_CHILDREN)
     _, together, _ = watch([sys.executable, "-c", PUT, str(int(1024 * gib))], env=environment)
-    yield "a volume put slab by slab, in GiB", Taken(time.monotonic() - begin, together / 2**20)
+    after = resource.getrusage(resource.RUSAGE_CHILDREN)
+    processor = after.ru_utime + after.ru_stime - before.ru_utime - before.ru_stime
+    yield "a volume put slab by slab, in GiB", Taken(processor, time.monotonic() - begin, together / 2**20)
     volume = Volume([1024, 1024, int(1024 * gib)], [64] * 3)
     yield "a cutout of 64 planes of it", run(volume.words("cutout", spell([(0, 1024), (0, 1024), (1024 * gib - 64, 1024 * gib)])))
     shutil.rmtree("d")
@@ -169,22 +202,19 @@ def connections(bits):
     count = 2**bits
     pathlib.Path("d/s").mkdir(parents=True, exist_ok=True)
     pathlib.Path("d/s/x").write_bytes(b"0123456789")
-    words = [HALL_PROGRAM, "d", "--port=0", f"--connections={count}", "--workers=4"]
-    child = subprocess.Popen(words, stdout=subprocess.PIPE, text=True)
-    port, begin = int(child.stdout.readline().split()[1]), time.monotonic()
+    child = start(HALL_PROGRAM, ["d", "--port=0", f"--connections={count}", "--workers=4"], stdout=subprocess.PIPE)
+    port = int(child.stdout.readline().split()[1])
     for _ in range(count):
         with connect(port) as peer:
             peer.sendall(ask("GET /s/x", "Connection: close"))
             if receive(peer) != closing(whole_of(b"0123456789")):
                 raise SystemExit("another reply")
-    _, status, usage = os.wait4(child.pid, 0)
-    child.returncode = os.waitstatus_to_exitcode(status)
-    yield f"connections of vol_serve (status {child.returncode})", Taken(time.monotonic() - begin, usage.ru_maxrss / 1024)
+    yield "connections of vol_serve, 4 workers", taken(child)
 
 
 # The runs by name, and their sizes: half, and whole.
 GROUPS = {
-    "absent": (absent, 21, 22), "stored": (stored, 21, 22), "index": (index, 21, 22), "copied": (copied_index, 13, 14),
+    "absent": (absent, 21, 22), "stored": (stored, 21, 22), "index": (index, 21, 22), "cube": (cube, 15, 16), "copied": (copied_index, 13, 14),
     "boxes": (boxes, 15, 16), "one": (one_of, 50, 100), "slabs": (slabs, None, None), "connections": (connections, 15, 16),
 }
 EXACT = {"one": 1000, "slabs": 1}
@@ -194,10 +224,15 @@ def count_of(name, size):
     return f"{size * EXACT[name] if name in EXACT else 2**size:,}"
 
 
+def best_of(runs):
+    return min((took for _, took in runs), key=lambda took: took.processor)
+
+
 def main():
     parser = argparse.ArgumentParser()
     parser.add_argument("--folder")
     parser.add_argument("--gib", type=float, default=20)
+    parser.add_argument("--tries", type=int, default=1)
     parser.add_argument("names", nargs="*")
     options = parser.parse_args()
     print("| What | Half | Whole | Growth | Memory, MiB |\n|---|---|---|---|---|", flush=True)
@@ -206,10 +241,11 @@ def main():
         for name in options.names or GROUPS:
             work, half, whole = GROUPS[name]
             half, whole = (half, whole) if half else (int(options.gib / 2), int(options.gib))
-            first = list(work(half))
-            for (title, small), (_, large) in zip(first, work(whole)):
-                growth = large.seconds / small.seconds
-                sizes = f"{count_of(name, half)}: {small.seconds:.2f} s", f"{count_of(name, whole)}: {large.seconds:.2f} s"
+            tries = [[*work(size)] for _ in range(options.tries) for size in (half, whole)]
+            for runs in zip(*tries):
+                title, small, large = runs[0][0], best_of(runs[::2]), best_of(runs[1::2])
+                growth = large.processor / small.processor if small.processor else 0
+                sizes = f"{count_of(name, half)}: {small.spell()}", f"{count_of(name, whole)}: {large.spell()}"
                 print(f"| {title} | {sizes[0]} | {sizes[1]} | {growth:.2f} | {small.memory:.0f}, {large.memory:.0f} |", flush=True)
         os.chdir("/")
 

@@ -30,6 +30,9 @@ WORKERS = [1, 2, 8, 16]
 # How many connections there are at once.
 PEERS = 12
 
+# How many peers there are that say nothing.
+IDLE = 200
+
 # How long a connection is kept that says nothing behind a reply, in seconds.
 KEPT = 5
 
@@ -83,24 +86,24 @@ class Cases(Hall):
             is_over.set()
             thread.join()
 
-    def a_peer_that_reads_slowly(self):
-        """One that takes 4 KiB of a long reply each second is let go though it never stops, and the next one is answered."""
-        self.lay_out({"d/s/long": {1 << 26: b""}})
-        is_over = threading.Event()
-
-        def read_slowly(peer):
-            with contextlib.suppress(OSError):
-                while peer.recv(4096) and not is_over.wait(1):
-                    pass
-
-        with self.serving(2, 1) as port, connect(port) as peer:
-            peer.sendall(ask("GET /s/long"))
-            thread = threading.Thread(target=read_slowly, args=(peer,))
-            thread.start()
-            with within(SILENCE - 2, 4 * SILENCE, "the reply behind a peer that reads slowly"):
-                want(talk(port, ASK), REPLY, "the reply")
-            is_over.set()
-            thread.join()
+    def idle_peers_beside_one_that_asks(self):
+        """It connected first, and is answered at once while 200 others say nothing: one place less is all that it takes."""
+        with self.start("d --port=0 --connections=1000 --workers=16", stdout=subprocess.PIPE) as child, contextlib.ExitStack() as idle:
+            try:
+                port = int(child.stdout.readline().split()[1])
+                peer = idle.enter_context(connect(port))
+                for number in range(3 * IDLE):
+                    if number < IDLE:
+                        other = idle.enter_context(socket.socket())
+                        other.setblocking(False)
+                        other.connect_ex(("127.0.0.1", port))
+                    with within(0, 2, "a reply beside idle peers"):
+                        peer.sendall(ASK)
+                        want(receive(peer, len(REPLY)), REPLY, "a reply")
+                    time.sleep(0.02)
+            finally:
+                child.send_signal(signal.SIGTERM)
+                want(child.wait(LIMIT), -signal.SIGTERM, "the status")
 
     def silent_peers_that_hold_all_descriptors(self):
         """They are let go before the server gives up, and the next peer gets its reply."""
@@ -174,6 +177,26 @@ class Cases(Hall):
             finally:
                 child.send_signal(signal.SIGTERM)
                 want(child.wait(LIMIT), -signal.SIGTERM, "the status")
+
+
+def lets_a_slow_reader_go(trial, size):
+    """One that takes so many bytes of a long reply each second is let go though it never stops, and the next one is answered."""
+    trial.lay_out({"d/s/long": {1 << 26: b""}})
+    is_over = threading.Event()
+
+    def read_slowly(peer):
+        with contextlib.suppress(OSError):
+            while peer.recv(size) and not is_over.wait(1):
+                pass
+
+    with Hall.of(trial).serving(2, 1) as port, connect(port) as peer:
+        peer.sendall(ask("GET /s/long"))
+        thread = threading.Thread(target=read_slowly, args=(peer,))
+        thread.start()
+        with within(SILENCE - 2, 4 * SILENCE, "the reply behind a peer that reads slowly"):
+            want(talk(port, ASK), REPLY, "the reply")
+        is_over.set()
+        thread.join()
 
 
 def answers_streams(trial, workers, count):
@@ -288,6 +311,8 @@ def rows(count):
         yield f"peers that say {title}", lets_peers_go, *case
     for workers in WORKERS:
         yield f"streams, {workers} workers", answers_streams, workers, count
+    for size in (1, 4096):
+        yield f"a peer that takes {size} bytes a second", lets_a_slow_reader_go, size
     yield from methods_of(Cases, Served)
     for workers in WORKERS:
         yield f"silent peers beside one, {workers} workers", answers_beside_silent_peers, workers

@@ -47,8 +47,10 @@ SEVEN_IN_SHARDS = line(7, 3, sharding=HASHED)
 
 
 def pick_copy(chance, forms):
-    """A copy of a scale, and of the two the layout with blocks, whose values are labels, where there is one."""
+    """A copy of a scale, at times in the same chunks, and of the two the layout with blocks, whose values are labels, where there is one."""
     volumes = pick_layouts(chance, forms)
+    if len({is_raw for is_raw, _ in forms}) == 1 and chance.random() < 0.4:
+        volumes[1] = dataclasses.replace(volumes[1], chunk=volumes[0].chunk, block=volumes[0].block)
     _, *names = chance.choice(NAMES)
     source, target = (at(volume, *name) for volume, name in zip(volumes, names))
     return None, source, target, next((volume for volume in volumes if volume.block is not None), source)

@@ -467,6 +467,12 @@ def judge_number(number):
     return judge(*PICKED[number])
 
 
+def number_in(title):
+    """The number of a random trial, with which its title ends; -1 of another row."""
+    last = title.split()[-1]
+    return int(last) if last.isdecimal() else -1
+
+
 def read_options(count, jobs, program):
     page = sys.modules["__main__"].__doc__ or ""
     parser = argparse.ArgumentParser(description=page.strip().splitlines()[0])
@@ -475,6 +481,7 @@ def read_options(count, jobs, program):
         parser.add_argument("program", nargs="?", type=pathlib.Path, default=program, help=told)
     if count is not None:
         parser.add_argument("count", nargs="?", type=int, default=count, help=f"how many trials at random there are of a kind ({count})")
+        parser.add_argument("--first", metavar="N", type=int, default=0, help="judges the trials alone whose numbers are N and more")
     parser.add_argument("-k", metavar="WORD", default="", help="judges the rows alone that have this in their titles")
     parser.add_argument("--jobs", metavar="N", type=int, default=jobs, help=f"how many rows are judged at once ({jobs})")
     return parser.parse_args()
@@ -536,13 +543,14 @@ def main(rows_of, count=None, jobs=None, program=PROGRAM):
             print(f"there is no program {program}\n0 passed, 1 failed")
             sys.exit(1)
     rows = rows_of() if count is None else rows_of(options.count)
-    PICKED.extend((program, *row) for row in rows if options.k in row[0])
+    first = 0 if count is None else options.first
+    PICKED.extend((program, *row) for row in rows if options.k in row[0] and (not first or number_in(row[0]) >= first))
     tally = Tally()
     with multiprocessing.get_context("fork").Pool(options.jobs) as pool:
         for title, wrong in itertools.chain.from_iterable(pool.imap(judge_number, range(len(PICKED)))):
             tally.take(title, wrong)
     # of some rows alone, or of more trials than the gate's, there is no number
-    is_whole = not options.k and (count is None or options.count == count)
+    is_whole = not options.k and not first and (count is None or options.count == count)
     tally.failed += is_whole and judge_count(pathlib.Path(sys.argv[0]).stem, tally.rows())
     tally.tell()
     sys.exit(1 if tally.failed or not tally.rows() else 0)

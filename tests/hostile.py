@@ -5,8 +5,8 @@
 
 What is due is worked out by plain models (model/infos.py, streams.py, answers.py, copies.py, updates.py, pyramids.py and heads.py).
 COUNT is how many of each kind there are: documents; streams, of which each is written into an empty scale and then put over what it left;
-stores of every form, of which some files are damaged, and which every command reads, those with a next scale apart; and streams of
-requests, which come in pieces. Runs that are refused change nothing, and the others leave the files of the models.
+lists of a number; stores of every form, of which some files are damaged, and which every command reads, those with a next scale apart; and
+streams of requests, which come in pieces. Runs that are refused change nothing, and the others leave the files of the models.
 """
 import contextlib
 import dataclasses
@@ -27,7 +27,7 @@ from model.requests import cut_at_random, pick_requests
 from model.streams import Refused as BadStream
 from model.streams import writes_in
 from peers import connect, serving
-from runs import pick_workers, want_made
+from runs import list_run, pick_workers, want_made
 
 NOWHERE = [(-(2**41), 1 - 2**41)] * 3
 FEW_CELLS = 4096
@@ -107,6 +107,16 @@ def judges_streams(trial, seed):
     want_updated(trial, volume, pick_stream(chance, volume))
 
 
+def judges_lists(trial, seed):
+    """A list that is made from a number, in an empty scale."""
+    chance = random.Random(f"lists {seed}")
+    volume = pick_sizes(chance, *pick_layouts(chance, [form_of(seed)]))
+    run = list_run(volume, chance.randrange(2**31), chance.randint(0, 5), *pick_workers(chance))
+    trial.lay_out(run.before)
+    trial.want(run.words, run.ending)
+    want_files(trial.files(), run.put)
+
+
 # Stores
 
 
@@ -183,6 +193,7 @@ def rows(count):
     for seed in range(count):
         yield f"an info {seed}", judges_info, seed
         yield f"streams {seed}", judges_streams, seed
+        yield f"a list {seed}", judges_lists, seed
         yield f"a store {seed}", judges_stores, seed
         yield f"a next scale {seed}", judges_next_scales, seed
 

@@ -1,10 +1,10 @@
 #!/usr/bin/env python3
 """Tries the edits of crates/NAME/more-edits, which the gate leaves out: the prover has to refuse each.
 
-    tests/more_edits.py [--all] [NAME ..]
+    tests/more_edits.py [--all] [NAME[/EDIT] ..]
 
-Without names those of all crates, for hours; with --all those of must-fail too. A crate takes its own proof once more, and 10 to 60 seconds
-for each edit. The command `rt must-fail` tries them in a copy of the checkout, over the libraries that are built there: those that aren't
+Without names those of all crates, for hours; with --all those of must-fail too; with an EDIT, which is a name without `.edit`, that one of
+a crate. A crate takes its own proof once more, and 10 to 60 seconds for each edit. The command `rt must-fail` tries them in a copy of the checkout, over the libraries that are built there: those that aren't
 yet are proved first.
 """
 import argparse
@@ -39,14 +39,22 @@ def copy_checkout(top):
             shutil.copytree(crate / "out/rlib", top / "crates" / crate.name / "out/rlib", copy_function=link_or_copy)
 
 
-def put_edits(top, name, folders):
-    """Puts a crate's edits where `rt` looks for them. Gives their names."""
+def put_edits(top, name, folders, picked):
+    """Puts a crate's edits where `rt` looks for them, or the picked ones of these. Gives their names."""
     target = top / "crates" / name / "must-fail"
     target.mkdir()
-    edits = [path for folder in folders for path in sorted((CRATES / name / folder).glob("*.edit"))]
+    edits = [path for folder in folders for path in sorted((CRATES / name / folder).glob("*.edit")) if not picked or path.stem in picked]
     for path in edits:
         shutil.copy(path, target)
     return sorted(path.name for path in edits)
+
+
+def pick(names):
+    """The crates of some names, each with its edits that are picked, none where all are."""
+    picked = {}
+    for name, slash, edit in (name.partition("/") for name in names):
+        picked.setdefault(name, []).extend([edit] if slash else [])
+    return picked
 
 
 def try_crate(top, name, edits):
@@ -64,7 +72,7 @@ def try_crate(top, name, edits):
 
 def main():
     parser = argparse.ArgumentParser(description=__doc__.strip().splitlines()[0])
-    parser.add_argument("names", nargs="*", metavar="NAME", help="a crate (all that have such edits)")
+    parser.add_argument("names", nargs="*", metavar="NAME[/EDIT]", help="a crate, or an edit of one (all crates that have such edits)")
     parser.add_argument("--all", action="store_true", help="tries the edits of must-fail too")
     options = parser.parse_args()
     folders = ("must-fail", "more-edits") if options.all else ("more-edits",)
@@ -73,12 +81,13 @@ def main():
     with tempfile.TemporaryDirectory() as folder:
         top = pathlib.Path(folder).resolve()
         copy_checkout(top)
-        for name in dict.fromkeys(options.names) or having:
-            if name not in having:
-                print(f"{name}: it has no such edits")
+        for name, picked in pick(options.names or having).items():
+            edits = put_edits(top, name, folders, picked) if name in having else []
+            missing = {*picked} - {pathlib.Path(edit).stem for edit in edits}
+            if missing or not edits:
+                print(f"{name}: it has no such edits: {', '.join(sorted(missing))}")
                 failed += 1
                 continue
-            edits = put_edits(top, name, folders)
             refused = try_crate(top, name, edits)
             passed, failed = passed + refused, failed + len(edits) - refused
     print(f"{passed} passed, {failed} failed")

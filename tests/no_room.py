@@ -7,15 +7,22 @@ A write, a list, an update, a copy and a reduction are run over scales of every 
 worker and by two, the first two also into two chunk sizes; and the limit is that of each object that is due, a byte less, half of it, and
 none. The first object that is longer is a fault of the store. Then the command is run again without a limit, and all objects stand: over
 what is left where it may be there, else in an emptied folder.
+
+The same runs are made where no folder may be written, and runs that read also where a file or a folder may not be read: as nobody, where
+root runs this. And names that differ in case alone are apart.
 """
+import contextlib
 import dataclasses
 import functools
 import itertools
+import os
+import pathlib
 import random
+import shutil
 
-from harness import file_limit, main, objects_in, want_files
-from model import Sharding, Volume, refused, voxels_in
-from runs import apart, list_run, made_run, update_run, write_run
+from harness import file_limit, main, objects_in, want, want_files, want_true
+from model import Sharding, Volume, cutout, infos_of, refused, spell, verdict, voxels_in
+from runs import apart, cutout_run, list_run, made_run, update_run, verify_run, write_run
 
 # Three layers of cells, the last ones clipped on each axis.
 RAW = Volume([5, 3, 5], [2, 2, 2], (-3, 0, 7), 2, 4)
@@ -84,12 +91,90 @@ def is_full(trial, volume, make_run, options):
         want_files(own.files(), {**before, **run.put}, f"without a limit behind {room} bytes, file")
 
 
+# Folders and files that may not be used
+
+
+NOBODY = 65534
+
+
+def be_nobody():
+    if os.geteuid() == 0:
+        os.setgroups([])
+        os.setgid(NOBODY)
+        os.setuid(NOBODY)
+
+
+def for_nobody(trial):
+    """The same with a program that anybody may run, in a folder that anybody may read."""
+    trial.folder.chmod(0o755)
+    program = pathlib.Path(shutil.copy(trial.program, trial.folder / "program"))
+    own = dataclasses.replace(apart(trial, "own"), program=program)
+    own.folder.mkdir()
+    return own
+
+
+@contextlib.contextmanager
+def with_mode(mode, paths):
+    """Some paths with another mode."""
+    before = {path: path.stat().st_mode for path in paths}
+    for path in reversed(paths):
+        path.chmod(mode)
+    yield
+    for path in paths:
+        path.chmod(before[path])
+
+
+def may_not_write(trial, volume, make_run, options):
+    own, run = for_nobody(trial), make_run(volume, *options)
+    own.lay_out(run.before)
+    folders = [own.folder, *sorted(path for path in own.folder.rglob("*") if path.is_dir())]
+    with with_mode(0o555, folders):
+        own.want_unchanged(run.words, refused("store fault"), run.stream, prepare=be_nobody)
+
+
+def reads_only(trial, volume):
+    """What only reads needs no folder that it may write; and what it may not read is a fault of the store, and not absent."""
+    own, files = for_nobody(trial), volume.files_after(ALL)[0]
+    runs = [cutout_run(volume, files), verify_run(volume, files)]
+    own.lay_out(runs[0].before)
+    with with_mode(0o555, [own.folder, own.folder / "d", own.folder / "d/s"]):
+        for run in runs:
+            own.want_unchanged(run.words, run.ending, prepare=be_nobody)
+    for path in ["d/info", "d", "d/s", *files]:
+        with with_mode(0, [own.folder / path]):
+            for run in runs:
+                status, output, errors = own.run(run.words, prepare=be_nobody)
+                want((status, errors), refused("store fault")[::2], f"{path} can't be read: the ending")
+                # of a cutout the values of layers in front of what can't be read may be there
+                want_true(run.ending[1].startswith(output) and (run is runs[0] or not output), f"{path} can't be read: {output!r:.100}")
+
+
+def are_apart_by_case(trial, volume):
+    """Where a file system looks at case, data sets and scales whose names differ in it alone have nothing in common."""
+    volumes = [dataclasses.replace(volume, dataset=dataset, key=key) for dataset, key in itertools.product("dD", "sS")]
+    trial.lay_out(infos_of(*volumes))
+    due = {}
+    for seed, each in enumerate(volumes):
+        run = write_run(each, at_random(seed, volume.whole))
+        trial.want(run.words, run.ending, run.stream)
+        due |= run.put
+    want_files(trial.files(), due)
+    for each in volumes:
+        trial.want(each.words("cutout", spell(volume.whole)), cutout(each, due, volume.whole))
+        trial.want(each.words("verify"), verdict(each, due, volume.whole))
+
+
 def rows():
     for options in ([], ["--workers=2"]):
         for (form, volume), (title, make_run) in itertools.product(FORMS.items(), RUNS.items()):
             yield f"{title}, {form}, {' '.join(options)}", is_full, volume, make_run, options
         for title, make_run in IN_EACH_SIZE.items():
             yield f"{title}, chunks of two sizes, {' '.join(options)}", is_full, SIZES, make_run, options
+        for (form, volume), (title, make_run) in itertools.product(FORMS.items(), RUNS.items()):
+            yield f"{title} where nothing may be written, {form}, {' '.join(options)}", may_not_write, volume, make_run, options
+    for form, volume in FORMS.items():
+        yield f"what may be read alone, or not, {form}", reads_only, volume
+        yield f"names that differ in case, {form}", are_apart_by_case, volume
 
 
 if __name__ == "__main__":

@@ -400,8 +400,8 @@ CLAUSES = {
 RESTS = [
     ("yellow", "the definitions", "trusted", "crates/*/specs say what the|format says: trusted.md lists|them in reading order"),
     ("yellow", "the kit", "trusted", "prover, compiler, std, ports|(serde_json, httparse, ..);|clang, LLVM"),
-    ("yellow", "the system", "trusted", "the C library, the kernel,|the disk and the network"),
-    ("red", "the edge", "only tested", "files and sockets get what the|store and the streams are|given: real ones tell nothing"),
+    ("yellow", "the system", "trusted", "the C library, the kernel, the|network and the disk: its calls|do what the trait Folder says"),
+    ("red", "the edge", "only tested", "sockets and the standard|streams get what passes: real|ones tell nothing"),
 ]
 
 

@@ -13,6 +13,7 @@ import dataclasses
 import functools
 import itertools
 import math
+import pathlib
 import random
 import re
 import socket
@@ -21,7 +22,8 @@ import time
 
 from browser import fetch_parts
 from harness import (
-    LIMIT, ROOT, Trial, built, find_strace, main, methods_of, open_closed_pipe, open_full, shorten, want, want_ending, want_true, within, wrong_with,
+    LIMIT, ROOT, Trial, built, find_strace, find_tool, main, methods_of, open_closed_pipe, open_full, shorten, want, want_ending, want_true,
+    within, wrong_with,
 )
 from model import Sharding, Volume, along, cutout, damaged, infos_of, printed, refused, spell
 from model.chance import damage_some, form_of, pick_box, pick_layouts, pick_stored, some_chunks
@@ -357,8 +359,7 @@ def takes_odd_replies(trial, title):
 
 # The scale, what the request asks that is replied to, and whether another one follows
 CASES = {
-    "info": (ONE, Asked(0, 2**16), True), "chunk": (ONE, Asked(0, 12), False),
-    "length": (ONE_IN_SHARD, LENGTH, True), "part": (ONE_IN_SHARD, Asked(16, 11), False),
+    "info": (ONE, Asked(0, 2**16)), "chunk": (ONE, Asked(0, 12)), "length": (ONE_IN_SHARD, LENGTH), "part": (ONE_IN_SHARD, Asked(16, 11)),
 }
 
 
@@ -383,8 +384,13 @@ def ending_of(case, says):
     return printed(says) if says is not None and len(says) == 11 else None
 
 
+def goes_on(case, says):
+    """Whether a cutout asks for more behind a reply that says this: not where an info is refused or a shard absent, nor behind its values."""
+    return ending_of(case, says) == printed(CHUNK) if case == "info" else case == "length" and says is not None
+
+
 def judges_reply(trial, case, chance):
-    volume, asked, goes_on = CASES[case]
+    volume, asked = CASES[case]
     files = files_of(volume)
     path = "d/info" if case == "info" else next(path for path in files if path != "d/info")
     stream = pick_reply(chance, asked, files[path])
@@ -400,7 +406,7 @@ def judges_reply(trial, case, chance):
         found = Fetching.of(trial).fetch(server.server_port, volume)
     reply = fitting(asked, taken(asked, stream))
     # what comes behind a reply is taken for the next one's
-    is_left = goes_on and reply is not None and not reply.closes and len(taken(asked, stream)) < len(stream)
+    is_left = reply is not None and goes_on(case, reply.says) and not reply.closes and len(taken(asked, stream)) < len(stream)
     wanted = FAULT if reply is None or is_left else ending_of(case, reply.says)
     what = f"{case}: {pieces!r:.600}"
     if wanted is None:
@@ -562,6 +568,17 @@ class Cases(Fetching):
             with python(self.folder / "other/d", host=OTHER_HOST, port=port):
                 for host, at, values in ((HOST, port, CHUNK), (OTHER_HOST, port, other), (HOST, last, third)):
                     want_ending(self.fetcher().run([host, str(at), "d", "s", BOX]), printed(values), f"{host} {at}")
+
+    def a_name_of_two_addresses(self):
+        """The first one refuses: the other one is asked. Where both refuse it is a fault."""
+        library = self.folder / "two_addresses.so"
+        source = pathlib.Path(__file__).with_name("two_addresses.c")
+        want(subprocess.run([find_tool("cc"), "-shared", "-fPIC", "-o", library, source], timeout=LIMIT).returncode, 0, "the library")
+        with self.telling() as server:
+            for port, ending in ((server.server_port, printed(CHUNK)), (free_port(), FAULT)):
+                found = self.fetcher().run(["two.test", *fetch_words(port, ONE, ONE.whole)[1:]], LD_PRELOAD=str(library))
+                want_ending(found, ending, f"two.test {port}")
+            want(server.connections, 1, "the connections")
 
     def no_server_and_no_data_set(self):
         """Nobody listens, and no data set is there."""

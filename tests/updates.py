@@ -112,6 +112,10 @@ STORED = [
     ("a voxel of a chunk that is absent", SMALL, {}, [(box_in("1:2,1:2,0:1"), b"\t")], {"0-2_0-2_0-1": "00000009"}, 1),
     ("a whole chunk into an empty folder", SMALL, {}, [(SMALL.whole, b"\1\2\3\4")], {"0-2_0-2_0-1": "01020304"}, 1),
     ("zeros over a chunk", SMALL, {"0-2_0-2_0-1": "01020304"}, [(SMALL.whole, bytes(4))], {"0-2_0-2_0-1": "00000000"}, 1),
+    ("two channels of kept chunks, one at the edge", line(5, 2, channels=2, width=2, sharding=Sharding()),
+     {"0.shard": shard_of(0, [(0, 0, bytes(range(8))), (0, 1, bytes(range(8, 16))), (0, 2, b"wxyz")]).hex()},
+     [(along(2, 3), b"\0\0\0\0")],
+     {"0.shard": shard_of(0, [(0, 0, bytes(range(8))), (0, 1, b"\0\0\n\v\0\0\x0e\x0f"), (0, 2, b"wxyz")]).hex()}, 3),
     ("the last of two boxes", SMALL, {"0-2_0-2_0-1": "01020304"}, [(SMALL.whole, b"\5\6\7\x08"), (box_in("0:1,0:1,0:1"), b"\t")],
      {"0-2_0-2_0-1": "09060708"}, 1),
     ("no boxes", SMALL, {"0-2_0-2_0-1": "01020304"}, [], {}, 0),
@@ -298,6 +302,26 @@ def tells_damaged_chunk(trial, volume, empty, box, told, may_stand, workers):
     want(len(update.files), may_stand, "the model's files")
 
 
+# Three raw chunks in a shard, of 16, 16 and 8 bytes, of which one has another length.
+EDGE_SHARD = line(10, 4, channels=2, width=2, sharding=Sharding())
+EDGE_CHUNKS = {(number, 0, 0): bytes(range(number, number + length)) for number, length in enumerate((16, 16, 8))}
+
+# title, the cell, how many bytes its chunk has, the box that is written, and the fault
+OTHER_LENGTHS = [
+    ("a byte less", (0, 0, 0), 15, (4, 8), "chunk length 15 wanted 16"), ("a byte more", (1, 0, 0), 17, (0, 4), "chunk too long 17 limit 16"),
+    ("half of its bytes", (1, 0, 0), 8, (0, 4), "chunk length 8 wanted 16"), ("no bytes", (2, 0, 0), 0, (0, 4), "chunk length 0 wanted 8"),
+    ("as many bytes as one that isn't at the edge", (2, 0, 0), 16, (0, 4), "chunk too long 16 limit 8"),
+]
+
+
+def tells_length(trial, cell, length, box, fault):
+    """A raw chunk that no box meets has another length than its cell's values."""
+    trial.store(EDGE_SHARD, {**EDGE_CHUNKS, cell: bytes(length)})
+    update = trial.want_update(EDGE_SHARD, [(along(*box), bytes(4 * (box[1] - box[0])))])
+    want_ending(update.answer, refused(damaged(cell, fault)), "the model")
+    want(list(update.files), [], "the model's files")
+
+
 # Updates that stop. What is no object stays, and a pipe beside objects isn't noticed.
 
 FOURS = {"d/s/0-1_0-1_0-1": b"\4", "d/s/1-2_0-1_0-1": b"\5", "d/s/2-3_0-1_0-1": b"\6"}
@@ -387,6 +411,8 @@ def rows(count):
         yield f"damaged, {title}, {workers} workers", tells_damaged_shard, *case, workers
     for (title, *case), workers in itertools.product(DAMAGED_CHUNKS, WORKERS):
         yield f"damaged, {title}, {workers} workers", tells_damaged_chunk, *case, workers
+    for title, *case in OTHER_LENGTHS:
+        yield f"a kept raw chunk of {title}", tells_length, *case
     for (is_raw, in_shards), seed in itertools.product(FORMS, range(count)):
         form = f"{'raw chunks' if is_raw else 'segmentations'} in {'shards' if in_shards else 'files'}, seed {seed}"
         yield form, updates_random, seed, (is_raw, in_shards)

@@ -231,6 +231,8 @@ def installs(trial):
     found = files_in(prefix)
     others = {name: found.get(name, "a file") for name in names}
     want_files(found, others | {f"{INSTALLED_PACKAGE}/{name}": content for name, content in package.items()})
+    leading_out = [name for name, content in found.items() if name.endswith(".md") and b"](../" in content]
+    want(leading_out, [], "pages with links to what isn't installed")
 
 
 def uses_the_package(trial):

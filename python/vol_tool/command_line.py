@@ -149,7 +149,7 @@ def _fetch(words: Words) -> int:
     from .fetching import fetch, fetch_info
 
     if (words.key is None) != (words.box is None):
-        raise UsageError("fetch wants LINK DATASET, or LINK DATASET KEY BOX")
+        raise UsageError("fetch takes LINK DATASET, or LINK DATASET KEY BOX")
     if words.key is None:
         for line in describe(fetch_info(words.link, words.dataset)):
             print(line)
@@ -284,7 +284,7 @@ COMMANDS: dict[str, tuple[str, str, str, Callable[[argparse.ArgumentParser], Non
     "put": (
         "writes an array into a scale",
         "The scale's folder has to be empty, but with --at. DATASET/info is made where there is none, and the scale added to it, which\n"
-        "wants --resolution; the layout of a scale that is there stays. The array is read slab by slab. Where it was broken off the same\n"
+        "needs --resolution; the layout of a scale that is there stays. The array is read slab by slab. Where it was broken off the same\n"
         "words and --resume go on. Values are uint8, uint16, uint32 or uint64.",
         f"volume put labels.npy cells 8_8_40 {LAYOUT}\nvolume put scan.h5:/volume fly 8_8_40 --resolution 8,8,40",
         _set_put, _put,

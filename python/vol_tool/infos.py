@@ -41,7 +41,7 @@ def three_between(name: str, given: Any, least: int, most: int) -> Three:
     except (TypeError, ValueError):
         x = y = z = least - 1
     if not all(least <= number <= most for number in (x, y, z)):
-        raise UsageError(f"{name} wants three whole numbers x, y, z, each from {least} to {most}, and not {given}")
+        raise UsageError(f"{name} is three whole numbers x, y, z, each from {least} to {most}, and not {given}")
     return x, y, z
 
 
@@ -52,7 +52,7 @@ def three_lengths(given: Any) -> Numbers:
     except (TypeError, ValueError):
         x = y = z = 0.0
     if not all(0 < length < math.inf for length in (x, y, z)):
-        raise UsageError(f"resolution wants three lengths x, y, z, each over 0, and not {given}")
+        raise UsageError(f"resolution is three lengths x, y, z, each over 0, and not {given}")
     return _shorten(x), _shorten(y), _shorten(z)
 
 

@@ -25,7 +25,7 @@ def need(name: str, what_for: str) -> ModuleType:
     """
     The package `name`, imported.
 
-    `what_for` is what wants it, as "stack.tif" or "links". Raises MissingPackage, with its name and what brings it, where it isn't there.
+    `what_for` is what needs it, as "stack.tif" or "links". Raises MissingPackage, with its name and what brings it, where it isn't there.
     """
     try:
         return importlib.import_module(name)

@@ -91,7 +91,7 @@ def _known_target(dataset: PathText, key: str, values: Values) -> Target:
 
 
 def _target_of(dataset: PathText, key: str, values: Values, resolution: Any, offset: Any, layout: Layout) -> Target:
-    """The scale that a whole array is put into: that of the info, or a new one, which wants a resolution."""
+    """The scale that a whole array is put into: that of the info, or a new one, which needs a resolution."""
     place, name = place_of(dataset), f"{os.fspath(dataset)}/info"
     info = _info_for(place, name, values.data_type, values.channels, layout.encoding)
     with contextlib.suppress(NoScale):
@@ -322,7 +322,7 @@ def write(
     uint8, uint16, uint32 or uint64, in either order of bytes; its axes are `zyx` or `xyz`, with channels in front or behind, `czyx`,
     `xyzc` or `zyxc`.
 
-    The info is made, or the scale added to it, where need be: that wants the `resolution`, in nanometres. The layout of a scale that is
+    The info is made, or the scale added to it, where need be: that needs the `resolution`, in nanometres. The layout of a scale that is
     there stays. Three numbers are in the order x, y, z: `resolution`, the `offset` of the first voxel, the `chunk` and `block` in voxels,
     and `at`. `sharding` is (preshift_bits, "identity" or "murmur", minishard_bits, shard_bits). Up to 16 `workers` encode segmentations.
 

@@ -1,5 +1,5 @@
 -- Reading one job more into frames with values or with chunks.
-use Rattle.std.proofs.Common.{◌≡◌, ◌≢◌, ℕ, ◌+◌, ◌<◌, ◌≤◌, List, [], ◌∷◌, Vec, Global, length, take, map, min, get_or, Option, Some, None, Ok, IfSome, refl, ap, ◌∙◌, sym, subst, arith, ⊎_elim}
+use Rattle.std.proofs.Common.{◌≡◌, ◌≢◌, ℕ, ◌+◌, ◌<◌, ◌≤◌, List, [], ◌∷◌, Vec, Global, length, take, map, min, get_or, Option, Ok, refl, ap, ◌∙◌, sym, subst, arith, ⊎_elim}
 use Rattle.std.specs.Prelude.{All, filter, slice_index_or}
 use Rattle.std.specs.List.{range_with_len, slice_set}
 use Rattle.std.specs.Vec.{with_items}
@@ -7,7 +7,6 @@ use Rattle.std.proofs.lemmas.Bool.{cases_eq}
 use Rattle.std.proofs.lemmas.List.{length-map, map-set, get_or-set_same, get_or-set_other}
 use Rattle.std.proofs.lemmas.List.Elements.{All-map, All-set}
 use Rattle.std.proofs.lemmas.List.FromFn.{map-range_with_len_more}
-use Rattle.vol_base.specs.Outside.{Objects}
 use Rattle.vol_base.specs.declared.faults.Fault.{Fault}
 use Rattle.vol_spec.specs.BoxValues.{first_some}
 use Rattle.vol_spec.specs.Encodings.{raw_size}
@@ -20,7 +19,7 @@ use Rattle.chunk_laws.specs.Told.{is_listed}
 use Rattle.write_plan.specs.Jobs.{cells_in, job_of, jobs_of, window_of}
 use Rattle.write_plan.specs.declared.jobs.Job.{Job}
 use Rattle.copier.specs.Frames.{HasRoom, KeepChunks, KeepsOwn, holding_frames, values_in}
-use Rattle.copier.specs.Held.{AreFilled, AreRead, HasFrames, Held, Holds, IsFilled, Readings, Reads, cells_of}
+use Rattle.copier.specs.Held.{AreFilled, AreRead, HasFrames, Held, Holds, IsFilled, Readings, Reads}
 use Rattle.copier.specs.declared.frame.JobFrame.{JobFrame}
 use Rattle.copier.proofs.HeldSteps.{held_cells, same_items}
 

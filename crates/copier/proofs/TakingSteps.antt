@@ -1,18 +1,16 @@
 -- Taking a job's chunk as it is stored.
-use Rattle.std.proofs.Common.{◌≡◌, ◌≢◌, ℕ, ◌+◌, ◌≤◌, ◌++◌, List, [], ◌∷◌, length, take, length-take, Option, Some, None, Result, Ok, Err, IfSome, Bool, refl, ap, ◌∙◌, sym, subst, arith}
-use Rattle.std.specs.Prelude.{IfOk, ⊤, replicate}
+use Rattle.std.proofs.Common.{◌≡◌, ℕ, ◌≤◌, ◌++◌, List, [], ◌∷◌, length, take, length-take, Option, Some, None, Result, Ok, Err, IfSome, Bool, refl, ap, ◌∙◌, sym, subst, arith}
+use Rattle.std.specs.Prelude.{IfOk, replicate}
 use Rattle.std.specs.Option.{option_map}
-use Rattle.std.proofs.lemmas.List.{length-replicate, take_all, take-append-le, take-take}
+use Rattle.std.proofs.lemmas.List.{take_all, take-append-le, take-take}
 use Rattle.vol_base.specs.Bytes.{AreBytes}
 use Rattle.vol_base.specs.Outside.{Objects}
 use Rattle.vol_base.specs.declared.faults.Fault.{Fault}
-use Rattle.vol_spec.specs.Chunks.{chunk_in, fault_of}
+use Rattle.vol_spec.specs.Chunks.{fault_of}
 use Rattle.vol_spec.specs.Encodings.{chunk_fault, encoded, raw_size}
-use Rattle.vol_spec.specs.Grid.{IsCell, cells_in}
+use Rattle.vol_spec.specs.Grid.{IsCell}
 use Rattle.vol_spec.specs.Limits.{first_bytes}
-use Rattle.vol_spec.specs.Types.{Cell, Name}
-use Rattle.vol_spec.specs.declared.encoding.Encoding.{Encoding}
-use Rattle.vol_spec.specs.declared.encoding.Encoding.TheVariants.{Raw}
+use Rattle.vol_spec.specs.Types.{Name}
 use Rattle.vol_spec.specs.declared.scale.Scale.{Scale}
 use Rattle.vol_spec.proofs.CutSteps.{bytes_part}
 use Rattle.chunk_grid.proofs.GridSteps.{cell_box-short}

@@ -25,8 +25,8 @@ use crate::twins::{are_twins, keep_reader};
 use cutout::{KeepingReader, Reader};
 use std::alloc::{AllocError, Global};
 use std::marker::Model;
-use vol_base::{Name, OutOfMemory, Store, StoreRefusal};
-use vol_spec::Scale;
+use vol_base::{OutOfMemory, Store, StoreRefusal};
+use vol_spec::{Scale, StoredScale};
 use write_plan::{Chunks, JobList, PrepareFault, window};
 
 /// So many frames, each with room for the values of each cell of a scale, and with no bytes yet. So a frame's
@@ -105,25 +105,24 @@ impl Copier {
     pub fn of<S: Store>(
         alloc: Global,
         store: &mut S,
-        dataset: &Name,
-        from: &Scale,
+        from: &StoredScale,
         to: &Scale,
     ) -> Result<Copier, StoreRefusal>
-        requires dataset { length dataset.now ≤ 200 }
-        requires volume { AreOfOneVolume from.now to.now }
+        requires volume { AreOfOneVolume from.now.scale to.now }
         requires few { cell_count to.now ≤ 2 ^ 22 }
-        ensures dataset { IfOk result (λ copier. copier.dataset ≡ dataset.now) }
-        ensures from { IfOk result (λ copier. copier.from ≡ from.now) }
+        ensures dataset { IfOk result (λ copier. copier.dataset ≡ from.now.dataset) }
+        ensures from { IfOk result (λ copier. copier.from ≡ from.now.scale) }
         ensures to { IfOk result (λ copier. copier.to ≡ to.now) }
         ensures few { IfOk result (λ copier. length (cells_of copier) ≤ 2 ^ 22) }
         ensures jobs { IfOk result (λ copier. IfSome (S.objects store.old) (λ m.
-            cells_of copier ≡ in_key_order to.now (copied_cells m dataset.now from.now to.now))) }
+            cells_of copier ≡ in_key_order to.now (copied_cells m from.now.dataset from.now.scale to.now))) }
         ensures reads { ReadsFrom S.Source StoreRefusal.Failed store.old store.new result }
     {
-        let Ok(mut reader) = Reader::open(alloc, dataset, from) else {
+        let Ok(reader) = Reader::open(alloc, &from.dataset, &from.scale) else {
             return Err(StoreRefusal::OutOfMemory);
         };
-        let cells = match find_placed::<Copies, S>(alloc, &mut reader, store, from, to) {
+        let mut reader = reader.keeping();
+        let cells = match find_placed::<Copies, S>(alloc, &mut reader, store, &from.scale, to) {
             Ok(cells) => cells,
             Err(refusal) => return Err(refusal),
         };
@@ -133,7 +132,7 @@ impl Copier {
         let Ok(frames) = reserve_jobs(alloc, to, window(to).min(jobs.len())) else {
             return Err(StoreRefusal::OutOfMemory);
         };
-        let twins = are_twins(from, to);
+        let twins = are_twins(&from.scale, to);
         let Ok(reader) = keep_reader(alloc, reader, twins) else {
             return Err(StoreRefusal::OutOfMemory);
         };
@@ -155,21 +154,19 @@ impl Copier {
     /// `OutOfMemory`.
     pub fn of_cells(
         alloc: Global,
-        dataset: &Name,
-        from: &Scale,
+        from: &StoredScale,
         to: &Scale,
         cells: Vec<[u64; 3]>,
     ) -> Result<Copier, OutOfMemory>
-        requires dataset { length dataset.now ≤ 200 }
-        requires volume { AreOfOneVolume from.now to.now }
+        requires volume { AreOfOneVolume from.now.scale to.now }
         requires each { All (IsCell to.now) cells.items }
         requires distinct { AllPairs (λ a b. a ≢ b) cells.items }
-        ensures dataset { IfOk result (λ copier. copier.dataset ≡ dataset.now) }
-        ensures from { IfOk result (λ copier. copier.from ≡ from.now) }
+        ensures dataset { IfOk result (λ copier. copier.dataset ≡ from.now.dataset) }
+        ensures from { IfOk result (λ copier. copier.from ≡ from.now.scale) }
         ensures to { IfOk result (λ copier. copier.to ≡ to.now) }
         ensures jobs { IfOk result (λ copier. cells_of copier ≡ in_key_order to.now cells.items) }
     {
-        let Ok(reader) = Reader::open(alloc, dataset, from) else {
+        let Ok(reader) = Reader::open(alloc, &from.dataset, &from.scale) else {
             return Err(OutOfMemory);
         };
         let Ok(jobs) = JobList::of(alloc, to, cells) else {
@@ -178,8 +175,8 @@ impl Copier {
         let Ok(frames) = reserve_jobs(alloc, to, jobs.len().min(window(to))) else {
             return Err(OutOfMemory);
         };
-        let twins = are_twins(from, to);
-        let Ok(reader) = keep_reader(alloc, reader, twins) else {
+        let twins = are_twins(&from.scale, to);
+        let Ok(reader) = keep_reader(alloc, reader.keeping(), twins) else {
             return Err(OutOfMemory);
         };
         Ok(Copier {

@@ -1,10 +1,10 @@
 //! Whether two scales have their cells alike.
 ghost use Rattle.std.specs.Prelude.{◌≡◌, ◌↔◌, IfOk, IsTrue};
 ghost use Rattle.vol_spec.specs.Copies.{AreOfOneVolume};
-ghost use Rattle.vol_spec.specs.declared.encoding.Encoding.TheVariants.{Seg};
+ghost use Rattle.vol_spec.specs.declared.encoding.Encoding.TheVariants.{Raw, Seg};
 ghost use Rattle.copy_laws.specs.Twins.{AreTwins};
 
-use cutout::{KeepingReader, Reader};
+use cutout::KeepingReader;
 use std::alloc::Global;
 use vol_base::OutOfMemory;
 use vol_spec::{Encoding, Scale};
@@ -23,6 +23,16 @@ fn is_block(a: [u64; 3], b: [u64; 3]) -> bool
     a == b
 }
 
+// Whether the chunks of a scale have their values as they are.
+fn is_raw(scale: &Scale) -> bool
+    ensures { IsTrue result → scale.now.encoding ≡ Raw }
+{
+    match scale.encoding {
+        Encoding::Raw => true,
+        Encoding::Seg { .. } => false,
+    }
+}
+
 // Whether the chunks of a scale are in blocks of this size.
 fn is_blocked(scale: &Scale, block: [u64; 3]) -> bool
     ensures { IsTrue result → scale.now.encoding ≡ Seg block }
@@ -33,17 +43,17 @@ fn is_blocked(scale: &Scale, block: [u64; 3]) -> bool
     }
 }
 
-// Whether two scales have chunks in the same blocks.
-fn has_blocks(from: &Scale, to: &Scale) -> bool
+// Whether two scales have chunks of one encoding.
+fn has_encoding(from: &Scale, to: &Scale) -> bool
     ensures { IsTrue result → from.now.encoding ≡ to.now.encoding }
 {
     match from.encoding {
-        Encoding::Raw => false,
+        Encoding::Raw => is_raw(to),
         Encoding::Seg { block } => is_blocked(to, block),
     }
 }
 
-/// Whether the chunks of two scales of one volume are of one grid and in the same blocks.
+/// Whether the chunks of two scales of one volume are of one grid and one encoding.
 pub(crate) fn are_twins(from: &Scale, to: &Scale) -> bool
     requires { AreOfOneVolume from.now to.now }
     ensures { IsTrue result → AreTwins from.now to.now }
@@ -51,23 +61,23 @@ pub(crate) fn are_twins(from: &Scale, to: &Scale) -> bool
     if !has_chunk(from, to) {
         return false;
     }
-    if !has_blocks(from, to) {
+    if !has_encoding(from, to) {
         return false;
     }
     true
 }
 
-/// A reader that keeps an index, and that takes chunks as they are stored where that is of use.
+/// The same reader, which takes chunks as they are stored where that is of use.
 pub(crate) fn keep_reader(
     alloc: Global,
-    reader: Reader,
+    reader: KeepingReader,
     twins: bool,
 ) -> Result<KeepingReader, OutOfMemory>
-    ensures { IfOk result (λ kept. kept.opened ≡ reader) }
+    ensures { IfOk result (λ kept. kept ≡ reader) }
 {
     if twins {
         reader.taking(alloc)
     } else {
-        Ok(reader.keeping())
+        Ok(reader)
     }
 }

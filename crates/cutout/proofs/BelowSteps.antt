@@ -1,6 +1,6 @@
 -- Which positions the part of a box below the cells of a number along z has.
 use Rattle.std.proofs.Common.{◌≡◌, ◌≤◌, ◌<◌, ◌+◌, ◌-◌, ◌*◌, ◌/◌, min, ℕ, ℤ, pos, ◌+ℤ◌, ◌-ℤ◌, ◌≤ℤ◌, nat_abs, slice_index, arith, lit<}
-use Rattle.std.specs.Prelude.{◌↔◌, ◌<ℤ◌}
+use Rattle.std.specs.Prelude.{◌<ℤ◌}
 use Rattle.std.proofs.lemmas.Int.{ints}
 use Rattle.std.proofs.lemmas.Nat.{div_below}
 use Rattle.std.proofs.Math.Nat.{mul-le-mul_right, lt-div-mul-add}
@@ -8,7 +8,6 @@ use Rattle.vol_base.proofs.Axes.{by_axis}
 use Rattle.vol_base.specs.declared.boxes.Box3.{Box3}
 use Rattle.vol_base.specs.Boxes.{at, Covers, end, from_begin, size}
 use Rattle.vol_spec.specs.Grid.{cell_at, Inside, whole}
-use Rattle.vol_spec.specs.Types.{Position}
 use Rattle.vol_spec.specs.declared.scale.Scale.{Scale}
 use Rattle.cutout.specs.Layers.{below, SplitsBelow}
 use Rattle.cutout.proofs.LayerSteps.{depth}

@@ -31,6 +31,10 @@ seen_bytes m dataset s cell frame there bytes fault is used read judge =
     let some : stored_bytes m dataset s cell ≡ Ok (Some (take frame.used frame.bytes)) = subst (λ b. HasRead (Ok b) frame (stored_bytes m dataset s cell)) is read in
     chunk_in-is m dataset s cell ∙ ap (judged s cell) (some ∙ ap (λ xs. Ok (Some xs)) (sym used)) ∙ ap (λ f. unless f bytes) (sym judge)
 
+-- or a fault on the way to them
+pub seen_refused : (m : Objects) (dataset : Name) (s : Scale) (cell : Cell) (fault : Fault) → stored_bytes m dataset s cell ≡ Err fault → chunk_in m dataset s cell ≡ Err fault
+seen_refused m dataset s cell fault e = chunk_in-is m dataset s cell ∙ ap (judged s cell) e
+
 -- what judging a cell answers: that it is absent,
 pub finds_absent : (o : Option Objects) (dataset : Name) (s : Scale) (cell : Cell) (frame : Filled) (there : Bool) → there ≡ false
     → IfSome o (λ m. HasRead (Ok there) frame (stored_bytes m dataset s cell)) → IfSome o (λ m. Finds (Ok false) (chunk_in m dataset s cell))

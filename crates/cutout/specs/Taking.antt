@@ -17,7 +17,7 @@ use Rattle.vol_spec.specs.declared.stored_scale.StoredScale.{StoredScale}
 use Rattle.segment_cells.specs.Decoding.{HoldsValues}
 use Rattle.segment_cells.specs.Serving.{ServesScale}
 use Rattle.shard_reader.specs.declared.bytes.LookupFault.{LookupFault}
-use Rattle.cutout.specs.Reading.{ReadsCell}
+use Rattle.cutout.specs.Finding.{Finds}
 use Rattle.cutout.specs.declared.channels.Channels.{Channels}
 use Rattle.cutout.specs.declared.fault.CutFault.{CutFault}
 use Rattle.cutout.specs.declared.fault.CutFault.TheVariants.{OutsideScale, StoreFault, Damaged}
@@ -46,18 +46,17 @@ pub record HasOwnChunk (s : Scale) (cell : Cell) (out : Bytes) (n : ℕ) : Type 
 abbrev pub all_of : Scale → Channels
 all_of s = record { first = 0; count = s.channels }
 
--- taking a cell: its values, the bytes of its chunk, or its fault
-abbrev pub TakesOne : Result (Option ℕ) LookupFault → Objects → StoredScale → Cell → Bytes → Bytes → Type 0
-TakesOne (Ok None) m origin cell old new =
-    ReadsCell (Ok tt) m origin cell (cell_box origin.scale cell) (all_of origin.scale) old new
-TakesOne (Ok (Some n)) m origin cell old new = chunk_in m origin.dataset origin.scale cell ≡ Ok (Some (take n new))
-TakesOne (Err fault) m origin cell old new =
-    ReadsCell (Err fault) m origin cell (cell_box origin.scale cell) (all_of origin.scale) old new
-
 -- bytes hold the values of a cell, by what is seen of its chunk
 abbrev pub HoldsCell : Scale → Cell → Result (Option Bytes) Fault → Bytes → Type 0
 HoldsCell s cell seen out = (p : Position) (c : ℕ) → Covers (cell_box s cell) p → c < s.channels
     → value_of s cell seen p c ≡ Ok (digit out s.width (num (cell_box s cell) p c))
+
+-- taking a cell: its values, the bytes of its chunk, or its fault
+abbrev pub TakesOne : Result (Option ℕ) LookupFault → Objects → StoredScale → Cell → Bytes → Type 0
+TakesOne (Ok None) m origin cell out = (fault_of (chunk_in m origin.dataset origin.scale cell) ≡ None) ×
+    HoldsCell origin.scale cell (chunk_in m origin.dataset origin.scale cell) out
+TakesOne (Ok (Some n)) m origin cell out = chunk_in m origin.dataset origin.scale cell ≡ Ok (Some (take n out))
+TakesOne (Err fault) m origin cell out = Finds (Err fault) (chunk_in m origin.dataset origin.scale cell)
 
 -- what taking a cell answers: its values, where there is no fault; so many bytes of its chunk in front; or its fault
 abbrev pub TakesCell : Result (Option ℕ) CutFault → Objects → Name → Scale → Cell → Bytes → Type 0

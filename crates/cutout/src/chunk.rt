@@ -1,6 +1,7 @@
 //! The bytes of a cell's chunk, read from its own object or out of a shard.
-ghost use Rattle.std.specs.Prelude.{◌≡◌, ◌∷◌, [], ◌+◌, ◌<◌, ◌≤◌, ◌^◌, length, IfOk, IfSome, IsSome};
+ghost use Rattle.std.specs.Prelude.{◌≡◌, ◌∷◌, [], ◌+◌, ◌<◌, ◌≤◌, ◌^◌, length, IfOk, IfSome, IsSome, Some};
 ghost use Rattle.std.specs.FinMap as map;
+ghost use Rattle.vol_spec.specs.Encodings.{cell_limit};
 ghost use Rattle.vol_spec.specs.Grid.{IsCell};
 ghost use Rattle.vol_spec.specs.Places.{id_of};
 ghost use Rattle.vol_spec.specs.StoredBytes.{stored_bytes};
@@ -15,7 +16,7 @@ use morton_code::code;
 use segment_cells::chunk_limit;
 use shard_reader::{LookupFault, ShardReader};
 use vol_base::{Got, Name, Source};
-use vol_spec::{Scale, StoredScale};
+use vol_spec::{Scale, Sharding, StoredScale};
 
 /// The id of a cell's chunk in a shard.
 pub(crate) fn chunk_id(scale: &Scale, cell: [u64; 3]) -> u64
@@ -47,6 +48,33 @@ fn read_object<S: Source>(
     }
 }
 
+/// Reads the bytes of a cell's chunk out of its shard into the front of a buffer, which has room for the longest: how many,
+/// None where it is absent.
+pub(crate) fn read_sharded<S: Source>(
+    shards: &mut ShardReader,
+    store: &mut S,
+    origin: &StoredScale,
+    sharding: &Sharding,
+    cell: [u64; 3],
+    limit: u64,
+    chunk: &mut [u8],
+) -> Result<Option<u64>, LookupFault>
+    requires cell { IsCell origin.now.scale cell }
+    requires sharding { origin.now.scale.sharding ≡ Some sharding.now }
+    requires limit { limit ≡ cell_limit origin.now.scale cell }
+    requires room { limit ≤ length chunk.old }
+    requires keeps { KeepsShards (S.objects store.old) origin.now.dataset origin.now.scale shards.old }
+    ensures read { IfSome (S.objects store.old) (λ m.
+        Gets result chunk.new (stored_bytes m origin.now.dataset origin.now.scale cell)) }
+    ensures within { IfOk result (λ found. IfSome found (λ n. n ≤ length chunk.new)) }
+    ensures keeps { KeepsShards (S.objects store.old) origin.now.dataset origin.now.scale shards.new }
+    ensures walks { Walks S.Source origin.now (cell ∷ []) LookupFault.NotRead store.old store.new
+        shards.old shards.new result }
+{
+    let id = chunk_id(&origin.scale, cell);
+    shards.read_chunk(store, origin, sharding, limit, id, chunk)
+}
+
 /// Reads the bytes of a cell's chunk into the front of a buffer: how many, None where it is absent. Of the
 /// buffer one byte more than the chunk has at most may be filled, so that a longer object is told.
 pub(crate) fn read_stored<S: Source>(
@@ -69,10 +97,7 @@ pub(crate) fn read_stored<S: Source>(
     let limit = chunk_limit(&origin.scale, cell);
     let buffer = &mut chunk[..limit as usize + 1];
     match origin.scale.sharding {
-        Some(sharding) => {
-            let id = chunk_id(&origin.scale, cell);
-            shards.read_chunk(store, origin, &sharding, limit, id, buffer)
-        }
+        Some(sharding) => read_sharded(shards, store, origin, &sharding, cell, limit, buffer),
         None => {
             let name = object_name(&origin.dataset, &origin.scale, cell);
             read_object(store, &name, buffer)

@@ -5,7 +5,7 @@ ghost use Rattle.vol_spec.specs.Places.{id_of, shard_of};
 ghost use Rattle.vol_spec.specs.ShardNames as ShardNames;
 ghost use Rattle.shard_reader.specs.Reading.{Answers};
 ghost use Rattle.vol_base.specs.Calls.{AsksFor};
-ghost use Rattle.cutout.specs.Keeping.{search_cost};
+ghost use Rattle.cutout.specs.Keeping.{KeepsShards, search_cost};
 ghost use Rattle.cutout.specs.Reading.{span_in};
 ghost use Rattle.cutout.specs.Searching.{Searches};
 
@@ -27,7 +27,7 @@ pub enum Found {
     At { name: Name, start: u64, len: u64 },
 }
 
-// Finds the span of a cell's chunk in its shard. Nothing is used of an index that was kept before.
+// Finds the span of a cell's chunk in its shard. An index that is kept goes on.
 fn find_span<S: Source>(
     shards: &mut ShardReader,
     store: &mut S,
@@ -39,15 +39,16 @@ fn find_span<S: Source>(
     requires cell { IsCell origin.now.scale cell }
     requires sharding { origin.now.scale.sharding ≡ Some sharding.now }
     requires id { id ≡ id_of origin.now.scale cell }
+    requires keeps { KeepsShards (S.objects store.old) origin.now.dataset origin.now.scale shards.old }
     ensures found { IfSome (S.objects store.old) (λ m.
         Answers (span_in m origin.now.dataset origin.now.scale cell) result) }
     ensures asks { AsksFor S.Source (λ m. search_cost m origin.now.dataset origin.now.scale cell)
         LookupFault.NotRead store.old store.new result }
     ensures still { IfErr result (λ fault. fault ≢ LookupFault.NotRead →
         S.faults store.new ≡ S.faults store.old) }
+    ensures keeps { KeepsShards (S.objects store.old) origin.now.dataset origin.now.scale shards.new }
 {
     let limit = chunk_limit(&origin.scale, cell);
-    shards.forget();
     shards.locate(store, origin, sharding, limit, id)
 }
 
@@ -60,10 +61,10 @@ fn name_shard(origin: &StoredScale, sharding: &Sharding, id: u64) -> Name
 }
 
 impl CellReader {
-    ghost use Rattle.cutout.specs.Serving.{HasRoom};
+    ghost use Rattle.cutout.specs.Serving.{Serves};
 
-    /// Finds the chunk of a cell: the whole of an object of its own, or the span of a shard. Nothing is used of
-    /// an index that was kept before.
+    /// Finds the chunk of a cell: the whole of an object of its own, or the span of a shard. The index that is kept goes
+    /// on from cell to cell.
     #[tactic(auto, using(crate::proofs::FoundSteps::absent_told, crate::proofs::FoundSteps::span_told, crate::proofs::FoundSteps::fault_told))]
     pub(crate) fn locate<S: Source>(
         &mut self,
@@ -72,8 +73,8 @@ impl CellReader {
         cell: [u64; 3],
     ) -> Result<Found, CutFault>
         requires cell { IsCell origin.now.scale cell }
-        requires room { HasRoom origin.now.scale self.old }
-        ensures room { HasRoom origin.now.scale self.new }
+        requires serves { Serves (S.objects store.old) origin.now self.old }
+        ensures serves { Serves (S.objects store.old) origin.now self.new }
         ensures searches { Searches S.Source origin.now.dataset origin.now.scale cell store.old store.new
             result }
     {

@@ -10,13 +10,15 @@ ghost use Rattle.cutout.specs.Kept.{KeepsIndex};
 ghost use Rattle.vol_base.specs.Calls.{ReadsFrom};
 ghost use Rattle.cutout.specs.Reading.{HasCut};
 ghost use Rattle.cutout.specs.Runs.{RunsOn};
+ghost use Rattle.cutout.specs.Searching.{Searches};
 ghost use Rattle.cutout.specs.Taking.{HasOwnChunk, TakesCell};
 
-use crate::CutFault;
 use crate::cells::CellReader;
 use crate::speller::Speller;
+use crate::{CutFault, Found};
+use std::alloc::Global;
 use std::marker::Model;
-use vol_base::{Box3, Source};
+use vol_base::{Box3, OutOfMemory, Source};
 use vol_spec::StoredScale;
 
 /// Reads a scale of a data set as a `Reader` does, and keeps the index that it opened last from call to call.
@@ -52,6 +54,32 @@ impl KeepingReader {
         ensures nothing { (objects : Option Objects) → KeepsIndex objects self.new }
     {
         self.cells.shards.forget();
+    }
+
+    /// The same reader, which moreover takes chunks as they are stored where this writer spells them. It takes the
+    /// memory for telling that.
+    pub fn taking(self, alloc: Global) -> Result<KeepingReader, OutOfMemory>
+        ensures { IfOk result (λ reader. reader ≡ self) }
+    {
+        let speller = Speller::reserve(alloc, &self.origin.scale)?;
+        Ok(KeepingReader {
+            origin: self.origin,
+            cells: self.cells,
+            speller,
+        })
+    }
+
+    /// Finds the chunk of a cell, as `Reader::locate` does, and forgets nothing: it reads no row that it has passed in
+    /// the index that it keeps, nor the index's entry. What it keeps must be what the objects say.
+    pub fn locate<S: Source>(&mut self, store: &mut S, cell: [u64; 3]) -> Result<Found, CutFault>
+        requires cell { IsCell self.old.opened.scale cell }
+        requires keeps { KeepsIndex (S.objects store.old) self.old }
+        ensures searches { Searches S.Source self.old.opened.dataset self.old.opened.scale cell store.old
+            store.new result }
+        ensures keeps { KeepsIndex (S.objects store.old) self.new }
+        ensures same { self.new.opened ≡ self.old.opened }
+    {
+        self.cells.locate(store, &self.origin, cell)
     }
 
     /// Cuts a box out, as `Reader::cutout` does, and forgets nothing: it reads no row that it has passed in the

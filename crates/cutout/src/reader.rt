@@ -13,7 +13,6 @@ ghost use Rattle.cutout.specs.Streaming.{Leaves, Streams};
 use crate::cells::CellReader;
 use crate::keeping::KeepingReader;
 use crate::layers::layer_room;
-use crate::speller::Speller;
 use crate::{CutFault, Found, StreamFault};
 use chunk_grid::inside;
 use chunk_pool::Frame;
@@ -73,19 +72,6 @@ impl Reader {
             cells: self.cells,
             speller: None,
         }
-    }
-
-    /// The same reader, which moreover takes chunks as they are stored where this writer spells them. It takes the
-    /// memory for telling that.
-    pub fn taking(self, alloc: Global) -> Result<KeepingReader, OutOfMemory>
-        ensures { IfOk result (λ reader. reader.opened ≡ self) }
-    {
-        let speller = Speller::reserve(alloc, &self.origin.scale)?;
-        Ok(KeepingReader {
-            origin: self.origin,
-            cells: self.cells,
-            speller,
-        })
     }
 
     /// Cuts a box out: the bytes of its values, x fastest, then y, z and the channel; 0 where a chunk is
@@ -162,6 +148,7 @@ impl Reader {
         ensures searches { Searches S.Source self.old.dataset self.old.scale cell store.old store.new result }
         ensures same { self.new ≡ self.old }
     {
+        self.cells.shards.forget();
         self.cells.locate(store, &self.origin, cell)
     }
 }

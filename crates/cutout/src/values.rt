@@ -1,6 +1,7 @@
 //! The values of a cell's chunk, put into those of a part.
 ghost use Rattle.std.specs.Prelude.{◌≡◌, ◌≢◌, ◌≤◌, length, None, Ok, OnOk, Some};
 ghost use Rattle.std.specs.Result.{result_err};
+ghost use Rattle.segment_cells.specs.Decoding.{HoldsValues};
 ghost use Rattle.vol_spec.specs.Encodings.{chunk_fault, raw_size};
 ghost use Rattle.cutout.specs.Opened.{values_room};
 ghost use Rattle.cutout.specs.Reading.{Puts, Took};
@@ -98,6 +99,28 @@ pub(crate) fn put_chunk(
             put_values(values, scale, home, part, channels, out);
             Ok(())
         }
+    }
+}
+
+/// Puts all values of a cell's chunk, or tells the chunk's first fault. Values that are stored as they are are copied at once.
+pub(crate) fn put_cell(
+    bytes: &[u8],
+    scale: &Scale,
+    home: &BoxedCell,
+    out: &mut [u8],
+) -> Result<(), ChunkFault>
+    requires home { IsBoxed scale.now home.now }
+    requires len { length out.old ≡ raw_size scale.now home.now.cell }
+    ensures fault { result_err result ≡ chunk_fault scale.now home.now.cell bytes.now }
+    ensures held { OnOk result (HoldsValues scale.now home.now.cell bytes.now out.new) }
+{
+    match scale.encoding {
+        Encoding::Raw => {
+            check_len(bytes.len() as u64, &home.own, scale.channels, scale.width)?;
+            out.copy_from_slice(bytes);
+            Ok(())
+        }
+        Encoding::Seg { block } => decode_cell(bytes, scale, home.cell, block, out),
     }
 }
 

@@ -56,9 +56,6 @@ reduced_stored o now r way method dataset key to_key is makes = subst (λ w. IfS
         (λ from to written h. made_reduction m now way dataset from to written h) (λ from to cell fault h. (h.first, λ sound. let none = sound cell h.of_source in cc (none, h.its_own))) (λ from to front. front) r (stored_scale m dataset key)
         (stored_scale m dataset to_key) makes
 
-pub reduced_begun : (o now : Option Objects) (way method : Method) (dataset key to_key : Name) (before after : Option Draft) → way ≡ method → DropsOrDownsamples way o now dataset key to_key before after → DropsOrDownsamples method o now dataset key to_key before after
-reduced_begun o now way method dataset key to_key before after is begun = subst (λ w. DropsOrDownsamples w o now dataset key to_key before after) is begun
-
 -- each box of a target reads as the reduced source
 all_read : (m : Objects) (now : Option Objects) (method : Method) (dataset : Name) (from to : Scale) → HasDownsampled method m now dataset from to → AllReadAsReduced method m now dataset from to
 all_read m now method dataset from to h =

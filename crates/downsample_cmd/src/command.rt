@@ -1,19 +1,19 @@
 //! The command `downsample`.
-ghost use Rattle.std.specs.Prelude.{◌≡◌, ◌≤◌, length, false, None, Some, IfErr, IfSome, OnOk};
-ghost use Rattle.vol_base.specs.Causes.{HasCauseOf, Rose};
+ghost use Rattle.std.specs.Prelude.{◌≡◌, ◌≤◌, length, false, Some, IfSome};
+ghost use Rattle.vol_base.specs.Causes.{Rose};
 ghost use Rattle.vol_base.specs.Outside.{Objects, OnlyReads};
 ghost use Rattle.shard_writer.specs.Writing.{Drops};
 ghost use Rattle.command_base.specs.Ending.{EndsWell, IsCaused};
 ghost use Rattle.command_base.specs.Outlets.{outlets_of};
 ghost use Rattle.command_base.specs.Scales.{stored_scale};
 ghost use Rattle.command_base.specs.Statuses.{prints, puts};
-ghost use Rattle.make_scale.specs.Refusals.{refusal_status};
-ghost use Rattle.make_scale.specs.Stored.{DropsUnsharded};
+ghost use Rattle.make_scale.specs.Stored.{DropsUnsharded, MakeLeaves};
 ghost use Rattle.downsample_cmd.specs.Answering.{CanDownsample, Downsampled, DropsOrDownsamples, ReducedBack, ReducesStored};
+ghost use Rattle.downsample_cmd.specs.Downsampling.{reduced_list};
 
 use crate::downsampling::Reducing;
 use command_base::{Crew, Status, finish, report, write_written_line};
-use make_scale::{MakeFault, MakeRefusal, make_stored};
+use make_scale::{MakeRefusal, make_stored};
 use reduce_laws::Method;
 use shard_writer::Written;
 use std::sync::Wait;
@@ -35,14 +35,9 @@ fn reduce_stored<R: Threads + Wait + Sync, S: Store, G: Gate + Sync>(
     ensures reduces { IfSome (S.objects store.old) (λ m. ReducesStored result
         (stored_scale m dataset.now key.now) (stored_scale m dataset.now to_key.now) method m
         (S.objects store.new) dataset.now) }
-    ensures kept { IfErr result (λ refusal. puts (refusal_status refusal) ≡ false →
-        OnlyReads (S.objects store.old) (S.objects store.new) (S.draft store.old) (S.draft store.new)) }
-    ensures draft { OnOk result (Drops (S.draft store.old) (S.draft store.new)) }
-    ensures begun { DropsOrDownsamples method (S.objects store.old) (S.objects store.new) dataset.now key.now
-        to_key.now (S.draft store.old) (S.draft store.new) }
-    ensures unsharded { IfSome (S.objects store.old) (λ m.
-        DropsUnsharded (stored_scale m dataset.now to_key.now) (S.draft store.old) (S.draft store.new)) }
-    ensures cause { HasCauseOf (MakeRefusal.Unmade MakeFault.StoreFault) (S.faults store.old) (S.faults store.new) result }
+    ensures leaves { MakeLeaves S.Source (λ m. stored_scale m dataset.now key.now)
+        (λ m. stored_scale m dataset.now to_key.now) (λ m from to. reduced_list method m dataset.now from to)
+        store.old store.new result }
 {
     let reducing = Reducing::of(crew, method);
     make_stored(crew, store, &reducing, dataset, key, dataset, to_key)

@@ -29,7 +29,7 @@ use std::alloc::Global;
 use std::sync::Wait;
 use std::thread::Threads;
 use vol_base::{Gate, Name, Store, StoreRefusal};
-use vol_spec::Scale;
+use vol_spec::{Scale, StoredScale};
 
 /// Making a reduced scale, in the source's data set.
 #[derive(Drop)]
@@ -78,19 +78,16 @@ impl<'a, R: Threads + Sync> Making for Reducing<'a, R> {
         &self,
         alloc: Global,
         store: &mut S,
-        from_dataset: &Name,
-        from: &Scale,
-        _to_dataset: &Name,
-        to: &Scale,
+        from: &StoredScale,
+        to: &StoredScale,
     ) -> Result<Reducer<'a, R>, StoreRefusal> {
         Reducer::of(
             self.rt,
             alloc,
             store,
             self.method,
-            from_dataset,
             from,
-            to,
+            &to.scale,
             self.workers,
         )
     }
@@ -133,5 +130,7 @@ pub fn downsample<R: Threads + Wait + Sync, S: Store, G: Gate + Sync>(
     ensures cause { HasCauseOf ReshardFault.StoreFault (S.faults store.old) (S.faults store.new) result }
 {
     let reducing = Reducing::of(crew, method);
-    make_scale(crew, store, &reducing, dataset, from, dataset, to)
+    let from = StoredScale::of(dataset, from);
+    let to = StoredScale::of(dataset, to);
+    make_scale(crew, store, &reducing, &from, &to)
 }

@@ -1,9 +1,10 @@
 -- What encoding the chunks of a scale takes (this project's).
-use Rattle.std.specs.Prelude.{◌≡◌, ◌<◌, ◌≤◌, ◌+◌, ◌^◌, ℕ, List, length, Option, Some, None, IsSome, All, [], min, slice_get, slice_index_or, vec_capacity}
+use Rattle.std.specs.Prelude.{◌≡◌, ◌<◌, ◌≤◌, ◌+◌, ◌^◌, ℕ, List, length, Option, Some, None, IsSome, All, [], slice_get, slice_index_or, vec_capacity}
 use Rattle.chunk_pool.specs.Frames.{Filled, Stock}
 use Rattle.encode_round.specs.Held.{HasBytes, HasLen, used_of}
 use Rattle.encode_round.specs.declared.kit.Kit.{Kit}
 use Rattle.encode_round.specs.declared.bench.Bench.{Bench}
+use Rattle.job_log.specs.declared.stages.Event.{Event}
 use Rattle.vol_spec.specs.Limits.{first_bytes, limit_of}
 use Rattle.vol_spec.specs.Types.{Bytes}
 use Rattle.vol_spec.specs.declared.encoding.Encoding.TheVariants.{Raw, Seg}
@@ -66,23 +67,33 @@ abbrev pub HasChunks : ℕ → List Bytes → ℕ → Kit → Type 0
 HasChunks len wanted count kit = (k : ℕ) (d : Option Filled) → k < count →
     HasBytes len (slice_get wanted k) (slice_index_or kit.frames.items k d)
 
--- a round of n jobs ends where so many were claimed: all of them; or some, where it ends once its chunks have so many bytes
-abbrev pub IsEnough : Option ℕ → ℕ → ℕ → Type 0
-IsEnough None n count = count ≡ n
-IsEnough (Some bytes) n count = min 1 n ≤ count
+-- a seat of so many that has nothing out, and a desk for the scale
+pub record IsSeated (s : Scale) (seats number : ℕ) (job : Option ℕ) (kept : Option Filled) (desk : Desk) : Type 0 where
+  pub idle : job ≡ None
+  pub bare : kept ≡ None
+  pub serves : ServesDesk s desk
+  pub below : number < seats
 
--- how many jobs a round has at most
+-- how many jobs a round has at most, how many seats, and what the last one did
 abbrev pub size_in : Bench → ℕ
 size_in bench = bench.size
 
--- a pool has reserved so many frames, and lent each of them
-abbrev pub AllLent : ℕ → Stock → Type 0
-AllLent count pool = (pool.reserved ≡ count) × (pool.lent ≡ count)
+abbrev pub seats_in : Bench → ℕ
+seats_in bench = length bench.kit.desks.items
+
+abbrev pub log_in : Bench → List Event
+log_in bench = bench.kit.log.items
+
+-- a pool of so many frames of a length has lent each of them
+pub record AllLent (count len : ℕ) (pool : Stock) : Type 0 where
+  pub reserved : pool.reserved ≡ count
+  pub lent : pool.lent ≡ count
+  pub long : pool.len ≡ len
 
 -- a bench serves rounds of a scale: it has a kit for as many jobs as a round has at most, of which there are some, and no more than 256; its
--- pool has lent a frame for each of them
+-- pool has lent a frame for each of them, as long as those of the kit
 pub record ServesBench (s : Scale) (bench : Bench) : Type 0 where
-  pub frames : AllLent bench.size bench.pool
+  pub frames : AllLent bench.size (most s) bench.pool
   pub kit : ServesKit s bench.size bench.kit
   pub some : 0 < bench.size
   pub few : bench.size ≤ 256

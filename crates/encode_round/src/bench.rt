@@ -1,11 +1,12 @@
 //! A bench: all memory that rounds take.
-ghost use Rattle.std.specs.Prelude.{◌≡◌, ◌<◌, ◌≤◌, ◌+◌, ◌-◌, ℕ, All, IfOk, Some, [], length, vec_capacity};
+ghost use Rattle.std.specs.Prelude.{◌≡◌, ◌<◌, ◌≤◌, ◌+◌, ◌-◌, ℕ, All, IfOk, Some, None, [], length, vec_capacity};
 ghost use Rattle.vol_spec.specs.declared.scale.Scale.{Scale};
 ghost use Rattle.vol_spec.specs.Writable.{IsWritable};
-ghost use Rattle.job_log.specs.Replay.{IsFinished};
+ghost use Rattle.job_log.specs.Replay.{IsFinished, claims_in};
+ghost use Rattle.encode_round.specs.Begun.{AreBegun, MayEnd};
 ghost use Rattle.encode_round.specs.Held.{HasLen};
-ghost use Rattle.encode_round.specs.Ready.{chunk_ready};
-ghost use Rattle.encode_round.specs.Serving.{AllLent, ArePrepared, HasChunks, IsEnough, ServesBench, ServesDesk, ServesKit, done_in, most, size_in};
+ghost use Rattle.encode_round.specs.Ready.{chunk_ready, chunks_from};
+ghost use Rattle.encode_round.specs.Serving.{AllLent, ArePrepared, HasChunks, ServesBench, ServesDesk, ServesKit, done_in, log_in, most, seats_in, size_in};
 
 use crate::desk::Desk;
 use crate::encoder::reserve_desk;
@@ -45,7 +46,7 @@ fn with_room<T>(alloc: Global, count: usize) -> Result<Vec<T>, OutOfMemory>
     }
 }
 
-// All frames of a pool that has so many of a length, and has lent none.
+// All frames of a pool that has so many of a length, and has lent none, the last one first.
 fn take_frames(
     alloc: Global,
     pool: &mut Pool,
@@ -57,7 +58,7 @@ fn take_frames(
     requires long { pool.old.len ≡ len }
     ensures count { IfOk result (λ v. length v.items ≡ count) }
     ensures frames { IfOk result (λ v. All (HasLen len) v.items) }
-    ensures lent { IfOk result (λ _. AllLent count pool.new) }
+    ensures lent { IfOk result (λ _. AllLent count len pool.new) }
 {
     let mut frames = with_room(alloc, count as usize)?;
     for _i in 0..count {
@@ -111,6 +112,8 @@ impl Bench {
         requires few_jobs { size ≤ 256 }
         ensures serves { IfOk result (ServesBench scale.now) }
         ensures size { IfOk result (λ bench. size_in bench ≡ size) }
+        ensures seats { IfOk result (λ bench. seats_in bench ≡ workers) }
+        ensures log { IfOk result (λ bench. log_in bench ≡ []) }
     {
         let len = scale.chunk_limit();
         let mut pool = Pool::reserve(alloc, size as u32, len)?;
@@ -137,7 +140,7 @@ impl Bench {
 
     /// The log of the last round.
     pub fn log(&self) -> &[Event]
-        ensures { result.now ≡ self.now.kit.log.items }
+        ensures { result.now ≡ log_in self.now }
     {
         &self.kit.log
     }
@@ -154,8 +157,8 @@ impl Bench {
 }
 
 /// Encodes the chunks of the jobs from one number up to, not with, another, which are prepared, by the workers of a bench, each
-/// in a thread of its own where one can be made. No job is begun once the chunks have as many bytes as the limit says, but for
-/// the first one. Answers how many jobs are done: those at the front. It takes no memory.
+/// in a thread of its own where one can be made. No job is begun once the chunks that are done have as many bytes as the limit
+/// says, but for the first one; and each other one is begun. Answers how many jobs are done: those at the front. It takes no memory.
 pub fn run_within<R, C: Chunks + Sync, G: Gate + Sync>(
     rt: &R,
     chunks: &C,
@@ -173,11 +176,16 @@ where
     requires size { to - from ≤ size_in bench.old }
     ensures bench { ServesBench scale.now bench.new }
     ensures size { size_in bench.new ≡ size_in bench.old }
-    ensures enough { IsEnough limit (to - from) result }
+    ensures seats { seats_in bench.new ≡ seats_in bench.old }
     ensures few { result ≤ to - from }
+    ensures count { result ≡ claims_in (log_in bench.new) }
+    ensures begun { let wanted = chunks_from (C.work chunks.now) (C.ready chunks.now) from (to - from) in
+        AreBegun (seats_in bench.old) limit wanted (log_in bench.new) }
+    ensures end { let wanted = chunks_from (C.work chunks.now) (C.ready chunks.now) from (to - from) in
+        MayEnd limit wanted (log_in bench.new) }
     ensures done { (k : ℕ) → k < result →
         done_in bench.new k ≡ chunk_ready (C.work chunks.now) (C.ready chunks.now) (from + k) }
-    ensures log { IsFinished (to - from) result bench.new.kit.log.items }
+    ensures log { IsFinished (to - from) result (log_in bench.new) }
 {
     let size = bench.size;
     let parts = bench.kit.desks.len() as u64 + 1;
@@ -216,9 +224,12 @@ where
     requires size { to - from ≤ size_in bench.old }
     ensures bench { ServesBench scale.now bench.new }
     ensures size { size_in bench.new ≡ size_in bench.old }
+    ensures seats { seats_in bench.new ≡ seats_in bench.old }
     ensures done { (k : ℕ) → k < to - from →
         done_in bench.new k ≡ chunk_ready (C.work chunks.now) (C.ready chunks.now) (from + k) }
-    ensures log { IsFinished (to - from) (to - from) bench.new.kit.log.items }
+    ensures begun { let wanted = chunks_from (C.work chunks.now) (C.ready chunks.now) from (to - from) in
+        AreBegun (seats_in bench.old) None wanted (log_in bench.new) }
+    ensures log { IsFinished (to - from) (to - from) (log_in bench.new) }
 {
     run_within(rt, chunks, scale, bench, from, to, None, gate);
 }

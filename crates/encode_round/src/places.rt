@@ -1,7 +1,7 @@
 //! Seats in places of fixed number, each with a desk.
-ghost use Rattle.std.specs.Prelude.{◌≡◌, ◌<◌, ◌≤◌, ◌+◌, ◌-◌, ℕ, List, All, length, Some, None, IfSome, is_some, true, slice_index_or, vec_capacity, vec_len};
+ghost use Rattle.std.specs.Prelude.{◌≡◌, ◌<◌, ◌≤◌, ◌+◌, ◌-◌, ℕ, List, All, length, Some, IfSome, is_some, true, slice_index_or, vec_capacity, vec_len};
 ghost use Rattle.encode_round.specs.Held.{IsRested, frame_count};
-ghost use Rattle.encode_round.specs.Serving.{AreNamed, ServesDesk, most};
+ghost use Rattle.encode_round.specs.Serving.{AreNamed, IsSeated, ServesDesk, most};
 ghost use Rattle.vol_spec.specs.declared.scale.Scale.{Scale};
 
 use crate::desk::Desk;
@@ -34,18 +34,16 @@ fn run_seat<N: Wanted, C: Chunks, G: Gate, R: Wait>(
     chunks: &C,
     scale: &Scale,
     from: u64,
-    limit: Option<u64>,
     gate: &G,
     place: &mut Place<N>,
 )
-    requires idle { (place.old.seat.job ≡ None) × (place.old.kept ≡ None) }
-    requires desk { ServesDesk scale.now place.old.desk }
+    requires seated { IsSeated scale.now N.seats place.old.seat.number place.old.seat.job place.old.kept place.old.desk }
     requires named { AreNamed scale.now (C.work chunks.now) (C.ready chunks.now) from N.wanted N.frame_len }
     ensures rested { IsRested N.frame_len place.new.seat.job place.new.kept }
     ensures desk { ServesDesk scale.now place.new.desk }
 {
     for _ in 0..u64::MAX {
-        let claimed = round.lock(rt).claim_more(&mut place.seat, limit);
+        let claimed = round.lock(rt).claim(&mut place.seat);
         let Some(work) = claimed else {
             return;
         };
@@ -77,17 +75,16 @@ fn run_place<N: Wanted, C: Chunks, G: Gate, R: Wait>(
     chunks: &C,
     scale: &Scale,
     from: u64,
-    limit: Option<u64>,
     gate: &G,
     place: &mut Option<Place<N>>,
 )
-    requires idle { IfSome place.old (λ p. (p.seat.job ≡ None) × (p.kept ≡ None) × ServesDesk scale.now p.desk) }
+    requires seated { IfSome place.old (λ p. IsSeated scale.now N.seats p.seat.number p.seat.job p.kept p.desk) }
     requires named { AreNamed scale.now (C.work chunks.now) (C.ready chunks.now) from N.wanted N.frame_len }
     ensures there { is_some place.new ≡ is_some place.old }
     ensures rested { IfSome place.new (λ p. IsRested N.frame_len p.seat.job p.kept × ServesDesk scale.now p.desk) }
 {
     if let Some(place) = place {
-        run_seat(rt, round, chunks, scale, from, limit, gate, place);
+        run_seat(rt, round, chunks, scale, from, gate, place);
     }
 }
 
@@ -98,13 +95,12 @@ fn run_places<N: Wanted + Send + Sync, C: Chunks + Sync, G: Gate + Sync, R: Thre
     chunks: &C,
     scale: &Scale,
     from: u64,
-    limit: Option<u64>,
     gate: &G,
     places: &mut [Option<Place<N>>],
 )
     requires some { 0 < length places.old }
-    requires idle { (i : ℕ) (d : _) → i < length places.old → (is_some (slice_index_or places.old i d) ≡ true)
-        × IfSome (slice_index_or places.old i d) (λ p. (p.seat.job ≡ None) × (p.kept ≡ None) × ServesDesk scale.now p.desk) }
+    requires seated { (i : ℕ) (d : _) → i < length places.old → (is_some (slice_index_or places.old i d) ≡ true)
+        × IfSome (slice_index_or places.old i d) (λ p. IsSeated scale.now N.seats p.seat.number p.seat.job p.kept p.desk) }
     requires named { AreNamed scale.now (C.work chunks.now) (C.ready chunks.now) from N.wanted N.frame_len }
     ensures rested { (i : ℕ) (d : _) → i < length places.old → (is_some (slice_index_or places.new i d) ≡ true)
         × IfSome (slice_index_or places.new i d) (λ p. IsRested N.frame_len p.seat.job p.kept × ServesDesk scale.now p.desk) }
@@ -114,7 +110,7 @@ fn run_places<N: Wanted + Send + Sync, C: Chunks + Sync, G: Gate + Sync, R: Thre
         rt,
         places,
         threads,
-        &|_, place| run_place(rt, round, chunks, scale, from, limit, gate, place),
+        &|_, place| run_place(rt, round, chunks, scale, from, gate, place),
     );
 }
 
@@ -144,8 +140,9 @@ fn seat_place<N: Wanted>(
     requires parts { 1 < host.old.parts }
     requires desks { All (ServesDesk scale.now) desks.old.items }
     requires enough { 0 < length desks.old.items }
+    requires seats { number < N.seats }
     ensures there { is_some place.new ≡ true }
-    ensures idle { IfSome place.new (λ p. (p.seat.job ≡ None) × (p.kept ≡ None) × ServesDesk scale.now p.desk) }
+    ensures seated { IfSome place.new (λ p. IsSeated scale.now N.seats p.seat.number p.seat.job p.kept p.desk) }
     ensures parts { host.new.parts + 1 ≡ host.old.parts }
     ensures outs { host.new.outs ≡ host.old.outs }
     ensures desks { All (ServesDesk scale.now) desks.new.items }
@@ -172,8 +169,9 @@ fn seat_all<N: Wanted>(
     requires parts { host.old.parts ≡ length places.old + 1 }
     requires desks { All (ServesDesk scale.now) desks.old.items }
     requires enough { length places.old ≤ length desks.old.items }
-    ensures idle { (i : ℕ) (d : _) → i < length places.old → (is_some (slice_index_or places.new i d) ≡ true)
-        × IfSome (slice_index_or places.new i d) (λ p. (p.seat.job ≡ None) × (p.kept ≡ None) × ServesDesk scale.now p.desk) }
+    requires seats { length places.old ≤ N.seats }
+    ensures seated { (i : ℕ) (d : _) → i < length places.old → (is_some (slice_index_or places.new i d) ≡ true)
+        × IfSome (slice_index_or places.new i d) (λ p. IsSeated scale.now N.seats p.seat.number p.seat.job p.kept p.desk) }
     ensures parts { host.new.parts ≡ 1 }
     ensures outs { host.new.outs ≡ host.old.outs }
     ensures desks { All (ServesDesk scale.now) desks.new.items }
@@ -290,7 +288,6 @@ pub(crate) fn run_seats<
     chunks: &C,
     scale: &Scale,
     from: u64,
-    limit: Option<u64>,
     gate: &G,
     host: &mut Host<N>,
     desks: &mut Vec<Desk>,
@@ -304,6 +301,7 @@ pub(crate) fn run_seats<
     requires named { AreNamed scale.now (C.work chunks.now) (C.ready chunks.now) from N.wanted N.frame_len }
     requires desks { All (ServesDesk scale.now) desks.old.items }
     requires enough { length places.old ≤ length desks.old.items }
+    requires seats { length places.old ≤ N.seats }
     requires spare { length spare.old.items ≡ 0 }
     requires spare_room { length places.old ≤ vec_capacity spare.old }
     ensures parts { host.new.parts ≡ host.old.parts }
@@ -314,6 +312,6 @@ pub(crate) fn run_seats<
     ensures spare_room { vec_capacity spare.old ≤ vec_capacity spare.new }
 {
     seat_all(scale, host, desks, places);
-    run_places(rt, round, chunks, scale, from, limit, gate, places);
+    run_places(rt, round, chunks, scale, from, gate, places);
     take_all(scale, host, desks, spare, places);
 }

@@ -1,8 +1,10 @@
 //! A round from its first claim to its last deposit.
 ghost use Rattle.std.specs.Prelude.{◌≡◌, ◌<◌, ◌≤◌, ◌+◌, ◌-◌, ◌^◌, ℕ, List, All, length, Some, None, IfSome, slice_get, slice_index_or, vec_capacity, vec_len};
+ghost use Rattle.job_log.specs.Claims.{IsFree};
 ghost use Rattle.job_log.specs.Replay.{IsFinished, claims_in};
+ghost use Rattle.encode_round.specs.Begun.{AreBegun, MayEnd};
 ghost use Rattle.encode_round.specs.Held.{HasLen, used_of};
-ghost use Rattle.encode_round.specs.Serving.{AreNamed, IsEnough, ServesDesk, ServesKit, HasChunks, most};
+ghost use Rattle.encode_round.specs.Serving.{AreNamed, ServesDesk, ServesKit, HasChunks, most};
 
 use crate::desk::Desk;
 use crate::encoder::encode_job;
@@ -85,18 +87,19 @@ fn finish_alone<N: Wanted, C: Chunks, G: Gate>(
     chunks: &C,
     scale: &Scale,
     from: u64,
-    limit: Option<u64>,
     gate: &G,
     desk: &mut Desk,
 )
     requires idle { seat.old.job ≡ None }
+    requires seated { seat.old.number < N.seats }
+    requires free { (s : ℕ) → IsFree (length N.wanted) round.old s }
     requires desk { ServesDesk scale.now desk.old }
     requires named { AreNamed scale.now (C.work chunks.now) (C.ready chunks.now) from N.wanted N.frame_len }
     ensures idle { seat.new.job ≡ None }
-    ensures enough { IsEnough limit (length N.wanted) (claims_in round.new) }
+    ensures end { MayEnd N.enough N.wanted round.new }
     ensures desk { ServesDesk scale.now desk.new }
 {
-    while let Some(work) = round.claim_more(seat, limit) {
+    while let Some(work) = round.claim(seat) {
         let Work {
             job,
             mut frame,
@@ -179,11 +182,15 @@ pub(crate) fn run_named<
     requires wanted { N.jobs ≡ length N.wanted }
     requires room { N.room ≡ size + size }
     requires size { to - from ≤ size }
+    requires enough { limit ≡ N.enough }
+    requires seats { length kit.desks.items ≡ N.seats }
     requires named { AreNamed scale.now (C.work chunks.now) (C.ready chunks.now) from N.wanted N.frame_len }
     requires kit { ServesKit scale.now size kit }
     ensures kit { ServesKit scale.now size result.0 }
     ensures desks { length result.0.desks.items ≡ length kit.desks.items }
-    ensures enough { IsEnough limit N.jobs result.1 }
+    ensures end { MayEnd limit N.wanted result.0.log.items }
+    ensures count { result.1 ≡ claims_in result.0.log.items }
+    ensures begun { AreBegun N.seats limit N.wanted result.0.log.items }
     ensures few { result.1 ≤ N.jobs }
     ensures chunks { HasChunks (most scale.now) N.wanted result.1 result.0 }
     ensures log { IsFinished N.jobs result.1 result.0.log.items }
@@ -196,7 +203,7 @@ pub(crate) fn run_named<
         mut spare,
     } = kit;
     let (jobs, mut host) = JobLog::<N>::open(stages, log, to - from, claims, deposits);
-    let round = Mutex::new(Round::open(jobs, frames));
+    let round = Mutex::new(Round::open(jobs, frames, limit));
     let seats = desks.len();
     let mut places = [
         None, None, None, None, None, None, None, None, None, None, None, None, None, None, None,
@@ -208,7 +215,6 @@ pub(crate) fn run_named<
         chunks,
         scale,
         from,
-        limit,
         gate,
         &mut host,
         &mut desks,
@@ -220,10 +226,9 @@ pub(crate) fn run_named<
     deposit_rest(
         &mut round, &mut host, &mut spare, chunks, scale, from, gate, &mut desk,
     );
+    round.settle(&mut host);
     let mut seat = host.seat(0);
-    finish_alone(
-        &mut round, &mut seat, chunks, scale, from, limit, gate, &mut desk,
-    );
+    finish_alone(&mut round, &mut seat, chunks, scale, from, gate, &mut desk);
     host.take_in(seat);
     put_desk(scale, &mut desks, desk);
     let done = round.claimed();

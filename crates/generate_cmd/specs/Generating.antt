@@ -1,7 +1,8 @@
 -- What `generate` answers over the objects that a store tells (this project's profile).
 use Rattle.std.specs.Prelude.{◌≡◌, ◌⊎◌, ℕ, ◌*◌, ◌≤◌, ◌<◌, ◌^◌, false, length, Option, Some, None, Result, Ok, Err, ⊤, IfErr, IfSome, IsOkAnd, OnOk}
 use Rattle.vol_base.specs.Causes.{Rose}
-use Rattle.vol_base.specs.Outside.{Objects}
+use Rattle.vol_base.specs.Outside.{Objects, OnlyReads}
+use Rattle.vol_base.specs.declared.outside.Source.{Ghosts}
 use Rattle.vol_spec.specs.Cut.{cut, first_fault}
 use Rattle.vol_spec.specs.Grid.{whole}
 use Rattle.vol_spec.specs.Raw.{raw_len}
@@ -11,6 +12,7 @@ use Rattle.value_sums.specs.Sums.{sum_in, sum_of}
 use Rattle.vectors_vol.specs.Generated.{generated}
 use Rattle.vectors_vol.specs.WriteStreams.{unless_large}
 use Rattle.write_plan.specs.declared.fault.PlanFault.{PlanFault}
+use Rattle.shard_writer.specs.Writing.{Drops}
 use Rattle.command_base.specs.Ending.{Ends}
 use Rattle.command_base.specs.Outlets.{Outlets}
 use Rattle.size_laws.specs.Further.{all_views}
@@ -125,6 +127,15 @@ pub record HasStoreCause (before now : ℕ) (result : Result Summary GenerateRef
   pub later : before ≤ now
   pub failed : IfErr result (λ refusal. generate_status refusal ≡ StoreStatus → Rose before now)
   pub stands : OnOk result (now ≡ before)
+
+-- what is left of a store in which a list is written that is then summed: nothing is being written, or what was before; and after a refusal of a
+-- status that puts nothing it is as before
+pub record GenerateLeaves {T : Type 0} (store : Ghosts T) (before after : T)
+    (result : Result Summary GenerateRefusal) : Type 0 where
+  pub draft : Drops (store.draft before) (store.draft after)
+  pub kept : IfErr result (λ refusal. puts (generate_status refusal) ≡ false →
+      OnlyReads (store.objects before) (store.objects after) (store.draft before) (store.draft after))
+  pub cause : HasStoreCause (store.faults before) (store.faults after) result
 
 -- what is right of the answer of `generate`: over objects; and where nothing is told, the refusals that come, those of a status that
 -- puts nothing without a change of the objects

@@ -1,6 +1,7 @@
 //! The command `generate`.
 ghost use Rattle.std.specs.Prelude.{◌≡◌, ◌≤◌, ◌<◌, ◌^◌, ℕ, All, List, Some, false, length, IfErr, IfSome};
-ghost use Rattle.vol_base.specs.Causes.{HasCauseOf, Rose};
+ghost use Rattle.vol_base.specs.Calls.{ReadsFrom};
+ghost use Rattle.vol_base.specs.Causes.{Rose};
 ghost use Rattle.vol_base.specs.Outside.{Objects, OnlyReads};
 ghost use Rattle.vol_spec.specs.Grid.{whole as whole_of};
 ghost use Rattle.vol_spec.specs.Writable.{IsWritable};
@@ -12,8 +13,7 @@ ghost use Rattle.command_base.specs.Scales.{stored_scale};
 ghost use Rattle.command_base.specs.Statuses.{prints, puts};
 ghost use Rattle.cutout_cmd.specs.Cutouts.{IsRequest};
 ghost use Rattle.write_cmd.specs.Storing.{AreReady, WrittenBack};
-ghost use Rattle.generate_cmd.specs.Generating.{CanGenerate, drawn, Generated, Generates, HasStoreCause, IsRefusal, IsUnsummed, JudgesWhole, SumsScale};
-ghost use Rattle.generate_cmd.specs.Refusals.{generate_status};
+ghost use Rattle.generate_cmd.specs.Generating.{CanGenerate, drawn, Generated, GenerateLeaves, Generates, IsRefusal, IsUnsummed, JudgesWhole, SumsScale};
 
 use crate::lines::write_generated_line;
 use crate::refusal::GenerateRefusal;
@@ -60,9 +60,7 @@ fn sum_values<S: Source, const WIDTH: usize>(
     requires small { IsRequest scale.now (whole_of scale.now) }
     ensures sums { IfSome (S.objects store.old) (λ m. SumsScale result m reader.old.dataset scale.now) }
     ensures refused { IfErr result IsUnsummed }
-    ensures kept { OnlyReads (S.objects store.old) (S.objects store.new) (S.draft store.old)
-        (S.draft store.new) }
-    ensures cause { HasCauseOf CutoutRefusal.StoreFault (S.faults store.old) (S.faults store.new) result }
+    ensures reads { ReadsFrom S.Source CutoutRefusal.StoreFault store.old store.new result }
 {
     let mut sums: SumOutlet<WIDTH> = SumOutlet::new();
     match stream_part(alloc, store, &mut sums, reader, &whole(scale)) {
@@ -82,9 +80,7 @@ fn sum_whole<S: Source>(
     requires small { IsRequest scale.now (whole_of scale.now) }
     ensures sums { IfSome (S.objects store.old) (λ m. SumsScale result m reader.old.dataset scale.now) }
     ensures refused { IfErr result IsUnsummed }
-    ensures kept { OnlyReads (S.objects store.old) (S.objects store.new) (S.draft store.old)
-        (S.draft store.new) }
-    ensures cause { HasCauseOf CutoutRefusal.StoreFault (S.faults store.old) (S.faults store.new) result }
+    ensures reads { ReadsFrom S.Source CutoutRefusal.StoreFault store.old store.new result }
 {
     match scale.width {
         1 => sum_values::<S, 1>(alloc, store, reader, scale),
@@ -105,9 +101,7 @@ fn sum_scale<S: Source>(
     requires small { IsRequest scale.now (whole_of scale.now) }
     ensures sums { IfSome (S.objects store.old) (λ m. SumsScale result m dataset.now scale.now) }
     ensures refused { IfErr result IsUnsummed }
-    ensures kept { OnlyReads (S.objects store.old) (S.objects store.new) (S.draft store.old)
-        (S.draft store.new) }
-    ensures cause { HasCauseOf CutoutRefusal.StoreFault (S.faults store.old) (S.faults store.new) result }
+    ensures reads { ReadsFrom S.Source CutoutRefusal.StoreFault store.old store.new result }
 {
     let mut reader = Reader::open(alloc, dataset, scale)?;
     sum_whole(alloc, store, &mut reader, scale)
@@ -131,10 +125,7 @@ fn write_and_sum<R: Threads + Wait + Sync, S: Store, G: Gate + Sync>(
     ensures generates { (key : List ℕ) → IfSome (S.objects store.old) (λ m.
         Generates result (Ok scale.now) m (S.objects store.new) (drawn number count) dataset.now key) }
     ensures refused { IfErr result IsRefusal }
-    ensures draft { Drops (S.draft store.old) (S.draft store.new) }
-    ensures kept { IfErr result (λ refusal. puts (generate_status refusal) ≡ false →
-        OnlyReads (S.objects store.old) (S.objects store.new) (S.draft store.old) (S.draft store.new)) }
-    ensures cause { HasStoreCause (S.faults store.old) (S.faults store.new) result }
+    ensures leaves { GenerateLeaves S.Source store.old store.new result }
 {
     let mut list = Generator::new(scale, number, count);
     let written = match write_list(crew, store, &mut list, dataset, scale) {
@@ -165,10 +156,7 @@ fn generate_objects<R: Threads + Wait + Sync, S: Store, G: Gate + Sync>(
         Generates result (stored_scale m dataset.now key.now) m (S.objects store.new)
         (drawn number count) dataset.now key.now) }
     ensures refused { IfErr result IsRefusal }
-    ensures draft { Drops (S.draft store.old) (S.draft store.new) }
-    ensures kept { IfErr result (λ refusal. puts (generate_status refusal) ≡ false →
-        OnlyReads (S.objects store.old) (S.objects store.new) (S.draft store.old) (S.draft store.new)) }
-    ensures cause { HasStoreCause (S.faults store.old) (S.faults store.new) result }
+    ensures leaves { GenerateLeaves S.Source store.old store.new result }
 {
     let scale = match read_scale(crew.alloc, store, dataset, key) {
         Ok(scale) => scale,

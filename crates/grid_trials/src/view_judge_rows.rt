@@ -8,7 +8,7 @@ use std::process::Abort;
 use std::test::Fail;
 use view_judge::{ViewFault, ViewJudge, ViewsReport, count_view_cells};
 use vol_base::{Box3, ChunkFault, Fault, MemoryStore, Name};
-use vol_spec::{ChunkSizes, Encoding, Scale};
+use vol_spec::{ChunkSizes, Encoding, Scale, StoredScale};
 
 // Four voxels in one cell, and in two.
 fn row_scale(key: Name) -> Scale
@@ -61,7 +61,8 @@ struct Row<'a> {
 fn check<R: Abort>(rt: &R, alloc: Global, scale: &Scale, row: &Row) -> Result<(), Fail> {
     let dataset = name_of("d")?;
     let mut store = store_of(alloc, row.objects, row.failing)?;
-    let mut judge = match ViewJudge::reserve(alloc, &dataset, scale) {
+    let stored = StoredScale::of(&dataset, scale);
+    let mut judge = match ViewJudge::reserve(alloc, &stored) {
         Ok(judge) => judge,
         Err(_) => return Err("there is memory".into()),
     };

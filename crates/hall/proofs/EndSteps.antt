@@ -1,15 +1,17 @@
 -- How serving ends.
-use Rattle.std.proofs.Common.{◌≡◌, ◌<◌, ◌≤◌, ◌+◌, ◌-◌, ℕ, List, [], Bool, true, false, inr, refl, sym, ap, subst, arith, rules}
+use Rattle.std.proofs.Common.{◌≡◌, ◌<◌, ◌≤◌, ◌+◌, ◌-◌, ℕ, List, [], Bool, true, false, inl, inr, refl, sym, ap, subst, arith, rules}
 use Rattle.std.specs.Prelude.{Option, Some, None, IfSome, sum, nat_lt, if◌then◌else◌}
 use Rattle.vol_base.specs.Causes.{Rose}
 use Rattle.vol_base.specs.Outside.{Objects}
 use Rattle.hall.specs.declared.outcome.HallEnd.TheVariants as ended
 use Rattle.hall.specs.Halls.{Accepts, AllSoundBut, EachServed, HasExactly, Numbered, PaidBy, WhereAllTell, end_by, ends_of, is_short, numbers_of}
 
-pub accepts : (ran failed : Bool) (n accepted given now : ℕ) → now ≡ accepted + given → given ≤ n → (failed ≡ true → given < n) → (failed ≡ false → given ≡ n) → Accepts (end_by ran failed) n (now - accepted)
-accepts true failed n accepted given now is most fewer all = omega (arith, is, most)
-accepts false true n accepted given now is most fewer all = omega (arith, is, fewer refl)
-accepts false false n accepted given now is most fewer all = omega (arith, is, all refl)
+pub accepts : (ran failed : Bool) (n accepted given now before faults : ℕ) → now ≡ accepted + given → (failed ≡ true → given < n) → (failed ≡ true → Rose before faults) → (failed ≡ false → given ≡ n)
+    → Accepts (end_by ran failed) n before faults (now - accepted)
+accepts true true n accepted given now before faults is fewer rose all = inr (inr (omega (arith, is, fewer refl), rose refl))
+accepts true false n accepted given now before faults is fewer rose all = inl (omega (arith, is, all refl))
+accepts false true n accepted given now before faults is fewer rose all = omega (arith, is, fewer refl)
+accepts false false n accepted given now before faults is fewer rose all = omega (arith, is, all refl)
 
 pub short_by : (ran failed : Bool) → is_short (end_by ran failed) ≡ ran
 short_by true failed = refl

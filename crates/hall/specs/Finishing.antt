@@ -20,7 +20,7 @@ told_as port accepted faults = record { port = port; accepted = accepted; faults
 pub record Finishes (jobs : ℕ) (dataset : List ℕ) (objects : List (Option Objects)) (drafts : List (Option Draft)) (counts : List ℕ) (before : Told) (end : HallEnd) (after : Told) (served : Option (List Numbered)) (objects_after : List (Option Objects)) (drafts_after : List (Option Draft)) (counts_after : List ℕ) : Type 0 where
   pub bound : after.port ≡ before.port
   pub exact : IfSome served (λ list. HasExactly (after.accepted - before.accepted) (numbers_of list))
-  pub given : Accepts end jobs (after.accepted - before.accepted)
+  pub given : Accepts end jobs before.faults after.faults (after.accepted - before.accepted)
   pub more : before.accepted ≤ after.accepted
   pub each : EachServed objects dataset (is_short end) served counts counts_after
   pub stores_later : NoneFell counts counts_after

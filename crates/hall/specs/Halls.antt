@@ -213,11 +213,12 @@ end_by true failed = ended.OutOfMemory
 end_by false true = ended.DoorFault
 end_by false false = ended.All
 
--- how many of n ends were accepted, by how serving ended: all, fewer where an accept failed
-abbrev pub Accepts : HallEnd → ℕ → ℕ → Type 0
-Accepts ended.All n accepted = accepted ≡ n
-Accepts ended.DoorFault n accepted = accepted < n
-Accepts ended.OutOfMemory n accepted = accepted ≤ n
+-- how many of n ends were accepted, by how serving ended, while the entrance's count of faults went from one number to another: all; fewer
+-- where an accept failed; and where memory ran out all, or none, or fewer where an accept failed too
+abbrev pub Accepts : HallEnd → ℕ → ℕ → ℕ → ℕ → Type 0
+Accepts ended.All n before now accepted = accepted ≡ n
+Accepts ended.DoorFault n before now accepted = accepted < n
+Accepts ended.OutOfMemory n before now accepted = (accepted ≡ n) ⊎ (accepted ≡ 0) ⊎ ((accepted < n) × Rose before now)
 
 -- memory ran out, for the hall or amid some connection
 abbrev pub is_short : HallEnd → Bool

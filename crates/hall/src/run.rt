@@ -368,7 +368,8 @@ where
     ensures bound { D.bound result.entrance ≡ D.bound entrance }
     ensures exact { IfSome (X.served result.exit) (λ list.
         HasExactly (D.accepted result.entrance - D.accepted entrance) (numbers_of list)) }
-    ensures given { Accepts result.end total (D.accepted result.entrance - D.accepted entrance) }
+    ensures given { Accepts result.end total (D.faults entrance) (D.faults result.entrance)
+        (D.accepted result.entrance - D.accepted entrance) }
     ensures more { D.accepted entrance ≤ D.accepted result.entrance }
     ensures each { EachServed (map S.objects stores.items) dataset.now (is_short result.end)
         (X.served result.exit) (map S.faults stores.items) (map S.faults result.stores.items) }

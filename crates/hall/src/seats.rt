@@ -11,6 +11,7 @@ use crate::porch::{Guest, Porch};
 use crate::rest::Left;
 use crate::turn::serve_turn;
 use job_log::Seat;
+use range_server::Desk;
 use std::alloc::Global;
 use std::sync::ledger::Share;
 use std::sync::{Mutex, Wait};
@@ -31,6 +32,7 @@ fn serve_end<N: Hall, L: Parting, S: Source>(
     link: &mut L,
     store: &mut S,
     order: &Order<N>,
+    kept: &mut Option<Desk>,
 ) -> Outcome
     requires fresh { (L.left link.old ≡ L.stream link.old)
         × (L.sent link.old ≡ option_map (λ _. []) (L.stream link.old)) × (L.faults link.old ≡ 0) }
@@ -40,7 +42,7 @@ fn serve_end<N: Hall, L: Parting, S: Source>(
     ensures objects { S.objects store.new ≡ S.objects store.old }
     ensures draft { S.draft store.new ≡ S.draft store.old }
 {
-    let outcome = serve_turn(alloc, link, store, &order.dataset);
+    let outcome = serve_turn(alloc, link, store, &order.dataset, kept);
     link.part();
     outcome
 }
@@ -72,6 +74,7 @@ pub(crate) fn run_seat<
     ensures fits { IfSome place.new.kept (λ k. Fits N.told N.dataset k.outcome (D.End.stream k.end)
         (D.End.sent k.end) (D.End.faults k.end)) }
 {
+    let mut desk = None;
     for _ in 0..u64::MAX {
         let entered = porch
             .lock(rt)
@@ -81,7 +84,7 @@ pub(crate) fn run_seat<
         };
         let Guest { number, mut end } = guest;
         gate.at(place.seat.number, number, Moment::Claimed);
-        let outcome = serve_end(alloc, &mut end, &mut place.store, order);
+        let outcome = serve_end(alloc, &mut end, &mut place.store, order, &mut desk);
         let back = middle
             .lock(rt)
             .deposit(&mut place.seat, &mut place.cuts, number, end, outcome);
@@ -116,10 +119,11 @@ pub(crate) fn finish_alone<N: Hall, D: Entrance + Drop, X: Exit<D::End> + Drop, 
     ensures objects { S.objects store.new ≡ S.objects store.old }
     ensures draft { S.draft store.new ≡ S.draft store.old }
 {
+    let mut desk = None;
     while let Some(guest) = porch.enter_alone(middle, seat, order.total) {
         let Guest { number, mut end } = guest;
         gate.at(seat.number, number, Moment::Claimed);
-        let outcome = serve_end(alloc, &mut end, store, order);
+        let outcome = serve_end(alloc, &mut end, store, order, &mut desk);
         match middle.deposit(seat, cuts, number, end, outcome) {
             None => {}
             Some(_) => unreachable!(),

@@ -3,7 +3,7 @@ ghost use Rattle.std.specs.Prelude.{◌≡◌, ◌∷◌, [], List, option_map};
 ghost use Rattle.hall.specs.Halls.{Turned, outcome_of};
 
 use crate::outcome::Outcome;
-use range_server::{Ending, ServeFault, Service, serve_to_end};
+use range_server::{Desk, Ending, ServeFault, Service, serve_to_end};
 use std::alloc::Global;
 use vol_base::{Link, Name, Source};
 
@@ -21,12 +21,14 @@ fn judge(served: &Service) -> Outcome
     }
 }
 
-/// Serves an end on which nothing was received or sent from a store, and tells how that ended.
+/// Serves an end on which nothing was received or sent from a store, and tells how that ended. The desk that
+/// is kept serves one end after the other.
 pub fn serve_turn<L: Link, S: Source>(
     alloc: Global,
     link: &mut L,
     store: &mut S,
     dataset: &Name,
+    kept: &mut Option<Desk>,
 ) -> Outcome
     requires fresh { (L.left link.old ≡ L.stream link.old)
         × (L.sent link.old ≡ option_map (λ _. []) (L.stream link.old)) × (L.faults link.old ≡ 0) }
@@ -35,6 +37,6 @@ pub fn serve_turn<L: Link, S: Source>(
     ensures objects { S.objects store.new ≡ S.objects store.old }
     ensures draft { S.draft store.new ≡ S.draft store.old }
 {
-    let served = serve_to_end(alloc, link, store, dataset);
+    let served = serve_to_end(alloc, link, store, dataset, kept);
     judge(&served)
 }

@@ -1,5 +1,5 @@
 //! A judge of whole indexes.
-ghost use Rattle.std.specs.Prelude.{◌≡◌, ◌+◌, ◌<◌, ◌≤◌, ◌^◌, length, IfOk, IfSome, Err, Some};
+ghost use Rattle.std.specs.Prelude.{◌≡◌, ◌<◌, ◌^◌, length, IfOk, IfSome, Err, Some};
 ghost use Rattle.std.specs.FinMap as map;
 ghost use Rattle.vol_base.specs.Calls.{AsksFor};
 ghost use Rattle.vol_spec.specs.ShardNames.{shard_name};
@@ -14,7 +14,7 @@ use chunk_pool::Frame;
 use shard_index::{ShardPlace, shard_name};
 use std::alloc::Global;
 use vol_base::{Name, OutOfMemory, Source};
-use vol_spec::{Scale, Sharding};
+use vol_spec::{Sharding, StoredScale};
 
 // Judges the entry of a minishard, and all rows of its index.
 fn judge_index<S: Source>(
@@ -104,24 +104,22 @@ impl IndexJudge {
     pub fn judge<S: Source>(
         &mut self,
         store: &mut S,
-        dataset: &Name,
-        scale: &Scale,
+        stored: &StoredScale,
         sharding: &Sharding,
         home: &ShardPlace,
     ) -> Result<(), JudgeFault>
-        requires dataset { length dataset.now ≤ 200 }
-        requires sharding { scale.now.sharding ≡ Some sharding.now }
+        requires sharding { stored.now.scale.sharding ≡ Some sharding.now }
         requires shard { home.now.shard < 2 ^ sharding.now.shard_bits }
         requires minishard { home.now.minishard < 2 ^ sharding.now.minishard_bits }
-        requires knows { Knows (S.objects store.old) dataset.now scale.now sharding.now self.old }
+        requires knows { Knows (S.objects store.old) stored.now.dataset stored.now.scale sharding.now self.old }
         ensures judged { IfSome (S.objects store.old) (λ m.
             Says (wrong_in
-            (map.get m (shard_name dataset.now scale.now home.now.shard))
+            (map.get m (shard_name stored.now.dataset stored.now.scale home.now.shard))
             sharding.now home.now.shard home.now.minishard) result) }
-        ensures knows { Knows (S.objects store.old) dataset.now scale.now sharding.now self.new }
+        ensures knows { Knows (S.objects store.old) stored.now.dataset stored.now.scale sharding.now self.new }
         // It asks for no more than the entry and the rows, and for nothing where the index is remembered.
         ensures asks { AsksFor S.Source (λ m. index_cost
-            (map.get m (shard_name dataset.now scale.now home.now.shard)) sharding.now home.now.minishard)
+            (map.get m (shard_name stored.now.dataset stored.now.scale home.now.shard)) sharding.now home.now.minishard)
             JudgeFault.NotRead store.old store.new result }
     {
         let index = IndexKey {
@@ -131,7 +129,7 @@ impl IndexJudge {
         if was_judged(&mut self.judged, index) {
             return Ok(());
         }
-        let name = shard_name(dataset, scale, home.shard);
+        let name = shard_name(&stored.dataset, &stored.scale, home.shard);
         match self.judge_anew(store, &name, sharding, home) {
             Ok(()) => {}
             Err(fault) => return Err(fault),

@@ -16,8 +16,8 @@ use cell_lists::FoundCells;
 use index_judge::COLUMN_LEN;
 use std::alloc::{AllocError, Global};
 use touched_shards::find_shards;
-use vol_base::{Name, Source};
-use vol_spec::{Scale, Sharding};
+use vol_base::Source;
+use vol_spec::{Sharding, StoredScale};
 use write_plan::Plan;
 
 // Room for 1,024 numbers.
@@ -31,22 +31,20 @@ fn make_column(alloc: Global) -> Result<Vec<u8>, AllocError>
 fn judge_shards<S: Source>(
     alloc: Global,
     store: &mut S,
-    dataset: &Name,
-    scale: &Scale,
+    stored: &StoredScale,
     sharding: &Sharding,
     plan: &Plan,
     shards: &[u64],
     found: &mut FoundCells,
 ) -> Result<(), KeepRefusal>
-    requires dataset { length dataset.now ≤ 200 }
-    requires sharding { scale.now.sharding ≡ Some sharding.now }
-    requires shards { shards.now ≡ touched_shards scale.now sharding.now plan.now.writes }
-    requires plan { plan.now.scale ≡ scale.now }
+    requires sharding { stored.now.scale.sharding ≡ Some sharding.now }
+    requires shards { shards.now ≡ touched_shards stored.now.scale sharding.now plan.now.writes }
+    requires plan { plan.now.scale ≡ stored.now.scale }
     requires few { found.old.count ≤ 2 ^ 22 }
-    requires counted { Counts scale.now (met scale.now plan.now.writes) found.old }
-    ensures judged { IfSome (S.objects store.old) (λ m. Judges m dataset.now scale.now sharding.now
-        plan.now.writes result found.new) }
-    ensures whole { OnOk result (IsWhole scale.now found.new) }
+    requires counted { Counts stored.now.scale (met stored.now.scale plan.now.writes) found.old }
+    ensures judged { IfSome (S.objects store.old) (λ m.
+        Judges m stored.now.dataset stored.now.scale sharding.now plan.now.writes result found.new) }
+    ensures whole { OnOk result (IsWhole stored.now.scale found.new) }
     ensures few { OnOk result (found.new.count ≤ 2 ^ 22) }
     ensures reads { ReadsFrom S.Source KeepRefusal.NotRead store.old store.new result }
 {
@@ -62,8 +60,7 @@ fn judge_shards<S: Source>(
     let mut kept = Vec::new(alloc);
     keep_touched(
         store,
-        dataset,
-        scale,
+        stored,
         sharding,
         plan,
         shards,
@@ -79,25 +76,23 @@ fn judge_shards<S: Source>(
 fn keep_sharded<S: Source>(
     alloc: Global,
     store: &mut S,
-    dataset: &Name,
-    scale: &Scale,
+    stored: &StoredScale,
     sharding: &Sharding,
     plan: &Plan,
     found: &mut FoundCells,
 ) -> Result<(), KeepRefusal>
-    requires dataset { length dataset.now ≤ 200 }
-    requires sharding { scale.now.sharding ≡ Some sharding.now }
-    requires plan { plan.now.scale ≡ scale.now }
+    requires sharding { stored.now.scale.sharding ≡ Some sharding.now }
+    requires plan { plan.now.scale ≡ stored.now.scale }
     requires few { found.old.count ≤ 2 ^ 22 }
-    requires counted { Counts scale.now (met scale.now plan.now.writes) found.old }
-    ensures judged { IfSome (S.objects store.old) (λ m. Judges m dataset.now scale.now sharding.now
-        plan.now.writes result found.new) }
-    ensures whole { OnOk result (IsWhole scale.now found.new) }
+    requires counted { Counts stored.now.scale (met stored.now.scale plan.now.writes) found.old }
+    ensures judged { IfSome (S.objects store.old) (λ m.
+        Judges m stored.now.dataset stored.now.scale sharding.now plan.now.writes result found.new) }
+    ensures whole { OnOk result (IsWhole stored.now.scale found.new) }
     ensures few { OnOk result (found.new.count ≤ 2 ^ 22) }
     ensures reads { ReadsFrom S.Source KeepRefusal.NotRead store.old store.new result }
 {
-    match find_shards(alloc, scale, sharding, plan) {
-        Ok(shards) => judge_shards(alloc, store, dataset, scale, sharding, plan, &shards, found),
+    match find_shards(alloc, &stored.scale, sharding, plan) {
+        Ok(shards) => judge_shards(alloc, store, stored, sharding, plan, &shards, found),
         Err(_) => Err(KeepRefusal::OutOfMemory),
     }
 }
@@ -107,24 +102,23 @@ fn keep_sharded<S: Source>(
 fn keep_stored<S: Source>(
     alloc: Global,
     store: &mut S,
-    dataset: &Name,
-    scale: &Scale,
+    stored: &StoredScale,
     plan: &Plan,
     found: &mut FoundCells,
 ) -> Result<(), KeepRefusal>
-    requires dataset { length dataset.now ≤ 200 }
-    requires plan { plan.now.scale ≡ scale.now }
+    requires plan { plan.now.scale ≡ stored.now.scale }
     requires few { found.old.count ≤ 2 ^ 22 }
-    requires counted { Counts scale.now (met scale.now plan.now.writes) found.old }
+    requires counted { Counts stored.now.scale (met stored.now.scale plan.now.writes) found.old }
     ensures gathers { IfSome (S.objects store.old) (λ m. Gathers result
-        (λ _. Counts scale.now (is_after m dataset.now scale.now plan.now.writes) found.new)
-        m dataset.now scale.now plan.now.writes) }
-    ensures whole { OnOk result (IsWhole scale.now found.new) }
+        (λ _. Counts stored.now.scale
+        (is_after m stored.now.dataset stored.now.scale plan.now.writes) found.new)
+        m stored.now.dataset stored.now.scale plan.now.writes) }
+    ensures whole { OnOk result (IsWhole stored.now.scale found.new) }
     ensures few { OnOk result (found.new.count ≤ 2 ^ 22) }
     ensures reads { ReadsFrom S.Source KeepRefusal.NotRead store.old store.new result }
 {
-    match &scale.sharding {
-        Some(sharding) => keep_sharded(alloc, store, dataset, scale, sharding, plan, found),
+    match &stored.scale.sharding {
+        Some(sharding) => keep_sharded(alloc, store, stored, sharding, plan, found),
         None => Ok(()),
     }
 }
@@ -138,24 +132,23 @@ fn keep_stored<S: Source>(
 pub fn gather_cells<S: Source>(
     alloc: Global,
     store: &mut S,
-    dataset: &Name,
-    scale: &Scale,
+    stored: &StoredScale,
     plan: &Plan,
 ) -> Result<Vec<[u64; 3]>, KeepRefusal>
-    requires dataset { length dataset.now ≤ 200 }
-    requires plan { plan.now.scale ≡ scale.now }
-    requires few { length (met_cells scale.now plan.now.writes) ≤ 2 ^ 22 }
+    requires plan { plan.now.scale ≡ stored.now.scale }
+    requires few { length (met_cells stored.now.scale plan.now.writes) ≤ 2 ^ 22 }
     ensures gathers { IfSome (S.objects store.old) (λ m. Gathers result
-        (λ cells. Lists scale.now (is_after m dataset.now scale.now plan.now.writes) cells.items)
-        m dataset.now scale.now plan.now.writes) }
-    ensures distinct { IfOk result (λ cells. AreDistinct scale.now cells.items) }
+        (λ cells. Lists stored.now.scale
+        (is_after m stored.now.dataset stored.now.scale plan.now.writes) cells.items)
+        m stored.now.dataset stored.now.scale plan.now.writes) }
+    ensures distinct { IfOk result (λ cells. AreDistinct stored.now.scale cells.items) }
     ensures few { IfOk result (λ cells. length cells.items ≤ 2 ^ 22) }
     ensures reads { ReadsFrom S.Source KeepRefusal.NotRead store.old store.new result }
 {
     let Ok(mut found) = list_met(alloc, plan) else {
         return Err(KeepRefusal::OutOfMemory);
     };
-    match keep_stored(alloc, store, dataset, scale, plan, &mut found) {
+    match keep_stored(alloc, store, stored, plan, &mut found) {
         Ok(()) => Ok(found.cells),
         Err(refusal) => Err(refusal),
     }

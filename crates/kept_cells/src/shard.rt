@@ -12,8 +12,8 @@ use crate::one_index::keep_minishard;
 use cell_lists::FoundCells;
 use shard_index::{ShardPlace, shard_name};
 use shard_keeper::KeepFault;
-use vol_base::{Name, Source};
-use vol_spec::{Scale, Sharding};
+use vol_base::Source;
+use vol_spec::{Sharding, StoredScale};
 use write_plan::Plan;
 
 // A fault of a minishard.
@@ -34,8 +34,7 @@ fn refused(minishard: u64, fault: KeepFault) -> ShardRefusal
 /// `Damaged` with the first fault: of a minishard's entry, and then of a row of its index.
 pub fn keep_shard<S: Source>(
     store: &mut S,
-    dataset: &Name,
-    scale: &Scale,
+    stored: &StoredScale,
     sharding: &Sharding,
     plan: &Plan,
     shard: u64,
@@ -45,25 +44,35 @@ pub fn keep_shard<S: Source>(
     kept: &mut Vec<u64>,
     found: &mut FoundCells,
 ) -> Result<(), ShardRefusal>
-    requires dataset { length dataset.now ≤ 200 }
-    requires sharding { scale.now.sharding ≡ Some sharding.now }
+    requires sharding { stored.now.scale.sharding ≡ Some sharding.now }
     requires shard { shard < 2 ^ sharding.now.shard_bits }
     requires ids { length ids.old ≡ 8192 }
     requires starts { length starts.old ≡ 8192 }
     requires sizes { length sizes.old ≡ 8192 }
-    requires plan { plan.now.scale ≡ scale.now }
+    requires plan { plan.now.scale ≡ stored.now.scale }
     requires few { found.old.count ≤ 2 ^ 22 }
-    ensures keeps { IfSome (S.objects store.old) (λ m. KeepsCells m dataset.now scale.now sharding.now
-        plan.now.writes shard result found.old found.new) }
-    ensures own { OnOk result (CountsOfShard scale.now sharding.now plan.now.writes shard found.old found.new) }
+    ensures keeps { IfSome (S.objects store.old) (λ m.
+        KeepsCells m stored.now.dataset stored.now.scale sharding.now plan.now.writes shard result found.old found.new) }
+    ensures own { OnOk result
+        (CountsOfShard stored.now.scale sharding.now plan.now.writes shard found.old found.new) }
     ensures reads { ReadsFrom S.Source ShardRefusal.NotRead store.old store.new result }
 {
-    let name = shard_name(dataset, scale, shard);
+    let name = shard_name(&stored.dataset, &stored.scale, shard);
     let count = 1u64 << sharding.minishard_bits;
     for minishard in 0..count {
         let home = ShardPlace { shard, minishard };
         match keep_minishard(
-            store, &name, scale, sharding, plan, &home, ids, starts, sizes, kept, found,
+            store,
+            &name,
+            &stored.scale,
+            sharding,
+            plan,
+            &home,
+            ids,
+            starts,
+            sizes,
+            kept,
+            found,
         ) {
             Ok(true) => {}
             Ok(false) => return Ok(()),

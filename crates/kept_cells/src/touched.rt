@@ -10,8 +10,8 @@ ghost use Rattle.kept_cells.specs.Touched.{Judges, JudgesShard, refused_at};
 use crate::shard::keep_shard;
 use crate::{KeepRefusal, ShardRefusal};
 use cell_lists::FoundCells;
-use vol_base::{Name, Source};
-use vol_spec::{Scale, Sharding};
+use vol_base::Source;
+use vol_spec::{Sharding, StoredScale};
 use write_plan::Plan;
 
 // The most cells that are stored.
@@ -35,8 +35,7 @@ fn refused_shard(shard: u64, refusal: ShardRefusal) -> KeepRefusal
 // Judges a shard, and then how many cells are met or kept.
 fn judge_shard<S: Source>(
     store: &mut S,
-    dataset: &Name,
-    scale: &Scale,
+    stored: &StoredScale,
     sharding: &Sharding,
     plan: &Plan,
     shard: u64,
@@ -46,22 +45,22 @@ fn judge_shard<S: Source>(
     kept: &mut Vec<u64>,
     found: &mut FoundCells,
 ) -> Result<(), KeepRefusal>
-    requires dataset { length dataset.now ≤ 200 }
-    requires sharding { scale.now.sharding ≡ Some sharding.now }
+    requires sharding { stored.now.scale.sharding ≡ Some sharding.now }
     requires shard { shard < 2 ^ sharding.now.shard_bits }
     requires ids { length ids.old ≡ 8192 }
     requires starts { length starts.old ≡ 8192 }
     requires sizes { length sizes.old ≡ 8192 }
-    requires plan { plan.now.scale ≡ scale.now }
+    requires plan { plan.now.scale ≡ stored.now.scale }
     requires few { found.old.count ≤ 2 ^ 22 }
-    ensures judged { IfSome (S.objects store.old) (λ m. JudgesShard m dataset.now scale.now sharding.now
-        plan.now.writes shard result found.old found.new) }
-    ensures own { OnOk result (CountsOfShard scale.now sharding.now plan.now.writes shard found.old found.new) }
+    ensures judged { IfSome (S.objects store.old) (λ m.
+        JudgesShard m stored.now.dataset stored.now.scale sharding.now plan.now.writes shard result found.old found.new) }
+    ensures own { OnOk result
+        (CountsOfShard stored.now.scale sharding.now plan.now.writes shard found.old found.new) }
     ensures few { OnOk result (found.new.count ≤ 2 ^ 22) }
     ensures reads { ReadsFrom S.Source KeepRefusal.NotRead store.old store.new result }
 {
     match keep_shard(
-        store, dataset, scale, sharding, plan, shard, ids, starts, sizes, kept, found,
+        store, stored, sharding, plan, shard, ids, starts, sizes, kept, found,
     ) {
         Err(refusal) => Err(refused_shard(shard, refusal)),
         Ok(()) => {
@@ -81,8 +80,7 @@ fn judge_shard<S: Source>(
 /// a shard is judged: whichever comes first.
 pub fn keep_touched<S: Source>(
     store: &mut S,
-    dataset: &Name,
-    scale: &Scale,
+    stored: &StoredScale,
     sharding: &Sharding,
     plan: &Plan,
     shards: &[u64],
@@ -92,24 +90,23 @@ pub fn keep_touched<S: Source>(
     kept: &mut Vec<u64>,
     found: &mut FoundCells,
 ) -> Result<(), KeepRefusal>
-    requires dataset { length dataset.now ≤ 200 }
-    requires sharding { scale.now.sharding ≡ Some sharding.now }
-    requires shards { shards.now ≡ touched_shards scale.now sharding.now plan.now.writes }
+    requires sharding { stored.now.scale.sharding ≡ Some sharding.now }
+    requires shards { shards.now ≡ touched_shards stored.now.scale sharding.now plan.now.writes }
     requires ids { length ids.old ≡ 8192 }
     requires starts { length starts.old ≡ 8192 }
     requires sizes { length sizes.old ≡ 8192 }
-    requires plan { plan.now.scale ≡ scale.now }
+    requires plan { plan.now.scale ≡ stored.now.scale }
     requires few { found.old.count ≤ 2 ^ 22 }
-    requires counted { Counts scale.now (met scale.now plan.now.writes) found.old }
-    ensures judged { IfSome (S.objects store.old) (λ m. Judges m dataset.now scale.now sharding.now
-        plan.now.writes result found.new) }
-    ensures whole { OnOk result (IsWhole scale.now found.new) }
+    requires counted { Counts stored.now.scale (met stored.now.scale plan.now.writes) found.old }
+    ensures judged { IfSome (S.objects store.old) (λ m.
+        Judges m stored.now.dataset stored.now.scale sharding.now plan.now.writes result found.new) }
+    ensures whole { OnOk result (IsWhole stored.now.scale found.new) }
     ensures few { OnOk result (found.new.count ≤ 2 ^ 22) }
     ensures reads { ReadsFrom S.Source KeepRefusal.NotRead store.old store.new result }
 {
     for shard in shards {
         match judge_shard(
-            store, dataset, scale, sharding, plan, *shard, ids, starts, sizes, kept, found,
+            store, stored, sharding, plan, *shard, ids, starts, sizes, kept, found,
         ) {
             Ok(()) => {}
             Err(refusal) => return Err(refusal),

@@ -6,19 +6,18 @@ use Rattle.vol_base.specs.Outside.{Draft, Objects, OnlyReads, any_under}
 use Rattle.vol_base.specs.declared.outside.StoreRefusal.{StoreRefusal}
 use Rattle.vol_base.specs.declared.outside.StoreRefusal.TheVariants as refusals
 use Rattle.vol_spec.specs.CellNames.{folder_of}
-use Rattle.vol_spec.specs.Types.{Listed, Name}
+use Rattle.vol_spec.specs.Types.{Name}
 use Rattle.vol_spec.specs.declared.scale.Scale.{Scale}
 use Rattle.info_doc.specs.declared.fault.Item.{Item}
 use Rattle.shard_writer.specs.Faults.{of_store}
-use Rattle.shard_writer.specs.Writing.{BeginsNext, Drops, joint_len}
-use Rattle.shard_writer.specs.Works.{DropsOrBegins, KnowsLens, PutsJobs, PutsSome, SparesFaulty, WritesAll, first_of_jobs, job_objects, told_objects}
+use Rattle.shard_writer.specs.Writing.{joint_len}
+use Rattle.shard_writer.specs.Works.{KnowsLens, PutsJobs, PutsSome, SparesFaulty, WritesAll, first_of_jobs, job_objects, told_objects}
 use Rattle.shard_writer.specs.declared.written.WriteFault.{WriteFault}
-use Rattle.shard_writer.specs.declared.written.WriteFault.TheVariants as write
 use Rattle.shard_writer.specs.declared.written.Written.{Written}
 use Rattle.write_plan.specs.Jobs.{Work}
 use Rattle.write_plan.specs.Pairs.{cell_count}
 use Rattle.make_scale.specs.Judging.{IsOfFolder, IsOfScales, JudgesAs, JudgesFolder, too_many}
-use Rattle.make_scale.specs.Making.{KeepsStore, Makes, Puts, Said, Wrote, unwritten}
+use Rattle.make_scale.specs.Making.{KeepsStore, Makes, Puts, Said, Wrote}
 use Rattle.make_scale.specs.declared.fault.MakeFault.{MakeFault}
 use Rattle.make_scale.specs.declared.fault.MakeFault.TheVariants.{Differs, TooManyCells, NotEmpty, StoreFault, Damaged, OutOfMemory}
 
@@ -41,23 +40,9 @@ module _ (Differing : Item → Type 0) (Fits : Type 0) where
   folder_judged (Damaged cell fault) from to early h = absurd early
   folder_judged OutOfMemory from to early h = absurd early
 
-  -- and what is written
-  pub late_judged : (fault : WriteFault) (found : MakeFault) (from to : Scale) → found ≡ unwritten fault → Fits × (too_many from to ≡ None) → JudgesAs Differing Fits {A = Written} (Err found) from to
-  late_judged fault found from to is h = subst (λ e. JudgesAs Differing Fits {A = Written} (Err e) from to) (sym is) (by fault)
-    where
-      by : (fault : WriteFault) → JudgesAs Differing Fits {A = Written} (Err (unwritten fault)) from to
-      by write.StoreFault = h
-      by (write.Damaged cell fault) = h
-      by write.OutOfMemory = h
-
 same_told : {A : Type 0} (o : Option A) → IfSome o (λ a. o ≡ Some a)
 same_told None = tt
 same_told (Some a) = refl
-
-put_one : (said : Said) (fault : WriteFault) (m : Objects) (now : Option Objects) (dataset : Name) (to : Scale) → any_under m (folder_of dataset to) ≡ false → Puts said (Err fault) → Makes said (Err (unwritten fault)) m now dataset to
-put_one said write.StoreFault m now dataset to none h = inr (none, h)
-put_one said (write.Damaged cell fault) m now dataset to none h = (none, h)
-put_one said write.OutOfMemory m now dataset to none h = (none, h)
 
 -- over objects that are told
 module _ (said : Objects → Said) where
@@ -78,16 +63,6 @@ module _ (said : Objects → Said) where
   folder_told (Damaged cell fault) (Some m) now dataset to early same h = absurd early
   folder_told OutOfMemory (Some m) now dataset to early same h = absurd early
 
-  pub made_told : (written : Written) (o p now : Option Objects) (dataset : Name) (to : Scale) → p ≡ o → IfSome o (λ m. JudgesFolder (Ok tt) m dataset to) → IfSome p (λ m. Puts (said m) (Ok written)) → IfSome o (λ m. Makes (said m) (Ok written) m now dataset to)
-  made_told written None p now dataset to same none puts = tt
-  made_told written (Some m) p now dataset to same none puts = (none, subst (λ x. IfSome x (λ m. Puts (said m) (Ok written))) same puts)
-
-  pub late_told : (fault : WriteFault) (found : MakeFault) (o p now : Option Objects) (dataset : Name) (to : Scale) → found ≡ unwritten fault → p ≡ o → IfSome o (λ m. JudgesFolder (Ok tt) m dataset to) → IfSome p (λ m. Puts (said m) (Err fault))
-      → IfSome o (λ m. Makes (said m) (Err found) m now dataset to)
-  late_told fault found None p now dataset to is same none puts = tt
-  late_told fault found (Some m) p now dataset to is same none puts =
-      subst (λ e. Makes (said m) (Err e) m now dataset to) (sym is) (put_one (said m) fault m now dataset to none (subst (λ x. IfSome x (λ m. Puts (said m) (Err fault))) same puts))
-
 -- what stands where the scales are refused,
 pub scales_kept : (fault : MakeFault) (o : Option Objects) (d : Option Draft) → IsOfScales fault → KeepsStore fault o o d d
 scales_kept (Differs item) o d early = record { same_objects = refl; same_draft = refl }
@@ -105,15 +80,6 @@ folder_kept (Differs item) o now d after early h = absurd early
 folder_kept (TooManyCells cells) o now d after early h = absurd early
 folder_kept (Damaged cell fault) o now d after early h = absurd early
 folder_kept OutOfMemory o now d after early h = absurd early
-
--- and later
-pub late_kept : (fault : WriteFault) (found : MakeFault) (o now : Option Objects) (d after : Option Draft) → found ≡ unwritten fault → KeepsStore found o now d after
-late_kept fault found o now d after is = subst (λ e. KeepsStore e o now d after) (sym is) (by fault)
-  where
-    by : (fault : WriteFault) → KeepsStore (unwritten fault) o now d after
-    by write.StoreFault = tt
-    by (write.Damaged cell fault) = tt
-    by write.OutOfMemory = tt
 
 -- grids of which none has too many cells
 not_more : (a b : ℕ) → nat_lt a b ≡ false → b ≤ a
@@ -134,9 +100,6 @@ few_cells from to none = none_more (2 ^ 22) (cell_count from) (cell_count to) no
 pub told_in : (o p : Option Objects) (P : Objects → Type 0) → p ≡ o → IfSome o P → IfSome p P
 told_in o p P same h = subst (λ x. IfSome x P) (sym same) h
 
-pub begun_read : (P : Objects → Type 0) (o same : Option Objects) (before read after : Option Draft) → same ≡ o → read ≡ before → Drops read after ⊎ IfSome same P → Drops before after ⊎ IfSome o P
-begun_read P o same before read after objects kept begun = subst (λ d. Drops d after ⊎ IfSome o P) kept (subst (λ x. Drops read after ⊎ IfSome x P) objects begun)
-
 -- what jobs that are written answer, in the words of a way of making
 pub wrote : (o p now : Option Objects) (dataset : Name) (work : Work) (said : Objects → Option Objects → Said) (answer : Result Written WriteFault) → p ≡ o
     → OnOk answer (PutsJobs dataset work p now) → OnErr answer (PutsSome dataset work p now) → OnErr answer (SparesFaulty dataset work p now)
@@ -153,16 +116,6 @@ wrote (Some m) p now dataset work said answer same put front spares objects cell
   bytes = subst (λ x. KnowsLens work x → IfOk answer (λ written. written.bytes ≡ joint_len (told_objects dataset work x))) same bytes tt;
   answer = subst (λ x. IfSome x (λ m. WritesAll answer (first_of_jobs work m))) same first;
 })
-
--- and of which the next is being written
-pub jobs_begun : (o p now : Option Objects) (dataset : Name) (work : Work) (due : Objects → Listed) (before read after : Option Draft) → p ≡ o → read ≡ before → IfSome o (λ m. job_objects dataset work m ≡ due m)
-    → DropsOrBegins dataset work p now read after → Drops before after ⊎ IfSome o (λ m. BeginsNext (due m) m now after)
-jobs_begun o p now dataset work due before read after objects kept same begun = by o same (subst (λ d. DropsOrBegins dataset work o now d after) kept (subst (λ x. DropsOrBegins dataset work x now read after) objects begun))
-  where
-    by : (o : Option Objects) → IfSome o (λ m. job_objects dataset work m ≡ due m) → DropsOrBegins dataset work o now before after → Drops before after ⊎ IfSome o (λ m. BeginsNext (due m) m now after)
-    by None same begun = inr tt
-    by (Some m) same (inl drops) = inl drops
-    by (Some m) same (inr begins) = inr (subst (λ list. BeginsNext list m now after) same begins)
 
 -- nothing is put yet
 pub unbegun_in : (o now : Option Objects) (said : Objects → Option Objects → Said) (answer : Result Written WriteFault) (refusal : StoreRefusal) → answer ≡ Err (of_store refusal) → ((m : Objects) → (said m (Some m)).front) → now ≡ o

@@ -1,11 +1,11 @@
 -- What making a scale of another one answers, from what its parts answer.
 use Rattle.std.proofs.Common.{◌≡◌, ◌⊎◌, ◌<◌, [], ◌∷◌, length, map, Option, Some, None, IfSome, Result, Ok, Err, false, refl, sym, subst, inl, inr, ⊎_elim, arith}
-use Rattle.std.specs.Prelude.{All, IfErr, IsOkAnd}
+use Rattle.std.specs.Prelude.{All, IfErr, IsOkAnd, OnOk}
 use Rattle.std.specs.List.{range_with_len}
 use Rattle.std.proofs.lemmas.List.Elements.{All-cons, All-nil}
 use Rattle.vol_base.specs.Outside.{Objects}
 use Rattle.vol_base.specs.declared.faults.Fault.{Fault}
-use Rattle.vol_spec.specs.Types.{Cell, Name}
+use Rattle.vol_spec.specs.Types.{Cell, Listed, Name}
 use Rattle.vol_spec.specs.Views.{view}
 use Rattle.vol_spec.specs.Writable.{IsWritable, padded}
 use Rattle.vol_spec.specs.declared.scale.Scale.{Scale}
@@ -20,13 +20,15 @@ use Rattle.command_base.specs.declared.refusal.NoScale.{NoScale as NoScaleType}
 use Rattle.command_base.specs.declared.refusal.ScaleRefusal.{ScaleRefusal}
 use Rattle.command_base.specs.declared.refusal.ScaleRefusal.TheVariants as unread
 use Rattle.make_scale.specs.Judging.{DiffersAt, JudgesAs}
-use Rattle.make_scale.proofs.AnswerSteps.{begun_read}
 use Rattle.make_scale.specs.Making.{KeepsStore, Makes, Said}
 use Rattle.command_base.proofs.Choices.{ok_and}
 use Rattle.command_base.specs.Statuses.{puts}
+use Rattle.vol_base.specs.Causes.{HasCauseOf}
 use Rattle.vol_base.specs.Outside.{Draft, OnlyReads}
-use Rattle.shard_writer.specs.Writing.{Drops}
-use Rattle.make_scale.specs.Stored.{CanBegin, DropsUnsharded, Making, MakesScale, MakesStored, OfBoth, ReadsTarget, told_making, unmade}
+use Rattle.vol_base.specs.declared.outside.Source.{Ghosts}
+use Rattle.vol_spec.proofs.Told.{in_told}
+use Rattle.shard_writer.specs.Writing.{BeginsNext, Drops}
+use Rattle.make_scale.specs.Stored.{CanBegin, DropsUnsharded, MakeLeaves, Making, MakesScale, MakesStored, OfBoth, ReadsTarget, told_making, unmade}
 use Rattle.make_scale.specs.Refusals.{refusal_status, unsourced}
 use Rattle.make_scale.specs.declared.fault.MakeFault.{MakeFault}
 use Rattle.make_scale.specs.declared.fault.MakeFault.TheVariants.{Differs, TooManyCells, NotEmpty, StoreFault, Damaged, OutOfMemory}
@@ -204,42 +206,61 @@ module _ (making : Scale → Scale → Making) (Sound : Scale → Scale → Type
   refused_ready (refused.Unmade NotEmpty) source target makes can = absurd (meet source target (Tells (refused.Unmade NotEmpty)) Ready makes can (λ from to h k. cc (h.4, k.0.2.1)))
   refused_ready (refused.Unmade (Damaged cell found)) source target makes can = absurd (meet source target (Tells (refused.Unmade (Damaged cell found))) Ready makes can (λ from to h k. faulty_not cell found from to h.1 k.1))
 
--- what is being written, of a target that is there,
-pub target_begun : (B : Objects → Scale → Scale → Type 0) (o same : Option Objects) (dataset key : Name) (from to : Scale) (before read after : Option Draft) → same ≡ o → read ≡ before
-    → IfSome o (λ m. ReadsTarget (Ok to) (stored_scale m dataset key)) → Drops read after ⊎ IfSome same (λ m. B m from to)
-    → Drops before after ⊎ IfSome o (λ m. OfBoth (Ok from) (stored_scale m dataset key) (B m))
-target_begun B None same dataset key from to before read after objects kept reads begun = inr tt
-target_begun B (Some m) same dataset key from to before read after objects kept reads begun =
-    subst (λ told. Drops before after ⊎ OfBoth (Ok from) told (B m)) (sym reads.0) (begun_read (λ m. B m from to) (Some m) same before read after objects kept begun)
-
--- and of a source
-pub source_begun : (B : Objects → Scale → Scale → Type 0) (o same : Option Objects) (from_dataset from_key to_dataset to_key : Name) (from : Scale) (before read after : Option Draft) → same ≡ o → read ≡ before
-    → IfSome o (λ m. ReadsScale (Ok from) (stored_scale m from_dataset from_key)) → Drops read after ⊎ IfSome same (λ m. OfBoth (Ok from) (stored_scale m to_dataset to_key) (B m))
-    → Drops before after ⊎ IfSome o (λ m. OfBoth (stored_scale m from_dataset from_key) (stored_scale m to_dataset to_key) (B m))
-source_begun B None same from_dataset from_key to_dataset to_key from before read after objects kept reads begun = inr tt
-source_begun B (Some m) same from_dataset from_key to_dataset to_key from before read after objects kept reads begun =
-    subst (λ told. Drops before after ⊎ OfBoth told (stored_scale m to_dataset to_key) (B m)) (sym reads)
-    (begun_read (λ m. OfBoth (Ok from) (stored_scale m to_dataset to_key) (B m)) (Some m) same before read after objects kept begun)
-
 -- what is left of an object that was being written, where the target isn't sharded
 pub draft_kept : (told : Result Scale NoScaleType) (before after : Option Draft) → after ≡ before → DropsUnsharded told before after
 draft_kept (Ok to) before after kept = λ none. inr kept
 draft_kept (Err why) before after kept = tt
 
-pub target_kept : (o : Option Objects) (dataset key : Name) (before after : Option Draft) → after ≡ before → IfSome o (λ m. DropsUnsharded (stored_scale m dataset key) before after)
-target_kept None dataset key before after kept = tt
-target_kept (Some m) dataset key before after kept = draft_kept (stored_scale m dataset key) before after kept
+if_refused : {A E : Type 0} (r : Result A E) (P : E → Type 0) → ((e : E) → P e) → IfErr r P
+if_refused (Ok x) P h = tt
+if_refused (Err e) P h = h e
 
-pub target_drops : (o : Option Objects) (dataset key : Name) (to : Scale) (before read after : Option Draft) → read ≡ before → IfSome o (λ m. ReadsTarget (Ok to) (stored_scale m dataset key))
-    → (to.sharding ≡ None → Drops read after) → IfSome o (λ m. DropsUnsharded (stored_scale m dataset key) before after)
-target_drops None dataset key to before read after kept reads drops = tt
-target_drops (Some m) dataset key to before read after kept reads drops =
-    subst (λ told. DropsUnsharded told before after) (sym reads.0) (λ none. subst (λ d. Drops d after) kept (drops none))
+if_done : {A E : Type 0} (r : Result A E) (P : Type 0) → P → OnOk r P
+if_done (Ok x) P h = h
+if_done (Err e) P h = tt
 
-pub source_drops : (o same : Option Objects) (dataset key : Name) (before read after : Option Draft) → same ≡ o → read ≡ before → IfSome same (λ m. DropsUnsharded (stored_scale m dataset key) read after)
-    → IfSome o (λ m. DropsUnsharded (stored_scale m dataset key) before after)
-source_drops o same dataset key before read after objects kept drops =
-    subst (λ d. IfSome o (λ m. DropsUnsharded (stored_scale m dataset key) d after)) kept (subst (λ x. IfSome x (λ m. DropsUnsharded (stored_scale m dataset key) read after)) objects drops)
+module _ {T : Type 0} (store : Ghosts T) (due : Objects → Scale → Scale → Listed) (after : T) (result : Result Written MakeRefusal) where
+  abbrev Keeps : Option Objects → Option Draft → Type 0
+  Keeps o d = IfErr result (λ refusal. puts (refusal_status refusal) ≡ false → OnlyReads o (store.objects after) d (store.draft after))
+
+  abbrev Begins : Result Scale NoScaleType → Result Scale NoScaleType → Objects → Type 0
+  Begins source target m = OfBoth source target (λ from to. BeginsNext (due m from to) m (store.objects after) (store.draft after))
+
+  both_found : (source target found reached : Objects → Result Scale NoScaleType) (o : Option Objects) → IfSome o (λ m. (source m ≡ found m) × (target m ≡ reached m)) → IfSome o (λ m. Begins (found m) (reached m) m)
+      → IfSome o (λ m. Begins (source m) (target m) m)
+  both_found source target found reached None told begins = tt
+  both_found source target found reached (Some m) told begins = subst (λ s. Begins s (target m) m) (sym told.0) (subst (λ t. Begins (found m) t m) (sym told.1) begins)
+
+  target_found : (source target found reached : Objects → Result Scale NoScaleType) (before : Option Draft) (o : Option Objects) → IfSome o (λ m. (source m ≡ found m) × (target m ≡ reached m)) → IfSome o (λ m. DropsUnsharded (reached m) before (store.draft after))
+      → IfSome o (λ m. DropsUnsharded (target m) before (store.draft after))
+  target_found source target found reached before None told drops = tt
+  target_found source target found reached before (Some m) told drops = subst (λ t. DropsUnsharded t before (store.draft after)) (sym told.1) drops
+
+  -- behind a call that only read, which found the scales
+  pub leaves_read : (source target found reached : Objects → Result Scale NoScaleType) (before read : T) → store.objects read ≡ store.objects before → store.draft read ≡ store.draft before → store.faults read ≡ store.faults before
+      → IfSome (store.objects before) (λ m. (source m ≡ found m) × (target m ≡ reached m)) → MakeLeaves store found reached due read after result → MakeLeaves store source target due before after result
+  leaves_read source target found reached before read objects draft faults told h = record {
+    kept = subst (λ o. Keeps o (store.draft before)) objects (subst (λ d. Keeps (store.objects read) d) draft h.kept);
+    draft = subst (λ d. OnOk result (Drops d (store.draft after))) draft h.draft;
+    begun =
+        ⊎_elim inl (λ begins. inr (both_found source target found reached (store.objects before) told begins))
+        (subst (λ o. Drops (store.draft before) (store.draft after) ⊎ IfSome o (λ m. Begins (found m) (reached m) m)) objects (subst (λ d. Drops d (store.draft after) ⊎ IfSome (store.objects read) (λ m. Begins (found m) (reached m) m)) draft h.begun));
+    unsharded =
+        target_found source target found reached (store.draft before) (store.objects before) told
+        (subst (λ o. IfSome o (λ m. DropsUnsharded (reached m) (store.draft before) (store.draft after))) objects (subst (λ d. IfSome (store.objects read) (λ m. DropsUnsharded (reached m) d (store.draft after))) draft h.unsharded));
+    cause = subst (λ n. HasCauseOf (refused.Unmade StoreFault) n (store.faults after) result) faults h.cause;
+  }
+
+  -- and where nothing was begun
+  pub leaves_kept : (source target : Objects → Result Scale NoScaleType) (before : T) → OnlyReads (store.objects before) (store.objects after) (store.draft before) (store.draft after)
+      → HasCauseOf (refused.Unmade StoreFault) (store.faults before) (store.faults after) result → MakeLeaves store source target due before after result
+  leaves_kept source target before reads cause = record {
+    kept = if_refused result (λ refusal. puts (refusal_status refusal) ≡ false → OnlyReads (store.objects before) (store.objects after) (store.draft before) (store.draft after)) (λ refusal none. reads);
+    draft = if_done result (Drops (store.draft before) (store.draft after)) (inr reads.same_draft);
+    begun = inl (inr reads.same_draft);
+    unsharded = in_told (store.objects before) _ (λ m told. draft_kept (target m) (store.draft before) (store.draft after) reads.same_draft);
+    cause = cause;
+  }
 
 -- of both scales
 pub both_and : (source target : Result Scale NoScaleType) (P Q : Scale → Scale → Type 0) → ((from to : Scale) → P from to → Q from to) → OfBoth source target P → OfBoth source target Q

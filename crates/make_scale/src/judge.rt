@@ -1,5 +1,5 @@
 //! What is judged before a scale is made of another one.
-ghost use Rattle.std.specs.Prelude.{◌≡◌, ◌≤◌, IfErr, IfSome, length};
+ghost use Rattle.std.specs.Prelude.{◌≡◌, IfErr, IfSome};
 ghost use Rattle.vol_base.specs.Calls.{ReadsFrom};
 ghost use Rattle.write_plan.specs.Pairs.{cell_count};
 ghost use Rattle.make_scale.specs.Judging.{IsOfFolder, IsOfScales, JudgesAs, JudgesFolder, too_many};
@@ -7,8 +7,8 @@ ghost use Rattle.make_scale.specs.Judging.{IsOfFolder, IsOfScales, JudgesAs, Jud
 use crate::MakeFault;
 use crate::making::Making;
 use chunk_grid::{count_cells, find_folder, whole};
-use vol_base::{Name, Store};
-use vol_spec::Scale;
+use vol_base::Store;
+use vol_spec::{Scale, StoredScale};
 
 // The most cells of a grid.
 const MOST_CELLS: u128 = 1 << 22;
@@ -54,13 +54,13 @@ pub(crate) fn judge_scales<M: Making>(making: &M, from: &Scale, to: &Scale) -> R
 ///
 /// # Errors
 /// `NotEmpty`, and `StoreFault` only where the store failed.
-pub fn judge_folder<S: Store>(store: &mut S, dataset: &Name, scale: &Scale) -> Result<(), MakeFault>
-    requires { length dataset.now ≤ 200 }
-    ensures empty { IfSome (S.objects store.old) (λ m. JudgesFolder result m dataset.now scale.now) }
+pub fn judge_folder<S: Store>(store: &mut S, stored: &StoredScale) -> Result<(), MakeFault>
+    ensures empty { IfSome (S.objects store.old) (λ m.
+        JudgesFolder result m stored.now.dataset stored.now.scale) }
     ensures early { IfErr result IsOfFolder }
     ensures reads { ReadsFrom S.Source MakeFault.StoreFault store.old store.new result }
 {
-    match store.any_under(&find_folder(dataset, scale)) {
+    match store.any_under(&find_folder(&stored.dataset, &stored.scale)) {
         Ok(false) => Ok(()),
         Ok(true) => Err(MakeFault::NotEmpty),
         Err(_) => Err(MakeFault::StoreFault),

@@ -15,8 +15,8 @@ ghost use Rattle.make_scale.specs.Making.{Puts, Said, Wrote};
 
 use info_doc::Item;
 use std::alloc::Global;
-use vol_base::{Name, Store, StoreRefusal};
-use vol_spec::Scale;
+use vol_base::{Store, StoreRefusal};
+use vol_spec::{Scale, StoredScale};
 use write_plan::Chunks;
 
 /// A way to make a scale of another one: which target it fits, what makes the target's chunks, and what is said of the
@@ -50,30 +50,27 @@ pub trait Making {
         &self,
         alloc: Global,
         store: &mut S,
-        from_dataset: &Name,
-        from: &Scale,
-        to_dataset: &Name,
-        to: &Scale,
+        from: &StoredScale,
+        to: &StoredScale,
     ) -> Result<Self::Maker, StoreRefusal>
-        requires from_dataset { length from_dataset.now ≤ 200 }
-        requires to_dataset { length to_dataset.now ≤ 200 }
-        requires suits { suits self.now from_dataset.now to_dataset.now }
-        requires fits { fits self.now from.now to.now }
-        requires writable { IsWritable to.now }
-        requires few { cell_count to.now ≤ 2 ^ 22 }
+        requires suits { suits self.now from.now.dataset to.now.dataset }
+        requires fits { fits self.now from.now.scale to.now.scale }
+        requires writable { IsWritable to.now.scale }
+        requires few { cell_count to.now.scale ≤ 2 ^ 22 }
         requires empty { IfSome (S.objects store.old) (λ m.
-            any_under m (folder_of to_dataset.now to.now) ≡ false) }
-        ensures scale { IfOk result (λ maker. (Self.Maker.work maker).scale ≡ to.now) }
+            any_under m (folder_of to.now.dataset to.now.scale) ≡ false) }
+        ensures scale { IfOk result (λ maker. (Self.Maker.work maker).scale ≡ to.now.scale) }
         ensures few { IfOk result (λ maker. length (Self.Maker.work maker).cells ≤ 2 ^ 22) }
         ensures apart { IfOk result (λ maker. IfSome (S.objects store.old) (λ m.
-            Self.Maker.apart maker to_dataset.now to.now)) }
+            Self.Maker.apart maker to.now.dataset to.now.scale)) }
         ensures due { IfOk result (λ maker. IfSome (S.objects store.old) (λ m.
-            job_objects to_dataset.now (Self.Maker.work maker) m
-            ≡ due self.now m from_dataset.now from.now to_dataset.now to.now)) }
+            job_objects to.now.dataset (Self.Maker.work maker) m
+            ≡ due self.now m from.now.dataset from.now.scale to.now.dataset to.now.scale)) }
         ensures says { IfOk result (λ maker. IfSome (S.objects store.old) (λ m.
             (now : Option Objects) (answer : Result Written WriteFault) →
-            Wrote to_dataset.now (Self.Maker.work maker) m now answer →
-            Puts (says self.now m now from_dataset.now from.now to_dataset.now to.now) answer)) }
+            Wrote to.now.dataset (Self.Maker.work maker) m now answer →
+            Puts (says self.now m now from.now.dataset from.now.scale to.now.dataset to.now.scale)
+            answer)) }
         ensures reads { ReadsFrom S.Source StoreRefusal.Failed store.old store.new result };
 
     /// Where nothing is put yet, a front of the objects is.

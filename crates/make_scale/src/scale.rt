@@ -1,5 +1,5 @@
 //! A scale that is made of another one.
-ghost use Rattle.std.specs.Prelude.{◌≡◌, ◌⊎◌, ◌≤◌, ◌^◌, false, length, IfErr, IfSome, None, OnOk};
+ghost use Rattle.std.specs.Prelude.{◌≡◌, ◌⊎◌, ◌≤◌, ◌^◌, false, IfErr, IfSome, None, OnOk};
 ghost use Rattle.vol_base.specs.Causes.{HasCauseOf};
 ghost use Rattle.vol_base.specs.Outside.{any_under};
 ghost use Rattle.vol_spec.specs.CellNames.{folder_of};
@@ -16,42 +16,40 @@ use command_base::Crew;
 use shard_writer::{WriteFault, Written, write_scale};
 use std::sync::Wait;
 use std::thread::Threads;
-use vol_base::{Gate, Name, Store};
-use vol_spec::Scale;
+use vol_base::{Gate, Store};
+use vol_spec::StoredScale;
 
 // Writes a target that fits into its empty folder.
 fn write_made<R: Threads + Wait + Sync, S: Store, G: Gate + Sync, M: Making>(
     crew: &Crew<R, G>,
     store: &mut S,
     making: &M,
-    from_dataset: &Name,
-    from: &Scale,
-    to_dataset: &Name,
-    to: &Scale,
+    from: &StoredScale,
+    to: &StoredScale,
 ) -> Result<Written, WriteFault>
-    requires from_dataset { length from_dataset.now ≤ 200 }
-    requires to_dataset { length to_dataset.now ≤ 200 }
-    requires suits { M.suits making.now from_dataset.now to_dataset.now }
-    requires fits { M.fits making.now from.now to.now }
-    requires writable { IsWritable to.now }
-    requires few { cell_count to.now ≤ 2 ^ 22 }
-    requires empty { IfSome (S.objects store.old) (λ m. any_under m (folder_of to_dataset.now to.now) ≡ false) }
+    requires suits { M.suits making.now from.now.dataset to.now.dataset }
+    requires fits { M.fits making.now from.now.scale to.now.scale }
+    requires writable { IsWritable to.now.scale }
+    requires few { cell_count to.now.scale ≤ 2 ^ 22 }
+    requires empty { IfSome (S.objects store.old) (λ m.
+        any_under m (folder_of to.now.dataset to.now.scale) ≡ false) }
     ensures puts { IfSome (S.objects store.old) (λ m.
-        Puts (M.says making.now m (S.objects store.new) from_dataset.now from.now to_dataset.now to.now) result) }
+        Puts (M.says making.now m (S.objects store.new)
+        from.now.dataset from.now.scale to.now.dataset to.now.scale) result) }
     ensures draft { OnOk result (Drops (S.draft store.old) (S.draft store.new)) }
     ensures begun { Drops (S.draft store.old) (S.draft store.new) ⊎ IfSome (S.objects store.old) (λ m.
-        BeginsNext (M.due making.now m from_dataset.now from.now to_dataset.now to.now) m (S.objects store.new)
-        (S.draft store.new)) }
-    ensures unsharded { to.now.sharding ≡ None → Drops (S.draft store.old) (S.draft store.new) }
+        BeginsNext (M.due making.now m from.now.dataset from.now.scale to.now.dataset to.now.scale) m
+        (S.objects store.new) (S.draft store.new)) }
+    ensures unsharded { to.now.scale.sharding ≡ None → Drops (S.draft store.old) (S.draft store.new) }
     ensures cause { HasCauseOf WriteFault.StoreFault (S.faults store.old) (S.faults store.new) result }
 {
-    let mut maker = making.begin(crew.alloc, store, from_dataset, from, to_dataset, to)?;
+    let mut maker = making.begin(crew.alloc, store, from, to)?;
     write_scale(
         crew.rt,
         crew.alloc,
         store,
-        to_dataset,
-        to,
+        &to.dataset,
+        &to.scale,
         &mut maker,
         crew.workers,
         crew.gate,
@@ -71,37 +69,34 @@ pub fn make_scale<R: Threads + Wait + Sync, S: Store, G: Gate + Sync, M: Making>
     crew: &Crew<R, G>,
     store: &mut S,
     making: &M,
-    from_dataset: &Name,
-    from: &Scale,
-    to_dataset: &Name,
-    to: &Scale,
+    from: &StoredScale,
+    to: &StoredScale,
 ) -> Result<Written, MakeFault>
-    requires from_dataset { length from_dataset.now ≤ 200 }
-    requires to_dataset { length to_dataset.now ≤ 200 }
-    requires suits { M.suits making.now from_dataset.now to_dataset.now }
-    requires writable { IsWritable to.now }
-    ensures judges { JudgesAs (M.differs making.now from.now to.now) (M.fits making.now from.now to.now) result
-        from.now to.now }
+    requires suits { M.suits making.now from.now.dataset to.now.dataset }
+    requires writable { IsWritable to.now.scale }
+    ensures judges { JudgesAs (M.differs making.now from.now.scale to.now.scale)
+        (M.fits making.now from.now.scale to.now.scale) result from.now.scale to.now.scale }
     ensures makes { IfSome (S.objects store.old) (λ m. Makes
-        (M.says making.now m (S.objects store.new) from_dataset.now from.now to_dataset.now to.now) result m
-        (S.objects store.new) to_dataset.now to.now) }
+        (M.says making.now m (S.objects store.new)
+        from.now.dataset from.now.scale to.now.dataset to.now.scale)
+        result m (S.objects store.new) to.now.dataset to.now.scale) }
     ensures kept { IfErr result (λ fault. KeepsStore fault (S.objects store.old) (S.objects store.new)
         (S.draft store.old) (S.draft store.new)) }
     ensures draft { OnOk result (Drops (S.draft store.old) (S.draft store.new)) }
     ensures begun { Drops (S.draft store.old) (S.draft store.new) ⊎ IfSome (S.objects store.old) (λ m.
-        BeginsNext (M.due making.now m from_dataset.now from.now to_dataset.now to.now) m (S.objects store.new)
-        (S.draft store.new)) }
-    ensures unsharded { to.now.sharding ≡ None → Drops (S.draft store.old) (S.draft store.new) }
+        BeginsNext (M.due making.now m from.now.dataset from.now.scale to.now.dataset to.now.scale) m
+        (S.objects store.new) (S.draft store.new)) }
+    ensures unsharded { to.now.scale.sharding ≡ None → Drops (S.draft store.old) (S.draft store.new) }
     ensures cause { HasCauseOf MakeFault.StoreFault (S.faults store.old) (S.faults store.new) result }
 {
-    match judge_scales(making, from, to) {
+    match judge_scales(making, &from.scale, &to.scale) {
         Ok(()) => {}
         Err(fault) => return Err(fault),
     }
-    match judge_folder(store, to_dataset, to) {
+    match judge_folder(store, to) {
         Ok(()) => {}
         Err(refusal) => return Err(refusal),
     }
-    let written = write_made(crew, store, making, from_dataset, from, to_dataset, to)?;
+    let written = write_made(crew, store, making, from, to)?;
     Ok(written)
 }

@@ -1,14 +1,9 @@
 //! A stored scale that is made of another one.
-ghost use Rattle.std.specs.Prelude.{◌≡◌, ◌⊎◌, ◌≤◌, length, false, None, Some, IfErr, IfOk, IfSome, Ok, OnOk};
+ghost use Rattle.std.specs.Prelude.{◌≡◌, ◌≤◌, length, Some, IfOk, IfSome, Ok};
 ghost use Rattle.vol_base.specs.Calls.{ReadsFrom};
-ghost use Rattle.vol_base.specs.Causes.{HasCauseOf};
-ghost use Rattle.vol_base.specs.Outside.{OnlyReads};
 ghost use Rattle.vol_spec.specs.Writable.{IsWritable};
-ghost use Rattle.shard_writer.specs.Writing.{BeginsNext, Drops};
 ghost use Rattle.command_base.specs.Scales.{HasOneSize, stored_scale};
-ghost use Rattle.command_base.specs.Statuses.{puts};
-ghost use Rattle.make_scale.specs.Refusals.{refusal_status};
-ghost use Rattle.make_scale.specs.Stored.{DropsUnsharded, MakesScale, MakesStored, OfBoth, ReadsTarget, told_making};
+ghost use Rattle.make_scale.specs.Stored.{MakeLeaves, MakesScale, MakesStored, OfBoth, ReadsTarget, told_making};
 
 use crate::making::Making;
 use crate::scale::make_scale;
@@ -20,7 +15,7 @@ use std::sync::Wait;
 use std::thread::Threads;
 use view_writer::find_wide;
 use vol_base::{Gate, Name, Source, Store};
-use vol_spec::Scale;
+use vol_spec::{Scale, StoredScale};
 
 // The scale that is written into, where it is there, keeps the writing limit and has one chunk size.
 //
@@ -60,32 +55,23 @@ fn make_told<R: Threads + Wait + Sync, S: Store, G: Gate + Sync, M: Making>(
     crew: &Crew<R, G>,
     store: &mut S,
     making: &M,
-    from_dataset: &Name,
-    from: &Scale,
-    to_dataset: &Name,
-    to: &Scale,
+    from: &StoredScale,
+    to: &StoredScale,
 ) -> Result<Written, MakeRefusal>
-    requires from_dataset { length from_dataset.now ≤ 200 }
-    requires to_dataset { length to_dataset.now ≤ 200 }
-    requires suits { M.suits making.now from_dataset.now to_dataset.now }
-    requires writable { IsWritable to.now }
-    requires one { HasOneSize to.now }
+    requires suits { M.suits making.now from.now.dataset to.now.dataset }
+    requires writable { IsWritable to.now.scale }
+    requires one { HasOneSize to.now.scale }
     ensures makes { IfSome (S.objects store.old) (λ m. MakesScale (told_making
-        (M.differs making.now from.now to.now) (M.fits making.now from.now to.now)
-        (M.says making.now m (S.objects store.new) from_dataset.now from.now to_dataset.now to.now)
-        m from.now to_dataset.now to.now)
-        result m (S.objects store.new) to_dataset.now from.now to.now) }
-    ensures kept { IfErr result (λ refusal. puts (refusal_status refusal) ≡ false →
-        OnlyReads (S.objects store.old) (S.objects store.new) (S.draft store.old) (S.draft store.new)) }
-    ensures draft { OnOk result (Drops (S.draft store.old) (S.draft store.new)) }
-    ensures begun { Drops (S.draft store.old) (S.draft store.new) ⊎ IfSome (S.objects store.old) (λ m.
-        BeginsNext (M.due making.now m from_dataset.now from.now to_dataset.now to.now) m (S.objects store.new)
-        (S.draft store.new)) }
-    ensures unsharded { to.now.sharding ≡ None → Drops (S.draft store.old) (S.draft store.new) }
-    ensures cause { HasCauseOf (MakeRefusal.Unmade MakeFault.StoreFault) (S.faults store.old)
-        (S.faults store.new) result }
+        (M.differs making.now from.now.scale to.now.scale) (M.fits making.now from.now.scale to.now.scale)
+        (M.says making.now m (S.objects store.new)
+        from.now.dataset from.now.scale to.now.dataset to.now.scale)
+        m from.now.scale to.now.dataset to.now.scale)
+        result m (S.objects store.new) to.now.dataset from.now.scale to.now.scale) }
+    ensures leaves { MakeLeaves S.Source (λ _. Ok from.now.scale) (λ _. Ok to.now.scale)
+        (λ m source target. M.due making.now m from.now.dataset source to.now.dataset target)
+        store.old store.new result }
 {
-    let written = make_scale(crew, store, making, from_dataset, from, to_dataset, to)?;
+    let written = make_scale(crew, store, making, from, to)?;
     Ok(written)
 }
 
@@ -94,34 +80,27 @@ fn make_into<R: Threads + Wait + Sync, S: Store, G: Gate + Sync, M: Making>(
     crew: &Crew<R, G>,
     store: &mut S,
     making: &M,
-    from_dataset: &Name,
-    from: &Scale,
+    from: &StoredScale,
     to_dataset: &Name,
     to_key: &Name,
 ) -> Result<Written, MakeRefusal>
-    requires from_dataset { length from_dataset.now ≤ 200 }
     requires to_dataset { length to_dataset.now ≤ 200 }
     requires to_key { length to_key.now ≤ 200 }
-    requires suits { M.suits making.now from_dataset.now to_dataset.now }
-    ensures makes { IfSome (S.objects store.old) (λ m. MakesStored (λ from to. told_making
-        (M.differs making.now from to) (M.fits making.now from to)
-        (M.says making.now m (S.objects store.new) from_dataset.now from to_dataset.now to)
-        m from to_dataset.now to)
-        result (Ok from.now) (stored_scale m to_dataset.now to_key.now) m (S.objects store.new) to_dataset.now) }
-    ensures kept { IfErr result (λ refusal. puts (refusal_status refusal) ≡ false →
-        OnlyReads (S.objects store.old) (S.objects store.new) (S.draft store.old) (S.draft store.new)) }
-    ensures draft { OnOk result (Drops (S.draft store.old) (S.draft store.new)) }
-    ensures begun { Drops (S.draft store.old) (S.draft store.new) ⊎ IfSome (S.objects store.old) (λ m.
-        OfBoth (Ok from.now) (stored_scale m to_dataset.now to_key.now) (λ from to.
-        BeginsNext (M.due making.now m from_dataset.now from to_dataset.now to) m (S.objects store.new)
-        (S.draft store.new))) }
-    ensures unsharded { IfSome (S.objects store.old) (λ m.
-        DropsUnsharded (stored_scale m to_dataset.now to_key.now) (S.draft store.old) (S.draft store.new)) }
-    ensures cause { HasCauseOf (MakeRefusal.Unmade MakeFault.StoreFault) (S.faults store.old)
-        (S.faults store.new) result }
+    requires suits { M.suits making.now from.now.dataset to_dataset.now }
+    ensures makes { IfSome (S.objects store.old) (λ m. MakesStored (λ source target. told_making
+        (M.differs making.now source target) (M.fits making.now source target)
+        (M.says making.now m (S.objects store.new) from.now.dataset source to_dataset.now target)
+        m source to_dataset.now target)
+        result (Ok from.now.scale) (stored_scale m to_dataset.now to_key.now) m (S.objects store.new)
+        to_dataset.now) }
+    ensures leaves { MakeLeaves S.Source (λ _. Ok from.now.scale)
+        (λ m. stored_scale m to_dataset.now to_key.now)
+        (λ m source target. M.due making.now m from.now.dataset source to_dataset.now target)
+        store.old store.new result }
 {
-    let to = read_target(crew.alloc, store, to_dataset, to_key)?;
-    make_told(crew, store, making, from_dataset, from, to_dataset, &to)
+    let scale = read_target(crew.alloc, store, to_dataset, to_key)?;
+    let to = StoredScale::of(to_dataset, &scale);
+    make_told(crew, store, making, from, &to)
 }
 
 /// Makes the scale of a key of a data set of that of another key, or data set, in a way of making: the target keeps the
@@ -146,18 +125,11 @@ pub fn make_stored<R: Threads + Wait + Sync, S: Store, G: Gate + Sync, M: Making
         m from to_dataset.now to)
         result (stored_scale m from_dataset.now from_key.now) (stored_scale m to_dataset.now to_key.now) m
         (S.objects store.new) to_dataset.now) }
-    ensures kept { IfErr result (λ refusal. puts (refusal_status refusal) ≡ false →
-        OnlyReads (S.objects store.old) (S.objects store.new) (S.draft store.old) (S.draft store.new)) }
-    ensures draft { OnOk result (Drops (S.draft store.old) (S.draft store.new)) }
-    ensures begun { Drops (S.draft store.old) (S.draft store.new) ⊎ IfSome (S.objects store.old) (λ m.
-        OfBoth (stored_scale m from_dataset.now from_key.now) (stored_scale m to_dataset.now to_key.now) (λ from to.
-        BeginsNext (M.due making.now m from_dataset.now from to_dataset.now to) m (S.objects store.new)
-        (S.draft store.new))) }
-    ensures unsharded { IfSome (S.objects store.old) (λ m.
-        DropsUnsharded (stored_scale m to_dataset.now to_key.now) (S.draft store.old) (S.draft store.new)) }
-    ensures cause { HasCauseOf (MakeRefusal.Unmade MakeFault.StoreFault) (S.faults store.old)
-        (S.faults store.new) result }
+    ensures leaves { MakeLeaves S.Source (λ m. stored_scale m from_dataset.now from_key.now)
+        (λ m. stored_scale m to_dataset.now to_key.now)
+        (λ m from to. M.due making.now m from_dataset.now from to_dataset.now to) store.old store.new result }
 {
-    let from = read_scale(crew.alloc, store, from_dataset, from_key)?;
-    make_into(crew, store, making, from_dataset, &from, to_dataset, to_key)
+    let scale = read_scale(crew.alloc, store, from_dataset, from_key)?;
+    let from = StoredScale::of(from_dataset, &scale);
+    make_into(crew, store, making, &from, to_dataset, to_key)
 }

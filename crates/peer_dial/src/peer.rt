@@ -24,6 +24,7 @@ pub struct PeerDial {
     faults: u64,
     held: bool,
     sent: Vec<u8>,
+    all_sent: Vec<u8>,
     replies: Vec<u8>,
     given: Vec<u8>,
     received: Vec<u8>,
@@ -84,6 +85,39 @@ fn keep_given(given: &mut Vec<u8>, received: &mut Vec<u8>, bytes: &[u8]) -> Resu
     }
 }
 
+// Keeps bytes that were sent.
+fn keep_sent(all_sent: &mut Vec<u8>, bytes: &[u8]) -> Result<(), OutOfMemory>
+    ensures sent { OnOk result (all_sent.new.items ≡ all_sent.old.items ++ bytes.now) }
+    ensures refused { OnErr result (all_sent.new.items ≡ all_sent.old.items) }
+{
+    match all_sent.extend_from_slice(bytes) {
+        Ok(()) => Ok(()),
+        Err(_) => Err(OutOfMemory),
+    }
+}
+
+// Sends a piece on the end, and keeps it.
+fn send_kept(
+    alloc: Global,
+    entries: &[Entry],
+    dataset: &Name,
+    sent: &mut Vec<u8>,
+    all_sent: &mut Vec<u8>,
+    replies: &mut Vec<u8>,
+    piece: &[u8],
+) -> Result<(), OutOfMemory>
+    requires { HasReplies (objects_on entries.now) dataset.now sent.old.items replies.old.items }
+    ensures sent { OnOk result (sent.new.items ≡ sent.old.items ++ piece.now) }
+    ensures all { OnOk result (all_sent.new.items ≡ all_sent.old.items ++ piece.now) }
+    ensures refused { OnErr result (all_sent.new.items ≡ all_sent.old.items) }
+    ensures replies { HasReplies (objects_on entries.now) dataset.now sent.new.items replies.new.items }
+{
+    match send_more(alloc, entries, dataset, sent, replies, piece) {
+        Ok(()) => keep_sent(all_sent, piece),
+        Err(refused) => Err(refused),
+    }
+}
+
 // Keeps that a port of a host was dialled.
 fn keep_address(
     alloc: Global,
@@ -133,11 +167,19 @@ impl PeerDial {
             faults: 0,
             held: false,
             sent,
+            all_sent: Vec::new(alloc),
             replies,
             given: Vec::new(alloc),
             received: Vec::new(alloc),
             dialled: Vec::new(alloc),
         }
+    }
+
+    /// All bytes that were sent, on whichever end.
+    pub fn sent(&self) -> &[u8]
+        ensures { result.now ≡ self.now.all_sent.items }
+    {
+        self.all_sent.as_slice()
     }
 
     /// How often it was dialled.
@@ -156,6 +198,8 @@ impl Dial for PeerDial {
     ghost left = { λ d. Some (drop (length d.given.items) d.replies.items) };
 
     ghost received = { λ d. Some d.received.items };
+
+    ghost sent = { λ d. Some d.all_sent.items };
 
     ghost peer = { λ d. Some (record { objects = objects_on d.entries.items; dataset = d.dataset }) };
 
@@ -223,11 +267,12 @@ impl Dial for PeerDial {
             Ok(()) => {}
             Err(failed) => return Err(failed),
         }
-        match send_more(
+        match send_kept(
             self.alloc,
             self.entries.as_slice(),
             &self.dataset,
             &mut self.sent,
+            &mut self.all_sent,
             &mut self.replies,
             piece,
         ) {

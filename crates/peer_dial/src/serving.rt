@@ -33,7 +33,7 @@ fn make_replies(
     let bytes = copy_bytes(alloc, sent)?;
     let mut link = MemoryLink::new(alloc, bytes, ROOM, ROOM, Vec::new(alloc))?;
     let mut shelf = Shelf { entries, asked: 0 };
-    match serve_conn(alloc, &mut link, &mut shelf, dataset) {
+    match serve_conn(alloc, &mut link, &mut shelf, dataset, &mut None) {
         Ok(()) => {}
         Err(_) => return Err(OutOfMemory),
     }

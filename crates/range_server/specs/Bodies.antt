@@ -71,12 +71,13 @@ failures true = 1
 abbrev pub failure : Failed
 failure = record {}
 
--- the counts of faults of a link and a store don't fall, and a fault comes only where its count rose
+-- the counts of faults of a link and a store don't fall, and a fault comes only where its count rose; the link's stands unless it failed
 pub record HasServeCause {T : Type 0} (link link_now store store_now : ℕ)
     (result : Result T ServeFault) : Type 0 where
   pub link_later : link ≤ link_now
   pub store_later : store ≤ store_now
   pub link_rose : IsErrOf result LinkFault → Rose link link_now
+  pub link_stands : ¬ (IsErrOf result LinkFault) → link_now ≡ link
   pub store_rose : IsErrOf result StoreFault → Rose store store_now
 
 -- what serving from a source to a link leaves of both, beside what is sent: the link's stream, the objects and the object being written stay, and a

@@ -1,5 +1,4 @@
 pub mod Bodies
-pub mod Desks
 pub mod Digits
 pub mod Plans
 pub mod Ranges

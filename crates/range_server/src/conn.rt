@@ -4,26 +4,17 @@ ghost use Rattle.request_heads.specs.Heads.{pending};
 ghost use Rattle.request_heads.specs.Answers.{HasParts, IsNext};
 ghost use Rattle.vol_base.specs.Causes.{HasCause, Rose};
 ghost use Rattle.range_server.specs.Bodies.{ServesFrom, WhereTold, failures};
-ghost use Rattle.range_server.specs.Desks.{IsReady};
 ghost use Rattle.range_server.specs.Replies.{EndsIn, Gained, GoesOn, ServedIn, Stopped, Stops};
 ghost use Rattle.range_server.specs.Turns.{IfEnd, IfNext};
 
 use crate::answer::{Found, answer_head};
 use crate::fault::ServeFault;
 use crate::reply::Ending;
-use crate::write::{Writer, send_bad};
-use httparse::spans::HeaderSpan;
+use crate::room::Desk;
+use crate::write::send_bad;
 use request_heads::{Next, read_head};
 use std::alloc::Global;
 use vol_base::{Failed, Link, Name, Source};
-
-/// What was received and not yet used, the parts of a head in it, and where replies are made.
-#[derive(Drop)]
-pub(crate) struct Desk {
-    pub received: Vec<u8>,
-    pub spans: Vec<HeaderSpan>,
-    pub writer: Writer,
-}
 
 /// What comes behind a request: the next one, of which so many bytes stand in front of those that are to be received, or
 /// the connection's end.
@@ -43,10 +34,8 @@ fn consume(buffer: &mut [u8], there: usize, len: usize)
 }
 
 fn drop_head(desk: &mut Desk, there: usize, len: usize)
-    requires ready { IsReady desk.old }
     requires within { there ≤ 8192 }
     requires front { len ≤ there }
-    ensures ready { IsReady desk.new }
     ensures rest { take (there - len) desk.new.received.items
         ≡ drop len (take there desk.old.received.items) }
     ensures failing { desk.new.writer.failing ≡ desk.old.writer.failing }
@@ -56,9 +45,7 @@ fn drop_head(desk: &mut Desk, there: usize, len: usize)
 
 // Waits for the next head, where so many bytes stand in front of those that are to be received.
 fn wait_head<L: Link>(link: &mut L, len: usize, desk: &mut Desk) -> Result<(Next, usize), Failed>
-    requires ready { IsReady desk.old }
     requires within { len ≤ 8192 }
-    ensures ready { IsReady desk.new }
     ensures within { IfOk result (λ r. r.1 ≤ 8192) }
     ensures next { IfOk result (λ r. IfSome (pending desk.old.received.items len (L.left link.old)) (λ stream.
         IsNext stream r.0)) }
@@ -84,10 +71,8 @@ fn serve_one<L: Link, S: Source>(
     len: usize,
     desk: &mut Desk,
 ) -> Result<Turn, ServeFault>
-    requires ready { IsReady desk.old }
     requires calm { desk.old.writer.failing ≡ false }
     requires within { len ≤ 8192 }
-    ensures ready { IsReady desk.new }
     ensures within { IfOk result (λ turn. IfNext turn (λ more. more ≤ 8192)) }
     ensures last { IfOk result (λ turn. IfNext turn (λ _. number ≢ 65535)) }
     ensures goes_on { IfOk result (λ turn. IfNext turn (λ more.
@@ -146,7 +131,6 @@ pub(crate) fn serve_link<L: Link, S: Source>(
     dataset: &Name,
     desk: &mut Desk,
 ) -> Result<Ending, ServeFault>
-    requires ready { IsReady desk.old }
     requires calm { desk.old.writer.failing ≡ false }
     ensures ended { IfOk result (λ ending. WhereTold (S.objects store.old) (λ m. WhereTold (L.left link.old)
         (λ stream. Gained (ServedIn m dataset.now ending stream) (L.sent link.old) (L.sent link.new)))) }

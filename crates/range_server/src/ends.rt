@@ -8,6 +8,7 @@ ghost use Rattle.range_server.specs.declared.fault.DoorRefusal.TheVariants.{Door
 ghost use Rattle.range_server.specs.declared.fault.ServeFault.TheVariants.{OutOfMemory};
 
 use crate::fault::{DoorRefusal, ServeFault};
+use crate::room::Desk;
 use crate::serve::serve_conn;
 use std::alloc::Global;
 use vol_base::{Door, Failed, Name, Source};
@@ -28,6 +29,7 @@ fn serve_end<D: Door, S: Source>(
     door: &mut D,
     store: &mut S,
     dataset: &Name,
+    kept: &mut Option<Desk>,
 ) -> Result<(), DoorRefusal>
     requires { IsSome (D.bound door.old) }
     ensures served { OnOk result (WhereTold (S.objects store.old) (λ m. WhereTold (D.served door.old)
@@ -51,7 +53,7 @@ fn serve_end<D: Door, S: Source>(
         Ok(end) => end,
         Err(Failed) => return Err(DoorRefusal::DoorFault),
     };
-    let served = serve_conn(alloc, &mut end, store, dataset);
+    let served = serve_conn(alloc, &mut end, store, dataset, kept);
     door.close(end);
     if ran_out(served) {
         return Err(DoorRefusal::OutOfMemory);
@@ -89,8 +91,9 @@ pub fn serve_ends<D: Door, S: Source>(
     ensures store_later { S.faults store.old ≤ S.faults store.new }
     ensures cause { HasCauseOf DoorFault (D.faults door.old) (D.faults door.new) result }
 {
+    let mut kept = None;
     for _ in 0..connections {
-        match serve_end(alloc, door, store, dataset) {
+        match serve_end(alloc, door, store, dataset, &mut kept) {
             Ok(()) => {}
             Err(refusal) => return Err(refusal),
         }

@@ -237,7 +237,7 @@ pub fn plan_reply<S: Source>(
         (S.draft store.new) }
     ensures later { S.faults store.old ≤ S.faults store.new }
 {
-    let mut spans = reserve_spans(alloc, 4096)?;
+    let mut spans = reserve_spans(alloc, 2730)?;
     let parts = match judge_front(head, &mut spans) {
         Front::Head(parts) => parts,
         Front::Partial | Front::Never => unreachable!(),

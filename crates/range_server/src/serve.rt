@@ -2,54 +2,16 @@
 ghost use Rattle.std.specs.Prelude.{◌≡◌, ◌≤◌, ◌⊎◌, ◌-◌, ℕ, List, true, false, length, IfErr, IfOk, OnOk};
 ghost use Rattle.vol_base.specs.Outside.{Ended, Objects, OnlyReads};
 ghost use Rattle.range_server.specs.Bodies.{HasServeCause, WhereTold, failures};
-ghost use Rattle.range_server.specs.Desks.{IsReady};
 ghost use Rattle.range_server.specs.Replies.{AreReplies, Gained, Served, ServedIn, Stopped};
 ghost use Rattle.range_server.specs.Serving.{AtMostBroken, EndsServed};
 ghost use Rattle.vol_base.specs.Causes.{Rose, most_count};
 
-use crate::conn::{Desk, serve_link};
+use crate::conn::serve_link;
 use crate::fault::ServeFault;
-use crate::plan::reserve_spans;
 use crate::reply::Ending;
-use crate::write::Writer;
+use crate::room::{Desk, take_desk};
 use std::alloc::Global;
 use vol_base::{Link, Name, OutOfMemory, Source};
-
-// How many bytes of a reply leave at once: a head, which has at most 512, and 64 KiB behind it. So a range of 64 KiB, as
-// viewers ask for, is read and sent in one call each.
-const PIECE: usize = 512 + (1 << 16);
-
-// Room for so many bytes.
-fn reserve_bytes(alloc: Global, len: usize) -> Result<Vec<u8>, OutOfMemory>
-    ensures { IfOk result (λ bytes. length bytes.items ≡ len) }
-{
-    match Vec::from_elem(alloc, 0, len) {
-        Ok(bytes) => Ok(bytes),
-        Err(_) => Err(OutOfMemory),
-    }
-}
-
-// Room for a connection.
-fn open_desk(alloc: Global) -> Result<Desk, OutOfMemory>
-    ensures ready { IfOk result IsReady }
-    ensures calm { IfOk result (λ desk. desk.writer.failing ≡ false) }
-{
-    let received = reserve_bytes(alloc, 8192)?;
-    let spans = reserve_spans(alloc, 4096)?;
-    let piece = reserve_bytes(alloc, PIECE)?;
-    let Ok(text) = String::with_capacity(alloc, 512) else {
-        return Err(OutOfMemory);
-    };
-    Ok(Desk {
-        received,
-        spans,
-        writer: Writer {
-            text,
-            piece,
-            failing: false,
-        },
-    })
-}
 
 /// How serving a connection ended, and whether the store failed so that the reply was begun that says so.
 #[derive(Clone, Copy, Debug, PartialEq, Eq)]
@@ -59,7 +21,7 @@ pub struct Service {
 }
 
 /// Serves the requests of a peer for the objects of a data set, until their stream ends or a reply closes the
-/// connection, and tells how it ended. At `Whole` what was sent is the replies to what was left of the link's stream, in
+/// connection, and tells how it ended. The desk of an earlier connection is used again, where one is kept, and kept. At `Whole` what was sent is the replies to what was left of the link's stream, in
 /// whatever pieces it comes. `Failed` comes only where the store failed: then it is whole first replies, and the one that
 /// says so.
 ///
@@ -72,6 +34,7 @@ pub fn serve_to_end<L: Link, S: Source>(
     link: &mut L,
     store: &mut S,
     dataset: &Name,
+    kept: &mut Option<Desk>,
 ) -> Service
     ensures ended { IfOk result.ended (λ ending. WhereTold (S.objects store.old) (λ m.
         WhereTold (L.left link.old) (λ stream.
@@ -88,7 +51,7 @@ pub fn serve_to_end<L: Link, S: Source>(
     ensures cause { HasServeCause (L.faults link.old) (L.faults link.new) (S.faults store.old)
         (S.faults store.new) result.ended }
 {
-    let mut desk = match open_desk(alloc) {
+    let mut desk = match take_desk(alloc, kept) {
         Ok(desk) => desk,
         Err(OutOfMemory) => {
             return Service {
@@ -98,14 +61,14 @@ pub fn serve_to_end<L: Link, S: Source>(
         }
     };
     let ended = serve_link(alloc, link, store, dataset, &mut desk);
-    Service {
-        ended,
-        failing: desk.writer.failing,
-    }
+    let failing = desk.writer.failing;
+    *kept = Some(desk);
+    Service { ended, failing }
 }
 
 /// Serves the requests of a peer for the objects of a data set, until their stream ends or a reply closes the
-/// connection. What is sent is the replies to what was left of the link's stream, in whatever pieces it comes.
+/// connection. The desk of an earlier connection is used again, where one is kept, and kept. What is sent is the replies to what
+/// was left of the link's stream, in whatever pieces it comes.
 ///
 /// # Errors
 /// `LinkFault` and `StoreFault` only where the link or the store failed, and `OutOfMemory`. What was sent is then a
@@ -115,6 +78,7 @@ pub fn serve_conn<L: Link, S: Source>(
     link: &mut L,
     store: &mut S,
     dataset: &Name,
+    kept: &mut Option<Desk>,
 ) -> Result<(), ServeFault>
     ensures served { OnOk result (WhereTold (S.objects store.old) (λ m. WhereTold (L.left link.old)
         (λ stream. Gained (Served m dataset.now (S.faults store.old) (S.faults store.new) stream)
@@ -128,7 +92,7 @@ pub fn serve_conn<L: Link, S: Source>(
     ensures cause { HasServeCause (L.faults link.old) (L.faults link.new) (S.faults store.old)
         (S.faults store.new) result }
 {
-    let served = serve_to_end(alloc, link, store, dataset);
+    let served = serve_to_end(alloc, link, store, dataset, kept);
     match served.ended {
         Ok(_) => Ok(()),
         Err(fault) => Err(fault),

@@ -113,6 +113,7 @@ pub(crate) fn send_failed<L: Link>(link: &mut L, text: &mut String) -> Result<()
     ensures stream { L.stream link.new ≡ L.stream link.old }
     ensures later { L.faults link.old ≤ L.faults link.new }
     ensures cause { IsErrOf result LinkFault → Rose (L.faults link.old) (L.faults link.new) }
+    ensures stands { ¬ (IsErrOf result LinkFault) → L.faults link.new ≡ L.faults link.old }
 {
     match write_head(text, &refuse(500, true)) {
         Ok(()) => {}
@@ -173,6 +174,7 @@ pub(crate) fn send_bad<L: Link>(link: &mut L, text: &mut String) -> Result<(), S
     ensures stream { L.stream link.new ≡ L.stream link.old }
     ensures later { L.faults link.old ≤ L.faults link.new }
     ensures cause { IsErrOf result LinkFault → Rose (L.faults link.old) (L.faults link.new) }
+    ensures stands { ¬ (IsErrOf result LinkFault) → L.faults link.new ≡ L.faults link.old }
 {
     match write_head(text, &refuse(400, true)) {
         Ok(()) => {}

@@ -18,8 +18,8 @@ use reduce_laws::Method;
 use std::alloc::{AllocError, Global};
 use std::marker::Model;
 use std::thread::Threads;
-use vol_base::{Name, Store, StoreRefusal};
-use vol_spec::Scale;
+use vol_base::{Store, StoreRefusal};
+use vol_spec::{Scale, StoredScale};
 use write_plan::{Chunks, JobList, PrepareFault, window};
 
 // Room for the values of each source box: the first cell's is the largest. It has no bytes yet, so its memory isn't
@@ -104,27 +104,27 @@ impl<'a, R: Threads> Reducer<'a, R> {
         alloc: Global,
         store: &mut S,
         method: Method,
-        dataset: &Name,
-        from: &Scale,
+        from: &StoredScale,
         to: &Scale,
         workers: u32,
     ) -> Result<Reducer<'a, R>, StoreRefusal>
-        requires dataset { length dataset.now ≤ 200 }
-        requires next { IsNext from.now to.now }
+        requires next { IsNext from.now.scale to.now }
         requires few { cell_count to.now ≤ 2 ^ 22 }
         ensures method { IfOk result (λ reducer. reducer.method ≡ method) }
-        ensures dataset { IfOk result (λ reducer. reducer.held.dataset ≡ dataset.now) }
-        ensures from { IfOk result (λ reducer. reducer.held.from ≡ from.now) }
+        ensures dataset { IfOk result (λ reducer. reducer.held.dataset ≡ from.now.dataset) }
+        ensures from { IfOk result (λ reducer. reducer.held.from ≡ from.now.scale) }
         ensures to { IfOk result (λ reducer. reducer.held.to ≡ to.now) }
         ensures few { IfOk result (λ reducer. length (cells_of reducer.held) ≤ 2 ^ 22) }
         ensures jobs { IfOk result (λ reducer. IfSome (S.objects store.old) (λ m.
-            cells_of reducer.held ≡ in_key_order to.now (reduced_cells m dataset.now from.now to.now))) }
+            cells_of reducer.held
+            ≡ in_key_order to.now (reduced_cells m from.now.dataset from.now.scale to.now))) }
         ensures reads { ReadsFrom S.Source StoreRefusal.Failed store.old store.new result }
     {
-        let Ok(mut reader) = Reader::open(alloc, dataset, from) else {
+        let Ok(reader) = Reader::open(alloc, &from.dataset, &from.scale) else {
             return Err(StoreRefusal::OutOfMemory);
         };
-        let cells = match find_placed::<Reductions, S>(alloc, &mut reader, store, from, to) {
+        let mut reader = reader.keeping();
+        let cells = match find_placed::<Reductions, S>(alloc, &mut reader, store, &from.scale, to) {
             Ok(cells) => cells,
             Err(refusal) => return Err(refusal),
         };
@@ -134,17 +134,17 @@ impl<'a, R: Threads> Reducer<'a, R> {
         let Ok(frames) = reserve_frames(alloc, to, window(to).min(jobs.len())) else {
             return Err(StoreRefusal::OutOfMemory);
         };
-        let Ok(buffer) = reserve_buffer(alloc, from, to) else {
+        let Ok(buffer) = reserve_buffer(alloc, &from.scale, to) else {
             return Err(StoreRefusal::OutOfMemory);
         };
-        let Ok(ahead) = reserve_ahead(alloc, from, to, workers) else {
+        let Ok(ahead) = reserve_ahead(alloc, &from.scale, to, workers) else {
             return Err(StoreRefusal::OutOfMemory);
         };
         Ok(Reducer {
             rt,
-            reader: reader.keeping(),
+            reader,
             method,
-            from: from.duplicate(),
+            from: from.scale.duplicate(),
             to: to.duplicate(),
             jobs,
             first: 0,

@@ -1,5 +1,5 @@
 -- Names below a data set.
-use Rattle.std.proofs.Common.{◌≡◌, ◌∙◌, ℕ, ◌+◌, ◌<◌, ◌≤◌, Bool, true, false, ◌==◌, nat_le, nat_eq, get_or, List, ◌∷◌, ◌++◌, length, length-append, drop, Some, None, IsTrue, if◌then◌else◌, slice_index, inl, inr, ap, refl, subst, arith}
+use Rattle.std.proofs.Common.{◌≡◌, ◌∙◌, ℕ, ◌+◌, ◌<◌, ◌≤◌, Bool, true, false, ◌==◌, nat_le, nat_eq, get_or, List, ◌∷◌, ◌++◌, length, length-append, drop, Some, None, IfSome, IsTrue, if◌then◌else◌, slice_index, inl, inr, ap, refl, subst, arith}
 use Rattle.std.specs.List.{list_all, starts_with, slice_split}
 use Rattle.std.proofs.lemmas.Bool.{and_parts, cases_lt, eqb-true, leb-true}
 use Rattle.std.proofs.lemmas.Bool.Decides.{Decides-eqb}
@@ -48,3 +48,11 @@ key_parts dataset name key good e = by_test (has_key dataset name) refl e
           joined = joined;
           has = has;
         }
+
+-- the key that a name has is itself a name
+pub key_named : (dataset name : List ℕ) → IfSome (key_in dataset name) (λ key. IsTrue (is_name key))
+key_named dataset name = by_test (has_key dataset name) refl
+  where
+    by_test : (t : Bool) → has_key dataset name ≡ t → IfSome (if t then Some (key_of dataset name) else None) (λ key. IsTrue (is_name key))
+    by_test false off = tt
+    by_test true has = (and_parts (is_under dataset name) (is_name (key_of dataset name)) has).1

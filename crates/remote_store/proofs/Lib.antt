@@ -28,3 +28,4 @@ pub mod JudgedSteps
 pub mod AimedSteps
 pub mod EndSteps
 pub mod SentSteps
+pub mod AskSteps

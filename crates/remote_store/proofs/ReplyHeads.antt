@@ -50,7 +50,7 @@ head_long h all =
       length-append (flat_map print_field h.fields) (print_end h.last),
     )
 
-pub overflows_never : (buf : List ℕ) (room : ℕ) → 4096 ≤ room → ResponseOverflows room buf → NeverBegins buf
+pub overflows_never : (buf : List ℕ) (room : ℕ) → 2730 ≤ room → ResponseOverflows room buf → NeverBegins buf
 overflows_never buf room enough over more head rest x = omega (arith, enough, over more head rest x, head_long head x.0.fields)
 
 -- 8,192 bytes that hold no head

@@ -70,6 +70,12 @@ LeavesReplies peer line left =
     (heads : List RequestHead) (replies : List ℕ) → AreHeads heads line.sent → AreReplies peer.objects peer.dataset line.sent replies
     → left ≡ Some (drop (length line.given) replies)
 
+-- a call that only receives leaves also what was sent
+pub record OnlyReceives (old_peer peer : Option Peer) (old_dialled dialled : Option Dialled) (old_sent sent : Option (List ℕ)) : Type 0 where
+  pub same_peer : peer ≡ old_peer
+  pub same_dialled : dialled ≡ old_dialled
+  pub same_sent : sent ≡ old_sent
+
 -- objects that are told hold bytes, as many as 64 bits can count
 pub record IsPlain (peer : Peer) : Type 0 where
   pub bytes : HaveBytes peer.objects

@@ -1,6 +1,8 @@
 //! A store of one data set of one peer.
 ghost use Rattle.std.specs.Prelude.{◌≡◌, [], None, List, ℕ, Option, string_bytes};
 ghost use Rattle.remote_store.specs.Dials.{Dialled, DialsOnly};
+ghost use Rattle.remote_store.specs.Sent.{SentOnly};
+ghost use Rattle.remote_store.specs.Shown.{count_at, shown};
 
 use crate::dial::Dial;
 use crate::remote::Remote;
@@ -16,6 +18,11 @@ pub trait Aim {
     ghost dataset: { List ℕ };
 
     ghost before: { Option Dialled };
+
+    /// All that had been sent, and how often a call had failed.
+    ghost sent: { Option (List ℕ) };
+
+    ghost count: { ℕ };
 }
 
 impl Aim for Brand {
@@ -26,9 +33,14 @@ impl Aim for Brand {
     ghost dataset = { [] };
 
     ghost before = { None };
+
+    ghost sent = { None };
+
+    ghost count = { 0 };
 }
 
-/// A store over HTTP that stays one of this data set of this port of this host, and has dialled that port alone.
+/// A store over HTTP that stays one of this data set of this port of this host, has dialled that port alone, and sent it requests
+/// for objects alone.
 #[derive(Drop)]
 pub struct AimedStore<N: Aim, D: Dial> {
     remote: Remote<D>,
@@ -38,6 +50,9 @@ pub struct AimedStore<N: Aim, D: Dial> {
     ghost port_is: { remote.port ≡ N.port },
     ghost dataset_is: { remote.dataset ≡ N.dataset },
     ghost only: { DialsOnly (N.host, N.port) N.before (D.dialled remote.dial) },
+    ghost asks: { SentOnly (N.host, N.port) N.count
+        (count_at (shown remote.dataset (D.peer remote.dial)) (D.faults remote.dial) remote.faults)
+        N.sent (D.sent remote.dial) },
 }
 
 impl<N: Aim, D: Dial> AimedStore<N, D> {
@@ -47,6 +62,9 @@ impl<N: Aim, D: Dial> AimedStore<N, D> {
         requires port { remote.port ≡ N.port }
         requires dataset { remote.dataset ≡ N.dataset }
         requires before { D.dialled remote.dial ≡ N.before }
+        requires sent { D.sent remote.dial ≡ N.sent }
+        requires count { count_at (shown remote.dataset (D.peer remote.dial)) (D.faults remote.dial) remote.faults
+            ≡ N.count }
         ensures { result.remote ≡ remote }
     {
         AimedStore {
@@ -55,13 +73,17 @@ impl<N: Aim, D: Dial> AimedStore<N, D> {
         }
     }
 
-    /// The store itself: it is one of this data set, and dialled this port of this host alone.
+    /// The store itself: it is one of this data set, dialled this port of this host alone, and sent it requests for objects
+    /// alone.
     pub fn into_remote(self) -> Remote<D>
         ensures remote { result ≡ self.remote }
         ensures host { string_bytes result.host ≡ N.host }
         ensures port { result.port ≡ N.port }
         ensures dataset { result.dataset ≡ N.dataset }
         ensures only { DialsOnly (N.host, N.port) N.before (D.dialled result.dial) }
+        ensures asks { SentOnly (N.host, N.port) N.count
+            (count_at (shown result.dataset (D.peer result.dial)) (D.faults result.dial) result.faults)
+            N.sent (D.sent result.dial) }
     {
         let AimedStore { remote, of: _of } = self;
         remote
@@ -71,7 +93,7 @@ impl<N: Aim, D: Dial> AimedStore<N, D> {
 impl<N: Aim, D: Dial> Source for AimedStore<N, D> {
     ghost use Rattle.std.specs.Prelude.{[], None};
     ghost use Rattle.vol_base.specs.Causes.{counted, is_count};
-    ghost use Rattle.remote_store.specs.Shown.{count_at, count_at_is, shown};
+    ghost use Rattle.remote_store.specs.Shown.{count_at_is};
     ghost use Rattle.remote_store.specs.ShownBytes.{shown_bytes};
 
     ghost objects = { λ s. shown s.remote.dataset (D.peer s.remote.dial) };

@@ -4,7 +4,7 @@ ghost use Rattle.vol_base.specs.Causes.{HasCause};
 ghost use Rattle.vol_base.specs.Gains.{Gains};
 ghost use Rattle.remote_store.specs.Answers.{IsAsked};
 ghost use Rattle.remote_store.specs.Bodies.{Came, IsBegun};
-ghost use Rattle.remote_store.specs.Dials.{SamePeer};
+ghost use Rattle.remote_store.specs.Dials.{OnlyReceives};
 ghost use Rattle.remote_store.specs.Talks.{Unfit};
 
 use crate::body::fill;
@@ -33,7 +33,7 @@ pub(crate) fn begin<D: Dial>(
 ) -> Result<Option<Begun>, Failed>
     requires held { IsTrue (D.holds dial.old) }
     requires size { length received.old ≡ 8192 }
-    requires room { 4096 ≤ length spans.old }
+    requires room { 2730 ≤ length spans.old }
     requires some { IsAsked wanted }
     ensures within { there.new ≤ 8192 }
     ensures received { Gains (D.received dial.old) (D.received dial.new) (take there.new received.new) }
@@ -44,7 +44,8 @@ pub(crate) fn begin<D: Dial>(
         (D.line dial.old) (D.line dial.new)) }
     ensures ends { D.ends dial.old ≤ D.ends dial.new }
     ensures held { D.holds dial.new ≡ D.holds dial.old }
-    ensures same { SamePeer (D.peer dial.old) (D.peer dial.new) (D.dialled dial.old) (D.dialled dial.new) }
+    ensures same { OnlyReceives (D.peer dial.old) (D.peer dial.new) (D.dialled dial.old) (D.dialled dial.new)
+        (D.sent dial.old) (D.sent dial.new) }
     ensures cause { HasCause (D.faults dial.old) (D.faults dial.new) result }
 {
     let parts = match wait_head(dial, received, there, spans) {

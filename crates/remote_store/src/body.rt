@@ -4,7 +4,7 @@ ghost use Rattle.vol_base.specs.Causes.{HasCause};
 ghost use Rattle.vol_base.specs.Gains.{Gains};
 ghost use Rattle.vol_base.specs.Outside.{part};
 ghost use Rattle.remote_store.specs.Bodies.{HasRoom, Passed, Said, Taken, stretch_at, stretch_count};
-ghost use Rattle.remote_store.specs.Dials.{SamePeer};
+ghost use Rattle.remote_store.specs.Dials.{OnlyReceives};
 
 use crate::dial::Dial;
 use crate::wait::receive;
@@ -27,7 +27,8 @@ pub(crate) fn fill<D: Dial>(
         (D.received dial.old) (D.received dial.new) (D.left dial.old) (D.left dial.new)
         (D.line dial.old) (D.line dial.new) (D.ends dial.old) (D.ends dial.new) result }
     ensures held { D.holds dial.new ≡ D.holds dial.old }
-    ensures same { SamePeer (D.peer dial.old) (D.peer dial.new) (D.dialled dial.old) (D.dialled dial.new) }
+    ensures same { OnlyReceives (D.peer dial.old) (D.peer dial.new) (D.dialled dial.old) (D.dialled dial.new)
+        (D.sent dial.old) (D.sent dial.new) }
     ensures cause { HasCause (D.faults dial.old) (D.faults dial.new) result }
 {
     while *there < buffer.len() {
@@ -53,7 +54,8 @@ pub(crate) fn skip<D: Dial>(
         (D.received dial.old) (D.received dial.new) (D.left dial.old) (D.left dial.new)
         (D.line dial.old) (D.line dial.new) (D.ends dial.old) (D.ends dial.new) result }
     ensures held { D.holds dial.new ≡ D.holds dial.old }
-    ensures same { SamePeer (D.peer dial.old) (D.peer dial.new) (D.dialled dial.old) (D.dialled dial.new) }
+    ensures same { OnlyReceives (D.peer dial.old) (D.peer dial.new) (D.dialled dial.old) (D.dialled dial.new)
+        (D.sent dial.old) (D.sent dial.new) }
     ensures cause { HasCause (D.faults dial.old) (D.faults dial.new) result }
 {
     *done = 0;
@@ -89,7 +91,8 @@ fn skip_fill<D: Dial>(
         (D.received dial.old) (D.received dial.new) (D.left dial.old) (D.left dial.new)
         (D.line dial.old) (D.line dial.new) (D.ends dial.old) (D.ends dial.new) result }
     ensures held { D.holds dial.new ≡ D.holds dial.old }
-    ensures same { SamePeer (D.peer dial.old) (D.peer dial.new) (D.dialled dial.old) (D.dialled dial.new) }
+    ensures same { OnlyReceives (D.peer dial.old) (D.peer dial.new) (D.dialled dial.old) (D.dialled dial.new)
+        (D.sent dial.old) (D.sent dial.new) }
     ensures cause { HasCause (D.faults dial.old) (D.faults dial.new) result }
 {
     match skip(dial, scratch, before, got) {
@@ -142,7 +145,8 @@ pub(crate) fn take_stretch<D: Dial>(
         (D.received dial.old) (D.received dial.new) (D.left dial.old) (D.left dial.new)
         (D.line dial.old) (D.line dial.new) (D.ends dial.old) (D.ends dial.new) result }
     ensures held { D.holds dial.new ≡ D.holds dial.old }
-    ensures same { SamePeer (D.peer dial.old) (D.peer dial.new) (D.dialled dial.old) (D.dialled dial.new) }
+    ensures same { OnlyReceives (D.peer dial.old) (D.peer dial.new) (D.dialled dial.old) (D.dialled dial.new)
+        (D.sent dial.old) (D.sent dial.new) }
     ensures cause { HasCause (D.faults dial.old) (D.faults dial.new) result }
 {
     let there = front.len() as u64;
@@ -207,7 +211,8 @@ pub(crate) fn end_part<D: Dial>(
         (D.received dial.old) (D.received dial.new) (D.left dial.old) (D.left dial.new)
         (D.line dial.old) (D.line dial.new) (D.ends dial.old) (D.ends dial.new) result }
     ensures held { D.holds dial.new ≡ D.holds dial.old }
-    ensures same { SamePeer (D.peer dial.old) (D.peer dial.new) (D.dialled dial.old) (D.dialled dial.new) }
+    ensures same { OnlyReceives (D.peer dial.old) (D.peer dial.new) (D.dialled dial.old) (D.dialled dial.new)
+        (D.sent dial.old) (D.sent dial.new) }
     ensures cause { HasCause (D.faults dial.old) (D.faults dial.new) result }
 {
     let (at, count) = find_stretch(promise.kind, promise.len, from, out.len());

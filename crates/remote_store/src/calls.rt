@@ -9,7 +9,7 @@ ghost use Rattle.remote_store.specs.Fits.{Fits, size_said};
 ghost use Rattle.remote_store.specs.Hosts.{is_host};
 ghost use Rattle.remote_store.specs.Quiet.{IsQuietFor};
 ghost use Rattle.remote_store.specs.Requests.{peer_value};
-ghost use Rattle.remote_store.specs.Sent.{Requests};
+ghost use Rattle.remote_store.specs.Sent.{Requests, SendsRequest, request_bytes};
 ghost use Rattle.remote_store.specs.Talks.{IsUnfit, SaysLength, SaysPart};
 ghost use Rattle.remote_store.specs.declared.wanted.Wanted.TheVariants.{Length, Part};
 
@@ -74,7 +74,7 @@ pub(crate) fn call_length<D: Dial>(
     requires peer { peer.now ≡ peer_value host.now port }
     requires text { 1024 ≤ vec_capacity text.old }
     requires size { length received.old ≡ 8192 }
-    requires room { 4096 ≤ length spans.old }
+    requires room { 2730 ≤ length spans.old }
     ensures within { there.new ≤ 8192 }
     ensures received { Gains (D.received dial.old) (D.received dial.new) (take there.new received.new) }
     ensures counted { IsCounted Length (take there.new received.new) body.new }
@@ -87,6 +87,7 @@ pub(crate) fn call_length<D: Dial>(
     ensures end { KeepsEnd (IsShort key.now) (host.now, port) there.new received.new kept.old kept.new
         (D.holds dial.new) (D.peer dial.old) (D.peer dial.new) (D.line dial.old) (D.line dial.new)
         (D.dialled dial.old) (D.dialled dial.new) result }
+    ensures asks { SendsRequest (request_bytes (host.now, port) key.now Length) (D.sent dial.old) (D.sent dial.new) result }
     ensures sent { IfOk result (λ _. Requests (host.now, port) key.now Length kept.old
         (D.peer dial.old) (D.line dial.old) (D.line dial.new)) }
     ensures text { 1024 ≤ vec_capacity text.new }
@@ -135,7 +136,7 @@ pub(crate) fn call_part<D: Dial>(
     requires text { 1024 ≤ vec_capacity text.old }
     requires size { length received.old ≡ 8192 }
     requires scratch { 0 < length scratch.old }
-    requires room { 4096 ≤ length spans.old }
+    requires room { 2730 ≤ length spans.old }
     ensures within { there.new ≤ 8192 }
     ensures replied { (gained : List ℕ) × Replied from (length out.old) gained (take there.new received.new) out.old out.new body.new
         (D.received dial.old) (D.received dial.new) (D.ends dial.old) (D.ends dial.new) result }
@@ -145,6 +146,8 @@ pub(crate) fn call_part<D: Dial>(
     ensures end { KeepsEnd (IsShort key.now) (host.now, port) there.new received.new kept.old kept.new
         (D.holds dial.new) (D.peer dial.old) (D.peer dial.new) (D.line dial.old) (D.line dial.new)
         (D.dialled dial.old) (D.dialled dial.new) result }
+    ensures asks { SendsRequest (request_bytes (host.now, port) key.now (Part from (length out.old)))
+        (D.sent dial.old) (D.sent dial.new) result }
     ensures sent { IfOk result (λ _. Requests (host.now, port) key.now (Part from (length out.old)) kept.old
         (D.peer dial.old) (D.line dial.old) (D.line dial.new)) }
     ensures text { 1024 ≤ vec_capacity text.new }

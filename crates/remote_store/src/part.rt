@@ -5,11 +5,11 @@ ghost use Rattle.vol_base.specs.Gains.{Gains};
 ghost use Rattle.remote_store.specs.Answers.{IsAsked};
 ghost use Rattle.remote_store.specs.Asking.{IsAskFor};
 ghost use Rattle.remote_store.specs.Bodies.{Finished, IsBegun, IsCounted, Replied};
-ghost use Rattle.remote_store.specs.Dials.{SamePeer};
+ghost use Rattle.remote_store.specs.Dials.{OnlyReceives};
 ghost use Rattle.remote_store.specs.Ends.{Asks, KeepsEnd};
 ghost use Rattle.remote_store.specs.Fits.{Fits};
 ghost use Rattle.remote_store.specs.Quiet.{IsQuietFor};
-ghost use Rattle.remote_store.specs.Sent.{Sends};
+ghost use Rattle.remote_store.specs.Sent.{Sends, SendsRequest};
 ghost use Rattle.remote_store.specs.Talks.{IsUnfit, SaysLength, SaysPart};
 ghost use Rattle.remote_store.specs.declared.wanted.Wanted.TheVariants.{Length, Part};
 
@@ -39,7 +39,8 @@ fn finish_part<D: Dial>(
         (D.received dial.old) (D.received dial.new) (D.left dial.old) (D.left dial.new)
         (D.line dial.old) (D.line dial.new) (D.ends dial.old) (D.ends dial.new) result }
     ensures held { D.holds dial.new ≡ D.holds dial.old }
-    ensures same { SamePeer (D.peer dial.old) (D.peer dial.new) (D.dialled dial.old) (D.dialled dial.new) }
+    ensures same { OnlyReceives (D.peer dial.old) (D.peer dial.new) (D.dialled dial.old) (D.dialled dial.new)
+        (D.sent dial.old) (D.sent dial.new) }
     ensures cause { HasCause (D.faults dial.old) (D.faults dial.new) result }
 {
     end_part(
@@ -71,7 +72,7 @@ pub(crate) fn ask_length<D: Dial>(
 ) -> Result<Option<Promise>, Failed>
     requires held { IsTrue kept.old → IsTrue (D.holds dial.old) }
     requires size { length received.old ≡ 8192 }
-    requires room { 4096 ≤ length spans.old }
+    requires room { 2730 ≤ length spans.old }
     ensures within { there.new ≤ 8192 }
     ensures received { Gains (D.received dial.old) (D.received dial.new) (take there.new received.new) }
     ensures counted { IsCounted Length (take there.new received.new) body.new }
@@ -85,6 +86,7 @@ pub(crate) fn ask_length<D: Dial>(
         there.new received.new kept.old kept.new (D.holds dial.new) (D.peer dial.old) (D.peer dial.new)
         (D.line dial.old) (D.line dial.new) (D.dialled dial.old) (D.dialled dial.new) result }
     ensures sent { IfOk result (λ _. Sends kept.old text.now (D.peer dial.old) (D.line dial.old) (D.line dial.new)) }
+    ensures asks { SendsRequest text.now (D.sent dial.old) (D.sent dial.new) result }
     ensures peer { D.peer dial.new ≡ D.peer dial.old }
     ensures cause { HasCause (D.faults dial.old) (D.faults dial.new) result }
 {
@@ -134,7 +136,7 @@ pub(crate) fn ask_part<D: Dial>(
     requires asked { IsAsked (Part from (length out.old)) }
     requires size { length received.old ≡ 8192 }
     requires scratch { 0 < length scratch.old }
-    requires room { 4096 ≤ length spans.old }
+    requires room { 2730 ≤ length spans.old }
     ensures within { there.new ≤ 8192 }
     ensures replied { (gained : List ℕ) × Replied from (length out.old) gained (take there.new received.new) out.old out.new body.new
         (D.received dial.old) (D.received dial.new) (D.ends dial.old) (D.ends dial.new) result }
@@ -146,6 +148,7 @@ pub(crate) fn ask_part<D: Dial>(
         there.new received.new kept.old kept.new (D.holds dial.new) (D.peer dial.old) (D.peer dial.new)
         (D.line dial.old) (D.line dial.new) (D.dialled dial.old) (D.dialled dial.new) result }
     ensures sent { IfOk result (λ _. Sends kept.old text.now (D.peer dial.old) (D.line dial.old) (D.line dial.new)) }
+    ensures asks { SendsRequest text.now (D.sent dial.old) (D.sent dial.new) result }
     ensures peer { D.peer dial.new ≡ D.peer dial.old }
     ensures cause { HasCause (D.faults dial.old) (D.faults dial.new) result }
 {

@@ -12,7 +12,7 @@ ghost use Rattle.remote_store.specs.Hosts.{is_host};
 ghost use Rattle.remote_store.specs.Quiet.{IsQuietFor};
 ghost use Rattle.remote_store.specs.Remotes.{IsJudged, IsPlaced, IsRead, IsSame, IsSize, wanted_of};
 ghost use Rattle.remote_store.specs.Requests.{peer_value};
-ghost use Rattle.remote_store.specs.Sent.{Requests};
+ghost use Rattle.remote_store.specs.Sent.{Requests, SendsRequest, request_bytes};
 ghost use Rattle.remote_store.specs.Shown.{IsServed, count_at, key_in, shown};
 ghost use Rattle.remote_store.specs.Talks.{SaysLength, SaysPart};
 ghost use Rattle.remote_store.specs.declared.wanted.Wanted.TheVariants.{Length, Part};
@@ -61,7 +61,7 @@ pub struct Remote<D: Dial> {
     ghost received_ok: { length received.items ≡ 8192 },
     ghost there_ok: { there ≤ 8192 },
     ghost scratch_ok: { 0 < length scratch.items },
-    ghost spans_ok: { 4096 ≤ length spans.items },
+    ghost spans_ok: { 2730 ≤ length spans.items },
 }
 
 impl<D: Dial + Drop> Remote<D> {
@@ -89,7 +89,7 @@ impl<D: Dial + Drop> Remote<D> {
         let text = reserve_text(alloc, 1024)?;
         let received = reserve_bytes(alloc, 8192)?;
         let scratch = reserve_bytes(alloc, SCRATCH)?;
-        let spans = reserve_spans(alloc, 4096)?;
+        let spans = reserve_spans(alloc, 2730)?;
         Ok(Remote {
             dial,
             host,
@@ -135,6 +135,8 @@ impl<D: Dial> Remote<D> {
         ensures end { StoreKeepsEnd self.old.dataset (string_bytes self.old.host, self.old.port) self.new.there
             self.new.received.items self.old.kept self.new.kept (D.peer self.old.dial) (D.faults self.old.dial)
             (D.faults self.new.dial) (D.dialled self.old.dial) (D.dialled self.new.dial) result }
+        ensures asks { SendsRequest (request_bytes (string_bytes self.old.host, self.old.port) key.now Length)
+            (D.sent self.old.dial) (D.sent self.new.dial) result }
         ensures sent { IfOk result (λ _. Requests (string_bytes self.old.host, self.old.port) key.now Length
             self.old.kept (D.peer self.old.dial) (D.line self.old.dial) (D.line self.new.dial)) }
         ensures peer { D.peer self.new.dial ≡ D.peer self.old.dial }
@@ -174,6 +176,8 @@ impl<D: Dial> Remote<D> {
         ensures end { StoreKeepsEnd self.old.dataset (string_bytes self.old.host, self.old.port) self.new.there
             self.new.received.items self.old.kept self.new.kept (D.peer self.old.dial) (D.faults self.old.dial)
             (D.faults self.new.dial) (D.dialled self.old.dial) (D.dialled self.new.dial) result }
+        ensures asks { SendsRequest (request_bytes (string_bytes self.old.host, self.old.port) key.now (Part at (length out.old)))
+            (D.sent self.old.dial) (D.sent self.new.dial) result }
         ensures sent { IfOk result (λ _. Requests (string_bytes self.old.host, self.old.port) key.now (Part at (length out.old))
             self.old.kept (D.peer self.old.dial) (D.line self.old.dial) (D.line self.new.dial)) }
         ensures peer { D.peer self.new.dial ≡ D.peer self.old.dial }
@@ -251,6 +255,9 @@ impl<D: Dial> Source for Remote<D> {
             → D.dialled self.new.dial ≡ D.dialled self.old.dial) }
         ensures kept_end { IfOk result (λ _. IsKeptBehind (take self.new.there self.new.received.items) self.new.kept) }
         ensures dropped { OnErr result (self.new.kept ≡ false) }
+        ensures asks { IfSome (key_in self.old.dataset name.now) (λ key. SendsRequest
+            (request_bytes (string_bytes self.old.host, self.old.port) key Length)
+            (D.sent self.old.dial) (D.sent self.new.dial) result) }
         ensures sent { IfSome (key_in self.old.dataset name.now) (λ key. IfOk result (λ _.
             Requests (string_bytes self.old.host, self.old.port) key Length self.old.kept
             (D.peer self.old.dial) (D.line self.old.dial) (D.line self.new.dial))) }
@@ -297,6 +304,9 @@ impl<D: Dial> Source for Remote<D> {
             → D.dialled self.new.dial ≡ D.dialled self.old.dial) }
         ensures kept_end { IfOk result (λ _. IsKeptBehind (take self.new.there self.new.received.items) self.new.kept) }
         ensures dropped { OnErr result (self.new.kept ≡ false) }
+        ensures asks { IfSome (key_in self.old.dataset name.now) (λ key. SendsRequest
+            (request_bytes (string_bytes self.old.host, self.old.port) key (wanted_of at (length out.old)))
+            (D.sent self.old.dial) (D.sent self.new.dial) result) }
         ensures sent { IfSome (key_in self.old.dataset name.now) (λ key. IfOk result (λ _.
             Requests (string_bytes self.old.host, self.old.port) key (wanted_of at (length out.old)) self.old.kept
             (D.peer self.old.dial) (D.line self.old.dial) (D.line self.new.dial))) }

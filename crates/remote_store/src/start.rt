@@ -1,14 +1,14 @@
 //! A request that is sent, and the front of the reply to it.
-ghost use Rattle.std.specs.Prelude.{◌≡◌, ◌≢◌, ◌≤◌, ◌++◌, ℕ, List, None, length, take, IfOk, IfSome, IsTrue, OnErr};
+ghost use Rattle.std.specs.Prelude.{◌≡◌, ◌≢◌, ◌≤◌, ◌++◌, ℕ, List, None, length, take, IfOk, IfSome, IsTrue, OnErr, OnOk};
 ghost use Rattle.std.specs.Option.{option_map};
 ghost use Rattle.vol_base.specs.Causes.{HasCause};
-ghost use Rattle.vol_base.specs.Gains.{Gains};
+ghost use Rattle.vol_base.specs.Gains.{Gains, GainsFront};
 ghost use Rattle.remote_store.specs.Answers.{IsAsked};
 ghost use Rattle.remote_store.specs.Asking.{HasBegun, IsAskFor};
 ghost use Rattle.remote_store.specs.Bodies.{IsBegun, IsCounted};
 ghost use Rattle.remote_store.specs.Dials.{Dials, DialsOnce, SamePeer};
 ghost use Rattle.remote_store.specs.Quiet.{IsQuietFor};
-ghost use Rattle.remote_store.specs.Sent.{Sends, sent_on};
+ghost use Rattle.remote_store.specs.Sent.{OnceAtMost, Sends, SendsRequest, sent_on};
 ghost use Rattle.remote_store.specs.Shown.{IsServed};
 ghost use Rattle.remote_store.specs.Talks.{IsUnfit};
 
@@ -34,7 +34,7 @@ fn ask_once<D: Dial>(
     requires held { IsTrue (D.holds dial.old) }
     requires some { IsAsked wanted }
     requires size { length received.old ≡ 8192 }
-    requires room { 4096 ≤ length spans.old }
+    requires room { 2730 ≤ length spans.old }
     ensures within { there.new ≤ 8192 }
     ensures received { Gains (D.received dial.old) (D.received dial.new) (take there.new received.new) }
     ensures begun { IfOk result (λ o. IfSome o (λ b. IsBegun wanted (take there.new received.new) b)) }
@@ -47,6 +47,8 @@ fn ask_once<D: Dial>(
         (D.left dial.new) (D.line dial.new) o) }
     ensures sent { IfOk result (λ _. sent_on (D.line dial.new)
         ≡ option_map (λ sent. sent ++ text.now) (sent_on (D.line dial.old))) }
+    ensures whole { OnOk result (Gains (D.sent dial.old) (D.sent dial.new) text.now) }
+    ensures front { GainsFront (D.sent dial.old) (D.sent dial.new) text.now }
     ensures counted { IsCounted wanted (take there.new received.new) body.new }
     ensures ends { D.ends dial.old ≤ D.ends dial.new }
     ensures held { D.holds dial.new ≡ D.holds dial.old }
@@ -79,7 +81,7 @@ fn ask_kept<D: Dial>(
     requires held { IsTrue kept → IsTrue (D.holds dial.old) }
     requires some { IsAsked wanted }
     requires size { length received.old ≡ 8192 }
-    requires room { 4096 ≤ length spans.old }
+    requires room { 2730 ≤ length spans.old }
     ensures within { there.new ≤ 8192 }
     ensures received { Gains (D.received dial.old) (D.received dial.new) (take there.new received.new) }
     ensures again { IfOk result (λ t. t ≡ None → there.new ≡ 0) }
@@ -97,6 +99,9 @@ fn ask_kept<D: Dial>(
         (D.left dial.new) (D.line dial.new) o)) }
     ensures sent { IfOk result (λ t. IfSome t (λ _. Sends kept text.now (D.peer dial.old)
         (D.line dial.old) (D.line dial.new))) }
+    ensures whole { IfOk result (λ t. IfSome t (λ _. Gains (D.sent dial.old) (D.sent dial.new) text.now)) }
+    ensures once { IfOk result (λ t. t ≡ None → OnceAtMost text.now (D.sent dial.old) (D.sent dial.new)) }
+    ensures front { GainsFront (D.sent dial.old) (D.sent dial.new) text.now }
     ensures counted { IsCounted wanted (take there.new received.new) body.new }
     ensures held { IfOk result (λ t. IfSome t (λ o. IsTrue (D.holds dial.new))) }
     ensures ends { D.ends dial.old ≤ D.ends dial.new }
@@ -141,7 +146,7 @@ pub(crate) fn start<D: Dial>(
     requires held { IsTrue kept → IsTrue (D.holds dial.old) }
     requires some { IsAsked wanted }
     requires size { length received.old ≡ 8192 }
-    requires room { 4096 ≤ length spans.old }
+    requires room { 2730 ≤ length spans.old }
     ensures within { there.new ≤ 8192 }
     ensures received { Gains (D.received dial.old) (D.received dial.new) (take there.new received.new) }
     ensures begun { IfOk result (λ o. IfSome o (λ b. IsBegun wanted (take there.new received.new) b)) }
@@ -152,6 +157,7 @@ pub(crate) fn start<D: Dial>(
         → HasBegun dataset (D.peer dial.old) text.now (take there.new received.new)
         (D.left dial.new) (D.line dial.new) o) }
     ensures sent { IfOk result (λ _. Sends kept text.now (D.peer dial.old) (D.line dial.old) (D.line dial.new)) }
+    ensures asks { SendsRequest text.now (D.sent dial.old) (D.sent dial.new) result }
     ensures held { IfOk result (λ _. IsTrue (D.holds dial.new)) }
     ensures ends { D.ends dial.old ≤ D.ends dial.new }
     ensures dialled { Dials (host.now, port) (D.dialled dial.old) (D.dialled dial.new) }

@@ -43,12 +43,12 @@ many_fields h all =
 pub empty_none : (h : RequestHead) (rest : List ℕ) → ReadsRequest [] h rest → ⊥
 empty_none h rest x = absurd (omega (arith, head_long h, length-append (print_request h) rest, ap length x.1))
 
--- 8,192 bytes never hold the beginning of a head of more than 4,096 fields
-pub never_exceeds : (buf : List ℕ) (room : ℕ) → length buf ≤ 8192 → 4096 ≤ room → RequestExceeds room buf → ⊥
+-- 8,192 bytes never hold the beginning of a head of more than 2,730 fields
+pub never_exceeds : (buf : List ℕ) (room : ℕ) → length buf ≤ 8192 → 2730 ≤ room → RequestExceeds room buf → ⊥
 never_exceeds buf room few room_is x =
     absurd (omega (arith, few, room_is, x.5, many_fields x.3 x.4.0.fields, length-append x.0 x.1, ap length x.2, length-append x.0 (print_end lf), ap length x.4.1, length-append (print_request x.3) []))
 
-pub never_has : {A : Type 0} (buf : List ℕ) (room : ℕ) (e : Error) → length buf ≤ 8192 → 4096 ≤ room → (◌≡◌ {A = Result A Error} (Err e) (Err errors.TooManyHeaders) → RequestExceeds room buf) → (e ≢ errors.TooManyHeaders → NeverHasRequest buf) → NeverHasRequest buf
+pub never_has : {A : Type 0} (buf : List ℕ) (room : ℕ) (e : Error) → length buf ≤ 8192 → 2730 ≤ room → (◌≡◌ {A = Result A Error} (Err e) (Err errors.TooManyHeaders) → RequestExceeds room buf) → (e ≢ errors.TooManyHeaders → NeverHasRequest buf) → NeverHasRequest buf
 never_has buf room errors.TooManyHeaders few r many invalid = absurd (never_exceeds buf room few r (many refl))
 never_has buf room errors.HeaderName few r many invalid = invalid (λ e. absurd (cc e))
 never_has buf room errors.HeaderValue few r many invalid = invalid (λ e. absurd (cc e))

@@ -6,10 +6,10 @@ use crate::kinds::Front;
 use httparse::Status;
 use httparse::spans::{HeaderSpan, parse_request};
 
-/// Judges at most 8,192 received bytes, with room for 4,096 fields. It takes no memory.
+/// Judges at most 8,192 received bytes, with room for as many fields as they can hold. It takes no memory.
 pub fn judge_front(received: &[u8], spans: &mut [HeaderSpan]) -> Front
     requires few { length received.now ≤ 8192 }
-    requires room { 4096 ≤ length spans.old }
+    requires room { 2730 ≤ length spans.old }
     ensures { IsFront received.now spans.new result }
 {
     if received.is_empty() {

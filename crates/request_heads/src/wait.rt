@@ -39,7 +39,7 @@ pub fn read_head<L: Link>(
 ) -> Result<(Next, usize), Failed>
     requires size { length buffer.old ≡ 8192 }
     requires within { len ≤ 8192 }
-    requires room { 4096 ≤ length spans.old }
+    requires room { 2730 ≤ length spans.old }
     ensures within { IfOk result (λ r. r.1 ≤ 8192) }
     ensures next { IfOk result (λ r. IfSome (pending buffer.old len (L.left link.old)) (λ stream.
         IsNext stream r.0)) }

@@ -1,19 +1,19 @@
 //! The command `reshard`.
-ghost use Rattle.std.specs.Prelude.{◌≡◌, ◌≤◌, length, false, None, Some, IfErr, IfSome, OnOk};
-ghost use Rattle.vol_base.specs.Causes.{HasCauseOf, Rose};
+ghost use Rattle.std.specs.Prelude.{◌≡◌, ◌≤◌, length, false, Some, IfSome};
+ghost use Rattle.vol_base.specs.Causes.{Rose};
 ghost use Rattle.vol_base.specs.Outside.{Objects, OnlyReads};
 ghost use Rattle.shard_writer.specs.Writing.{Drops};
 ghost use Rattle.command_base.specs.Ending.{EndsWell, IsCaused};
 ghost use Rattle.command_base.specs.Outlets.{outlets_of};
 ghost use Rattle.command_base.specs.Scales.{stored_scale};
 ghost use Rattle.command_base.specs.Statuses.{prints, puts};
-ghost use Rattle.make_scale.specs.Refusals.{refusal_status};
-ghost use Rattle.make_scale.specs.Stored.{DropsUnsharded};
+ghost use Rattle.make_scale.specs.Stored.{DropsUnsharded, MakeLeaves};
 ghost use Rattle.reshard_cmd.specs.Copying.{CanReshard, CopiedBack, CopiesStored, DropsOrReshards, named_in, Resharded};
+ghost use Rattle.reshard_cmd.specs.Resharding.{copy_list};
 
 use crate::copying::Copying;
 use command_base::{Crew, Status, finish, report, write_written_line};
-use make_scale::{MakeFault, MakeRefusal, make_stored};
+use make_scale::{MakeRefusal, make_stored};
 use shard_writer::Written;
 use std::sync::Wait;
 use std::thread::Threads;
@@ -45,14 +45,9 @@ fn copy_stored<R: Threads + Wait + Sync, S: Store, G: Gate + Sync>(
     ensures copies { IfSome (S.objects store.old) (λ m.
         CopiesStored result (stored_scale m from_dataset.now from_key.now)
         (stored_scale m to_dataset.now to_key.now) m (S.objects store.new) from_dataset.now to_dataset.now) }
-    ensures kept { IfErr result (λ refusal. puts (refusal_status refusal) ≡ false →
-        OnlyReads (S.objects store.old) (S.objects store.new) (S.draft store.old) (S.draft store.new)) }
-    ensures draft { OnOk result (Drops (S.draft store.old) (S.draft store.new)) }
-    ensures begun { DropsOrReshards (S.objects store.old) (S.objects store.new) from_dataset.now from_key.now
-        to_dataset.now to_key.now (S.draft store.old) (S.draft store.new) }
-    ensures unsharded { IfSome (S.objects store.old) (λ m.
-        DropsUnsharded (stored_scale m to_dataset.now to_key.now) (S.draft store.old) (S.draft store.new)) }
-    ensures cause { HasCauseOf (MakeRefusal.Unmade MakeFault.StoreFault) (S.faults store.old) (S.faults store.new) result }
+    ensures leaves { MakeLeaves S.Source (λ m. stored_scale m from_dataset.now from_key.now)
+        (λ m. stored_scale m to_dataset.now to_key.now)
+        (λ m from to. copy_list m from_dataset.now from to_dataset.now to) store.old store.new result }
 {
     make_stored(
         crew,

@@ -28,7 +28,7 @@ use std::alloc::Global;
 use std::sync::Wait;
 use std::thread::Threads;
 use vol_base::{Gate, Name, Store, StoreRefusal};
-use vol_spec::Scale;
+use vol_spec::{Scale, StoredScale};
 
 /// Making a copy.
 pub(crate) struct Copying;
@@ -59,12 +59,10 @@ impl Making for Copying {
         &self,
         alloc: Global,
         store: &mut S,
-        from_dataset: &Name,
-        from: &Scale,
-        _to_dataset: &Name,
-        to: &Scale,
+        from: &StoredScale,
+        to: &StoredScale,
     ) -> Result<Copier, StoreRefusal> {
-        Copier::of(alloc, store, from_dataset, from, to)
+        Copier::of(alloc, store, from, &to.scale)
     }
 }
 
@@ -103,5 +101,7 @@ pub fn reshard<R: Threads + Wait + Sync, S: Store, G: Gate + Sync>(
     ensures unsharded { to.now.sharding ≡ None → Drops (S.draft store.old) (S.draft store.new) }
     ensures cause { HasCauseOf ReshardFault.StoreFault (S.faults store.old) (S.faults store.new) result }
 {
-    make_scale(crew, store, &Copying, from_dataset, from, to_dataset, to)
+    let from = StoredScale::of(from_dataset, from);
+    let to = StoredScale::of(to_dataset, to);
+    make_scale(crew, store, &Copying, &from, &to)
 }

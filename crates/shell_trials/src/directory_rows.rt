@@ -1,9 +1,9 @@
 //! Objects below a real folder, and what others do there meanwhile.
+use folder_store::{DirStore, HostFolder};
 use std::os::unix::fs::{MetadataExt, symlink};
 use std::test::Fail;
 use std::{fs, io};
 use vol_base::{Failed, Got, Name, Source, Store, StoreRefusal};
-use vol_shell::DirStore;
 
 // What others do, what is asked of the store with what it answers, and what stands then.
 #[derive(Clone, Copy)]
@@ -29,6 +29,9 @@ use Step::{
     Symlink, Write,
 };
 
+// The objects below the current directory.
+type HostStore = DirStore<HostFolder<HostRuntime>>;
+
 // The bytes of an object that was put.
 const PUT: &[u8] = b"abXYef";
 
@@ -41,16 +44,16 @@ fn done(made: io::Result<()>) -> Result<bool, Fail> {
     Ok(true)
 }
 
-fn begin(store: &mut DirStore<HostRuntime>, path: &str) -> Result<bool, Fail> {
+fn begin(store: &mut HostStore, path: &str) -> Result<bool, Fail> {
     Ok(store.begin(&name_of(path)?).is_ok())
 }
 
-fn refuses(store: &mut DirStore<HostRuntime>, path: &str) -> Result<bool, Fail> {
+fn refuses(store: &mut HostStore, path: &str) -> Result<bool, Fail> {
     Ok(store.begin(&name_of(path)?) == Err(StoreRefusal::Failed))
 }
 
 // Puts an object of six bytes: in two pieces, with two bytes in the middle overwritten.
-fn put_patched(store: &mut DirStore<HostRuntime>, name: &Name) -> Result<(), StoreRefusal> {
+fn put_patched(store: &mut HostStore, name: &Name) -> Result<(), StoreRefusal> {
     store.begin(name)?;
     store.append(b"abcd")?;
     store.append(b"ef")?;
@@ -58,35 +61,26 @@ fn put_patched(store: &mut DirStore<HostRuntime>, name: &Name) -> Result<(), Sto
     store.finish()
 }
 
-fn put(store: &mut DirStore<HostRuntime>, path: &str) -> Result<bool, Fail> {
+fn put(store: &mut HostStore, path: &str) -> Result<bool, Fail> {
     Ok(put_patched(store, &name_of(path)?).is_ok())
 }
 
-fn has_size(
-    store: &mut DirStore<HostRuntime>,
-    path: &str,
-    wanted: Option<u64>,
-) -> Result<bool, Fail> {
+fn has_size(store: &mut HostStore, path: &str, wanted: Option<u64>) -> Result<bool, Fail> {
     Ok(store.size(&name_of(path)?) == Ok(wanted))
 }
 
-fn has_any(store: &mut DirStore<HostRuntime>, path: &str, wanted: bool) -> Result<bool, Fail> {
+fn has_any(store: &mut HostStore, path: &str, wanted: bool) -> Result<bool, Fail> {
     Ok(store.any_under(&name_of(path)?) == Ok(wanted))
 }
 
 // A read of six bytes.
-fn reads(
-    store: &mut DirStore<HostRuntime>,
-    path: &str,
-    at: u32,
-    wanted: &[u8],
-) -> Result<bool, Fail> {
+fn reads(store: &mut HostStore, path: &str, at: u32, wanted: &[u8]) -> Result<bool, Fail> {
     let mut found = [b'.'; 6];
     let got = store.read_at(&name_of(path)?, u64::from(at), &mut found);
     Ok(got == Ok(Got::Bytes(wanted.len() as u64)) && found.starts_with(wanted))
 }
 
-fn fails_to_read(store: &mut DirStore<HostRuntime>, path: &str) -> Result<bool, Fail> {
+fn fails_to_read(store: &mut HostStore, path: &str) -> Result<bool, Fail> {
     Ok(store.read_at(&name_of(path)?, 0, &mut [0; 6]) == Err(Failed))
 }
 
@@ -102,7 +96,7 @@ fn stands(rt: &HostRuntime, path: &str, wanted: bool) -> bool {
 }
 
 // Takes a step. Whether it was as it says.
-fn take(rt: &HostRuntime, store: &mut DirStore<HostRuntime>, step: Step) -> Result<bool, Fail> {
+fn take(rt: &HostRuntime, store: &mut HostStore, step: Step) -> Result<bool, Fail> {
     match step {
         Write(path, bytes) => done(fs::write(rt, path, bytes)),
         Rename(from, to) => done(fs::rename(rt, from, to)),
@@ -123,7 +117,7 @@ fn take(rt: &HostRuntime, store: &mut DirStore<HostRuntime>, step: Step) -> Resu
 
 // Which step is the first that isn't as it says.
 fn first_wrong(rt: HostRuntime, steps: &[Step]) -> Result<Option<usize>, Fail> {
-    let mut store = DirStore::new(rt);
+    let mut store = DirStore::new(HostFolder::new(rt), rt.alloc());
     for (number, step) in steps.iter().enumerate() {
         if !take(&rt, &mut store, *step)? {
             return Ok(Some(number));

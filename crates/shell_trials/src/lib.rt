@@ -1,5 +1,5 @@
-//! Rows of vol_shell over real files and sockets, and over clocks, streams and a listener of their own. They stand here and not in
-//! their crate since `rt ci` proves a crate once more for its tests.
+//! Rows of folder_store over real files and files in memory, and of vol_shell over real sockets, and over clocks, streams and a
+//! listener of their own. They stand here and not in their crates since `rt ci` proves a crate once more for its tests.
 #![tactic(auto)]
 
 #[cfg(test)]
@@ -8,6 +8,8 @@ mod accept_rows;
 mod directory_rows;
 #[cfg(test)]
 mod door_rows;
+#[cfg(test)]
+mod folder_rows;
 #[cfg(test)]
 mod link_rows;
 #[cfg(test)]

@@ -10,7 +10,7 @@ use std::alloc::{AllocError, Global};
 use std::process::Abort;
 use std::test::Fail;
 use vol_base::{MemoryStore, Name, StoreRefusal};
-use vol_spec::{ChunkSizes, Encoding, HashKind, Scale, Sharding};
+use vol_spec::{ChunkSizes, Encoding, HashKind, Scale, Sharding, StoredScale};
 use write_plan::{Chunks, window};
 
 fn short_name(rt: &impl Abort, text: &[u8]) -> Name
@@ -88,11 +88,13 @@ fn row_copier(
 ) -> Result<Copier, StoreRefusal>
     ensures { IfOk result (λ copier. window_of copier.to ≡ 256) }
 {
-    let dataset = short_name(rt, b"d");
-    let scale = row_scale(short_name(rt, b"s"));
-    assert!(rt; count_grid(&scale) <= 1 << 22);
-    assert!(rt; window(&scale) == 256);
-    Copier::of(alloc, store, &dataset, &scale, &scale)
+    let stored = StoredScale {
+        dataset: short_name(rt, b"d"),
+        scale: row_scale(short_name(rt, b"s")),
+    };
+    assert!(rt; count_grid(&stored.scale) <= 1 << 22);
+    assert!(rt; window(&stored.scale) == 256);
+    Copier::of(alloc, store, &stored, &stored.scale)
 }
 
 // Preparing 256 jobs asks for the entry and the index once, and for the chunks.

@@ -12,7 +12,7 @@ use std::alloc::{AllocError, Global};
 use std::process::Abort;
 use std::test::Fail;
 use vol_base::{Fault, IndexFault, MemoryStore, Name};
-use vol_spec::{ChunkSizes, Encoding, HashKind, Scale, Sharding};
+use vol_spec::{ChunkSizes, Encoding, HashKind, Scale, Sharding, StoredScale};
 
 // Two shards of two minishards each, by the lowest bits of the ids.
 fn two_shards() -> Sharding
@@ -76,21 +76,19 @@ fn check(
     rt: &impl Abort,
     judge: &mut IndexJudge,
     store: &mut MemoryStore,
-    dataset: &Name,
-    scale: &Scale,
+    stored: &StoredScale,
     sharding: &Sharding,
     home: &ShardPlace,
     wanted: Result<(), JudgeFault>,
     asked: u64,
 )
-    requires dataset { length dataset.now ≤ 200 }
-    requires sharding { scale.now.sharding ≡ Some sharding.now }
+    requires sharding { stored.now.scale.sharding ≡ Some sharding.now }
     requires bits { (sharding.now.minishard_bits ≡ 1) × (sharding.now.shard_bits ≡ 1) }
-    requires knows { Knows (Some (seen store.old).objects) dataset.now scale.now sharding.now judge.old }
-    ensures { Knows (Some (seen store.new).objects) dataset.now scale.now sharding.now judge.new }
+    requires knows { Knows (Some (seen store.old).objects) stored.now.dataset stored.now.scale sharding.now judge.old }
+    ensures { Knows (Some (seen store.new).objects) stored.now.dataset stored.now.scale sharding.now judge.new }
 {
     assert!(rt; home.shard < 2 && home.minishard < 2);
-    let found = judge.judge(store, dataset, scale, sharding, home);
+    let found = judge.judge(store, stored, sharding, home);
     assert_eq!(rt; found, wanted);
     assert_eq!(rt; store.asked(), asked);
 }
@@ -110,30 +108,27 @@ fn check_thrice(
     rt: &impl Abort,
     judge: &mut IndexJudge,
     store: &mut MemoryStore,
-    dataset: &Name,
-    scale: &Scale,
+    stored: &StoredScale,
     sharding: &Sharding,
     wanted: Result<(), JudgeFault>,
     asked: [u64; 3],
 )
-    requires dataset { length dataset.now ≤ 200 }
-    requires sharding { scale.now.sharding ≡ Some sharding.now }
+    requires sharding { stored.now.scale.sharding ≡ Some sharding.now }
     requires bits { (sharding.now.minishard_bits ≡ 1) × (sharding.now.shard_bits ≡ 1) }
-    requires knows { Knows (Some (seen store.old).objects) dataset.now scale.now sharding.now judge.old }
+    requires knows { Knows (Some (seen store.old).objects) stored.now.dataset stored.now.scale sharding.now judge.old }
 {
     let [once, twice, last] = asked;
     check(
-        rt, judge, store, dataset, scale, sharding, &FIRST, wanted, once,
+        rt, judge, store, stored, sharding, &FIRST, wanted, once,
     );
     check(
-        rt, judge, store, dataset, scale, sharding, &FIRST, wanted, twice,
+        rt, judge, store, stored, sharding, &FIRST, wanted, twice,
     );
     check(
         rt,
         judge,
         store,
-        dataset,
-        scale,
+        stored,
         sharding,
         &SECOND,
         Ok(()),
@@ -161,8 +156,9 @@ fn check_rows(
     let key = short_name(b"s").expect(rt, "a key");
     let sharding = two_shards();
     let scale = one_voxel(key, sharding);
+    let stored = StoredScale { dataset, scale };
     check_thrice(
-        rt, &mut judge, &mut store, &dataset, &scale, &sharding, wanted, asked,
+        rt, &mut judge, &mut store, &stored, &sharding, wanted, asked,
     );
     Ok(())
 }

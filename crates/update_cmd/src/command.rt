@@ -1,6 +1,7 @@
 //! The command `update`.
 ghost use Rattle.std.specs.Prelude.{◌≡◌, ◌≢◌, ◌⊎◌, ◌≤◌, ℕ, List, Err, Ok, None, Some, [], false, length, IfErr, IfOk, IfSome, OnOk};
 ghost use Rattle.std.specs.Option.{option_map};
+ghost use Rattle.vol_base.specs.Calls.{ReadsFrom};
 ghost use Rattle.vol_base.specs.Causes.{HasCauseOf, Rose};
 ghost use Rattle.vol_base.specs.Outside.{Objects, OnlyReads};
 ghost use Rattle.vol_spec.specs.Writable.{IsWritable};
@@ -42,9 +43,7 @@ fn read_writable<S: Source>(
     ensures writable { IfOk result IsWritable }
     ensures one { IfOk result HasOneSize }
     ensures unfed { result ≢ Err UpdateRefusal.FeedFault }
-    ensures kept { OnlyReads (S.objects store.old) (S.objects store.new) (S.draft store.old)
-        (S.draft store.new) }
-    ensures cause { HasCauseOf UpdateRefusal.StoreFault (S.faults store.old) (S.faults store.new) result }
+    ensures reads { ReadsFrom S.Source UpdateRefusal.StoreFault store.old store.new result }
 {
     let scale = read_scale(alloc, store, dataset, key)?;
     match find_wide(&scale) {

@@ -14,34 +14,33 @@ use std::sync::Wait;
 use std::thread::Threads;
 use told_writer::write_told;
 use updater::Updater;
-use vol_base::{Gate, Name, Store};
-use vol_spec::Scale;
+use vol_base::{Gate, Store};
+use vol_spec::StoredScale;
 
 /// Puts the objects of writes over what a scale holds, whose chunks an updater makes.
 pub(crate) fn put_updates<R: Threads + Wait + Sync, S: Store, G: Gate + Sync>(
     crew: &Crew<R, G>,
     store: &mut S,
-    dataset: &Name,
-    scale: &Scale,
+    stored: &StoredScale,
     updater: &mut Updater,
 ) -> Result<Written, UpdateFault>
-    requires dataset { length dataset.now ≤ 200 }
-    requires writable { IsWritable scale.now }
+    requires writable { IsWritable stored.now.scale }
     requires few { length (cells_of updater.old.held) ≤ 2 ^ 22 }
-    requires own { updater.old.held.dataset ≡ dataset.now }
-    requires from { updater.old.held.from ≡ scale.now }
-    requires to { updater.old.held.to ≡ scale.now }
+    requires own { updater.old.held.dataset ≡ stored.now.dataset }
+    requires from { updater.old.held.from ≡ stored.now.scale }
+    requires to { updater.old.held.to ≡ stored.now.scale }
     requires written { All (λ write. AreBytes write.1) updater.old.writes }
-    requires jobs { IfSome (S.objects store.old) (λ m. HasUpdateJobs m updater.old dataset.now scale.now) }
+    requires jobs { IfSome (S.objects store.old) (λ m.
+        HasUpdateJobs m updater.old stored.now.dataset stored.now.scale) }
     ensures updates { IfSome (S.objects store.old) (λ m.
-        Updates result m (S.objects store.new) dataset.now scale.now updater.old.writes) }
+        Updates result m (S.objects store.new) stored.now.dataset stored.now.scale updater.old.writes) }
     ensures late { IfErr result IsLate }
     ensures draft { OnOk result (Drops (S.draft store.old) (S.draft store.new)) }
-    ensures begun { DropsOrUpdates (S.objects store.old) (S.objects store.new) dataset.now scale.now
-        updater.old.writes (S.draft store.old) (S.draft store.new) }
-    ensures unsharded { scale.now.sharding ≡ None → Drops (S.draft store.old) (S.draft store.new) }
+    ensures begun { DropsOrUpdates (S.objects store.old) (S.objects store.new) stored.now.dataset
+        stored.now.scale updater.old.writes (S.draft store.old) (S.draft store.new) }
+    ensures unsharded { stored.now.scale.sharding ≡ None → Drops (S.draft store.old) (S.draft store.new) }
     ensures cause { HasCauseOf UpdateFault.StoreFault (S.faults store.old) (S.faults store.new) result }
 {
-    let written = write_told(crew, store, dataset, scale, updater)?;
+    let written = write_told(crew, store, &stored.dataset, &stored.scale, updater)?;
     Ok(written)
 }

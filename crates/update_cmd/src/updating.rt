@@ -20,37 +20,35 @@ use std::sync::Wait;
 use std::thread::Threads;
 use updater::Updater;
 use vol_base::{Gate, Name, Store};
-use vol_spec::Scale;
+use vol_spec::{Scale, StoredScale};
 use write_plan::{Plan, PlanRefusal, Writes};
 
 // Puts a plan over what a scale holds, where the cells that are stored are known.
 fn put_cells<R: Threads + Wait + Sync, S: Store, G: Gate + Sync>(
     crew: &Crew<R, G>,
     store: &mut S,
-    dataset: &Name,
-    scale: &Scale,
+    stored: &StoredScale,
     plan: Plan,
     cells: Vec<[u64; 3]>,
 ) -> Result<Written, UpdateFault>
-    requires dataset { length dataset.now ≤ 200 }
-    requires writable { IsWritable scale.now }
-    requires plan { plan.scale ≡ scale.now }
-    requires distinct { AreDistinct scale.now cells.items }
+    requires writable { IsWritable stored.now.scale }
+    requires plan { plan.scale ≡ stored.now.scale }
+    requires distinct { AreDistinct stored.now.scale cells.items }
     requires few { length cells.items ≤ 2 ^ 22 }
     requires written { All (λ write. AreBytes write.1) plan.writes }
-    requires stored { IfSome (S.objects store.old) (λ m.
-        Lists scale.now (is_after m dataset.now scale.now plan.writes) cells.items) }
+    requires listed { IfSome (S.objects store.old) (λ m.
+        Lists stored.now.scale (is_after m stored.now.dataset stored.now.scale plan.writes) cells.items) }
     ensures updates { IfSome (S.objects store.old) (λ m.
-        Updates result m (S.objects store.new) dataset.now scale.now plan.writes) }
+        Updates result m (S.objects store.new) stored.now.dataset stored.now.scale plan.writes) }
     ensures late { IfErr result IsLate }
     ensures draft { OnOk result (Drops (S.draft store.old) (S.draft store.new)) }
-    ensures begun { DropsOrUpdates (S.objects store.old) (S.objects store.new) dataset.now scale.now
-        plan.writes (S.draft store.old) (S.draft store.new) }
-    ensures unsharded { scale.now.sharding ≡ None → Drops (S.draft store.old) (S.draft store.new) }
+    ensures begun { DropsOrUpdates (S.objects store.old) (S.objects store.new) stored.now.dataset
+        stored.now.scale plan.writes (S.draft store.old) (S.draft store.new) }
+    ensures unsharded { stored.now.scale.sharding ≡ None → Drops (S.draft store.old) (S.draft store.new) }
     ensures cause { HasCauseOf UpdateFault.StoreFault (S.faults store.old) (S.faults store.new) result }
 {
-    match Updater::of(crew.alloc, dataset, scale, plan, cells) {
-        Ok(mut updater) => put_updates(crew, store, dataset, scale, &mut updater),
+    match Updater::of(crew.alloc, stored, plan, cells) {
+        Ok(mut updater) => put_updates(crew, store, stored, &mut updater),
         Err(_) => Err(UpdateFault::OutOfMemory),
     }
 }
@@ -79,27 +77,25 @@ fn refuse(refusal: KeepRefusal) -> UpdateFault
 fn update_planned<R: Threads + Wait + Sync, S: Store, G: Gate + Sync>(
     crew: &Crew<R, G>,
     store: &mut S,
-    dataset: &Name,
-    scale: &Scale,
+    stored: &StoredScale,
     plan: Plan,
 ) -> Result<Written, UpdateFault>
-    requires dataset { length dataset.now ≤ 200 }
-    requires writable { IsWritable scale.now }
-    requires plan { plan.scale ≡ scale.now }
-    requires few { pairs scale.now plan.writes ≤ 2 ^ 22 }
+    requires writable { IsWritable stored.now.scale }
+    requires plan { plan.scale ≡ stored.now.scale }
+    requires few { pairs stored.now.scale plan.writes ≤ 2 ^ 22 }
     requires written { All (λ write. AreBytes write.1) plan.writes }
     ensures updates { IfSome (S.objects store.old) (λ m.
-        UpdatesPlanned result m (S.objects store.new) dataset.now scale.now plan.writes) }
+        UpdatesPlanned result m (S.objects store.new) stored.now.dataset stored.now.scale plan.writes) }
     ensures kept { IfErr result (λ fault. KeepsStore fault (S.objects store.old) (S.objects store.new)
         (S.draft store.old) (S.draft store.new)) }
     ensures draft { OnOk result (Drops (S.draft store.old) (S.draft store.new)) }
-    ensures begun { DropsOrUpdates (S.objects store.old) (S.objects store.new) dataset.now scale.now
-        plan.writes (S.draft store.old) (S.draft store.new) }
-    ensures unsharded { scale.now.sharding ≡ None → Drops (S.draft store.old) (S.draft store.new) }
+    ensures begun { DropsOrUpdates (S.objects store.old) (S.objects store.new) stored.now.dataset
+        stored.now.scale plan.writes (S.draft store.old) (S.draft store.new) }
+    ensures unsharded { stored.now.scale.sharding ≡ None → Drops (S.draft store.old) (S.draft store.new) }
     ensures cause { HasCauseOf UpdateFault.StoreFault (S.faults store.old) (S.faults store.new) result }
 {
-    match gather_cells(crew.alloc, store, dataset, scale, &plan) {
-        Ok(cells) => put_cells(crew, store, dataset, scale, plan, cells),
+    match gather_cells(crew.alloc, store, stored, &plan) {
+        Ok(cells) => put_cells(crew, store, stored, plan, cells),
         Err(refusal) => Err(refuse(refusal)),
     }
 }
@@ -147,8 +143,9 @@ pub fn update<R: Threads + Wait + Sync, S: Store, G: Gate + Sync>(
     ensures unsharded { scale.now.sharding ≡ None → Drops (S.draft store.old) (S.draft store.new) }
     ensures cause { HasCauseOf UpdateFault.StoreFault (S.faults store.old) (S.faults store.new) result }
 {
+    let stored = StoredScale::of(dataset, scale);
     match Plan::of(crew.alloc, scale, writes) {
-        Ok(plan) => update_planned(crew, store, dataset, scale, plan),
+        Ok(plan) => update_planned(crew, store, &stored, plan),
         Err(refusal) => Err(refuse_plan(refusal)),
     }
 }

@@ -12,6 +12,7 @@ use std::alloc::Global;
 use std::process::Abort;
 use std::test::Fail;
 use vol_base::{Fault, IndexFault, ShardFault};
+use vol_spec::StoredScale;
 use write_plan::{Chunks, Plan};
 
 // The pieces of the shard 0, writes over it, and the cells that are stored, or the refusal.
@@ -69,7 +70,8 @@ fn gather(
     assert!(rt; count_met(&plan) <= 1 << 22);
     let mut store = store_with(alloc, &name_of("d/s/0.shard")?, pieces, &[])?;
     let dataset = name_of("d")?;
-    Ok(gather_cells(alloc, &mut store, &dataset, &scale, &plan))
+    let stored = StoredScale { dataset, scale };
+    Ok(gather_cells(alloc, &mut store, &stored, &plan))
 }
 
 fn check(rt: &impl Abort, alloc: Global, row: &Row) -> Result<(), Fail> {

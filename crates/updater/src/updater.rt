@@ -11,8 +11,8 @@ ghost use Rattle.copier.specs.Sources.{HasPrepared, window_cost};
 use copier::Copier;
 use std::alloc::Global;
 use std::marker::Model;
-use vol_base::{Name, OutOfMemory, Store};
-use vol_spec::Scale;
+use vol_base::{OutOfMemory, Store};
+use vol_spec::StoredScale;
 use write_plan::{Chunks, JobList, Plan, PrepareFault};
 
 /// What makes the chunks of an update: the values that a scale holds in the boxes of some of its cells, with
@@ -41,22 +41,20 @@ impl Updater {
     /// `OutOfMemory`.
     pub fn of(
         alloc: Global,
-        dataset: &Name,
-        scale: &Scale,
+        stored: &StoredScale,
         plan: Plan,
         cells: Vec<[u64; 3]>,
     ) -> Result<Updater, OutOfMemory>
-        requires dataset { length dataset.now ≤ 200 }
-        requires plan { plan.scale ≡ scale.now }
-        requires each { All (IsCell scale.now) cells.items }
+        requires plan { plan.scale ≡ stored.now.scale }
+        requires each { All (IsCell stored.now.scale) cells.items }
         requires distinct { AllPairs (λ a b. a ≢ b) cells.items }
-        ensures dataset { IfOk result (λ updater. updater.held.dataset ≡ dataset.now) }
-        ensures from { IfOk result (λ updater. updater.held.from ≡ scale.now) }
-        ensures to { IfOk result (λ updater. updater.held.to ≡ scale.now) }
+        ensures dataset { IfOk result (λ updater. updater.held.dataset ≡ stored.now.dataset) }
+        ensures from { IfOk result (λ updater. updater.held.from ≡ stored.now.scale) }
+        ensures to { IfOk result (λ updater. updater.held.to ≡ stored.now.scale) }
         ensures writes { IfOk result (λ updater. updater.writes ≡ plan.writes) }
-        ensures jobs { IfOk result (λ updater. cells_of updater.held ≡ in_key_order scale.now cells.items) }
+        ensures jobs { IfOk result (λ updater. cells_of updater.held ≡ in_key_order stored.now.scale cells.items) }
     {
-        match Copier::of_cells(alloc, dataset, scale, scale, cells) {
+        match Copier::of_cells(alloc, stored, &stored.scale, cells) {
             Ok(copier) => Ok(Updater { copier, plan }),
             Err(OutOfMemory) => Err(OutOfMemory),
         }

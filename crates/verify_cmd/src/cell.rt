@@ -54,8 +54,7 @@ impl CellJudge {
             None => Ok(()),
             Some(sharding) => {
                 let home = place(&sharding, code(&grid(&origin.scale), cell));
-                self.indexes
-                    .judge(store, &origin.dataset, &origin.scale, &sharding, &home)
+                self.indexes.judge(store, origin, &sharding, &home)
             }
         }
     }

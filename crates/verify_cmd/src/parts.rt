@@ -188,10 +188,10 @@ pub fn verify<S: Source>(
     let Ok(mut judge) = CellJudge::reserve(alloc, scale) else {
         return Err(VerifyFault::OutOfMemory);
     };
-    let Ok(mut others) = ViewJudge::reserve(alloc, dataset, scale) else {
+    let origin = StoredScale::of(dataset, scale);
+    let Ok(mut others) = ViewJudge::reserve(alloc, &origin) else {
         return Err(VerifyFault::OutOfMemory);
     };
-    let origin = StoredScale::of(dataset, scale);
     judge_views(&mut judge, &mut others, store, &origin, part)
 }
 

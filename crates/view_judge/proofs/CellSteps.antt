@@ -242,7 +242,7 @@ module _ (o same : Option Objects) (dataset : Name) (s : Scale) (view : ℕ) (v 
 
 -- its reader is as before
 pub held_again : (dataset : Name) (v : Scale) (reader now : Opened) → IsHeld dataset v reader → now ≡ reader → IsHeld dataset v now
-held_again dataset v reader now h e = record { short = h.short; unsharded = h.unsharded; reads = e ∙ h.reads }
+held_again dataset v reader now h e = record { unsharded = h.unsharded; reads = e ∙ h.reads }
 
 -- what failed, and what didn't, after a call that didn't
 pub cause_again : (why : ViewFault) (before between now : ℕ) → between ≡ before → HasCauseOf {T = ⊤} fault.StoreFault between now (Err why) → HasCauseOf {T = Bool} fault.StoreFault before now (Err why)

@@ -18,7 +18,6 @@ pub record IsBeside (s v : Scale) : Type 0 where
 
 -- a view that is opened; it has no shards
 pub record IsHeld (dataset : Name) (view : Scale) (reader : Opened) : Type 0 where
-  pub short : length dataset ≤ 200
   pub unsharded : view.sharding ≡ None
   pub reads : reader ≡ record { dataset = dataset; scale = view }
 

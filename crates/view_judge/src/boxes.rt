@@ -1,5 +1,5 @@
 //! A box of a view, beside the first view.
-ghost use Rattle.std.specs.Prelude.{◌≡◌, ◌≢◌, ◌+◌, ◌≤◌, ◌^◌, length, IfSome, List, ℤ};
+ghost use Rattle.std.specs.Prelude.{◌≡◌, ◌≢◌, ◌≤◌, ◌^◌, length, IfSome, List, ℤ};
 ghost use Rattle.vol_base.specs.Boxes.{Covers};
 ghost use Rattle.vol_base.specs.Calls.{AsksFor};
 ghost use Rattle.vol_spec.specs.Costs.{cost};

@@ -20,14 +20,13 @@ use chunk_grid::{cell_box, cells, tell_cells};
 use cutout::Reader;
 use std::alloc::Global;
 use std::marker::Model;
-use vol_base::{Box3, Name, OutOfMemory, Source};
-use vol_spec::Scale;
+use vol_base::{Box3, OutOfMemory, Source};
+use vol_spec::{Scale, StoredScale};
 
 /// A view that is opened, to be judged.
 #[derive(Drop)]
 pub(crate) struct FurtherView {
-    dataset: Name,
-    scale: Scale,
+    stored: StoredScale,
     reader: Reader,
 }
 
@@ -37,28 +36,19 @@ impl Model for FurtherView {
 
     ghost Value = { Opened };
 
-    ghost view = { λ v. record { dataset = v.dataset; scale = v.scale } };
+    ghost view = { λ v. record { dataset = v.stored.dataset; scale = v.stored.scale } };
 
-    ghost invariant = { λ v. IsHeld v.dataset v.scale v.reader };
+    ghost invariant = { λ v. IsHeld v.stored.dataset v.stored.scale v.reader };
 }
 
 impl FurtherView {
     /// Opens a view. Where there is no memory, it is refused.
-    pub(crate) fn reserve(
-        alloc: Global,
-        dataset: &Name,
-        scale: Scale,
-    ) -> Result<FurtherView, OutOfMemory>
-        requires dataset { length dataset.now ≤ 200 }
-        requires unsharded { scale.sharding ≡ None }
-        ensures { IfOk result (λ view. view ≡ opened dataset.now scale) }
+    pub(crate) fn reserve(alloc: Global, stored: StoredScale) -> Result<FurtherView, OutOfMemory>
+        requires unsharded { stored.scale.sharding ≡ None }
+        ensures { IfOk result (λ view. view ≡ opened stored.dataset stored.scale) }
     {
-        let reader = Reader::open(alloc, dataset, &scale)?;
-        Ok(FurtherView {
-            dataset: dataset.duplicate(),
-            scale,
-            reader,
-        })
+        let reader = Reader::open(alloc, &stored.dataset, &stored.scale)?;
+        Ok(FurtherView { stored, reader })
     }
 
     /// How many cells meet a part, of how many there is an object of their own, and of how many there is none.
@@ -77,7 +67,7 @@ impl FurtherView {
         ensures asked { S.asked store.new ≡ S.asked store.old }
         ensures reads { ReadsFrom S.Source ViewFault.StoreFault store.old store.new result }
     {
-        count_stored(store, &self.dataset, &self.scale, part)
+        count_stored(store, &self.stored, part)
     }
 
     /// Compares a box with values, with room for its own.
@@ -99,9 +89,10 @@ impl FurtherView {
         ensures asks { AsksFor S.Source (λ m. cost m self.old.dataset self.old.scale part.now)
             ViewFault.StoreFault store.old store.new result }
     {
+        let stored = &self.stored;
         compare_view(
             number,
-            &self.scale,
+            &stored.scale,
             &mut self.reader,
             store,
             part,
@@ -135,10 +126,11 @@ impl FurtherView {
         ensures asks { AsksFor S.Source (λ m. pair_cost m first.old.dataset first.old.scale self.old.scale
             (common (box_of regions.now region) part.now)) ViewFault.StoreFault store.old store.new result }
     {
+        let stored = &self.stored;
         let shared = shared_box(&cell_box(regions, region), part);
         judge_box(
             number,
-            &self.scale,
+            &stored.scale,
             &mut self.reader,
             first,
             store,
@@ -168,9 +160,9 @@ impl FurtherView {
             first.old.scale number self.old.scale regions.now part.now) }
         ensures same { self.new ≡ self.old }
         ensures first { first.new ≡ first.old }
-        ensures asks { AsksFor S.Source (λ m. sum_by
-            (λ region. pair_cost m first.old.dataset first.old.scale self.old.scale (common (box_of regions.now region) part.now))
-            (cells_in regions.now part.now)) ViewFault.StoreFault store.old store.new result }
+        ensures asks { AsksFor S.Source (λ m. sum_by (λ region. pair_cost m first.old.dataset first.old.scale
+            self.old.scale (common (box_of regions.now region) part.now)) (cells_in regions.now part.now))
+            ViewFault.StoreFault store.old store.new result }
     {
         tell_cells(regions, part);
         for region in cells(regions, part) {
@@ -204,7 +196,7 @@ impl FurtherView {
         ensures asks { AsksFor S.Source (λ m. own_cost m first.old.dataset first.old.scale part.now
             self.old.scale) ViewFault.StoreFault store.old store.new result }
     {
-        let regions = find_own_regions(scale, &self.scale);
+        let regions = find_own_regions(scale, &self.stored.scale);
         self.judge_regions(number, first, &regions, store, part, found, wanted)
     }
 
@@ -232,11 +224,12 @@ impl FurtherView {
         ensures asks { AsksFor S.Source (λ m. pair_cost m first.old.dataset first.old.scale self.old.scale
             (common (box_of self.old.scale cell) part.now)) ViewFault.StoreFault store.old store.new result }
     {
-        let is_stored = find_stored(store, &self.dataset, &self.scale, cell)?;
-        let shared = shared_box(&cell_box(&self.scale, cell), part);
+        let stored = &self.stored;
+        let is_stored = find_stored(store, stored, cell)?;
+        let shared = shared_box(&cell_box(&stored.scale, cell), part);
         match judge_box(
             number,
-            &self.scale,
+            &stored.scale,
             &mut self.reader,
             first,
             store,
@@ -275,8 +268,8 @@ impl FurtherView {
             self.old.scale) ViewFault.StoreFault store.old store.new result }
     {
         let mut report = NONE;
-        tell_cells(&self.scale, part);
-        for cell in cells(&self.scale, part) {
+        tell_cells(&self.stored.scale, part);
+        for cell in cells(&self.stored.scale, part) {
             match self.judge_cell(number, first, store, cell, part, found, wanted) {
                 Ok(is_stored) => report = add(report, one_cell(is_stored)),
                 Err(fault) => return Err(fault),

@@ -2,7 +2,6 @@
 ghost use Rattle.std.specs.Prelude.{◌≡◌, ◌+◌, ◌≤◌, ◌^◌, length, All, IfErr, IfOk, IfSome};
 ghost use Rattle.std.specs.List.{sum_by};
 ghost use Rattle.vol_base.specs.Calls.{AsksFor, ReadsFrom};
-ghost use Rattle.vol_base.specs.Outside.{HaveBytes};
 ghost use Rattle.vol_spec.specs.Grid.{Inside};
 ghost use Rattle.vol_spec.specs.Verdicts.{Sound};
 ghost use Rattle.size_laws.specs.Further.{further as further_of};
@@ -19,8 +18,8 @@ use chunk_pool::Frame;
 use cutout::Reader;
 use std::alloc::Global;
 use std::marker::Model;
-use vol_base::{Box3, Name, OutOfMemory, Source};
-use vol_spec::Scale;
+use vol_base::{Box3, OutOfMemory, Source};
+use vol_spec::{Scale, StoredScale};
 
 /// Judges the further views of a scale beside the first view: all together region by region, and where one isn't the
 /// same there view by view, cell by cell. The memory that it needs is taken when it is reserved.
@@ -45,17 +44,13 @@ impl Model for ViewJudge {
 }
 
 // The further views, opened in the order of their sizes.
-fn reserve_views(
-    alloc: Global,
-    dataset: &Name,
-    scale: &Scale,
-) -> Result<Vec<FurtherView>, OutOfMemory>
-    requires { length dataset.now ≤ 200 }
-    ensures { IfOk result (λ views. views.items ≡ all_opened dataset.now scale.now) }
+fn reserve_views(alloc: Global, stored: &StoredScale) -> Result<Vec<FurtherView>, OutOfMemory>
+    ensures { IfOk result (λ views. views.items ≡ all_opened stored.now.dataset stored.now.scale) }
 {
     let mut views = Vec::new(alloc);
-    for k in 0..scale.more.len() {
-        let view = FurtherView::reserve(alloc, dataset, scale.view(k + 1))?;
+    for k in 0..stored.scale.more.len() {
+        let own = StoredScale::of(&stored.dataset, &stored.scale.view(k + 1));
+        let view = FurtherView::reserve(alloc, own)?;
         match views.push(view) {
             Ok(()) => {}
             Err(_) => return Err(OutOfMemory),
@@ -154,20 +149,19 @@ fn judge_all<S: Source>(
 
 impl ViewJudge {
     /// A judge of the further views of a scale. Where there is no memory, it is refused.
-    pub fn reserve(alloc: Global, dataset: &Name, scale: &Scale) -> Result<ViewJudge, OutOfMemory>
-        requires dataset { length dataset.now ≤ 200 }
-        ensures dataset { IfOk result (λ judge. judge.dataset ≡ dataset.now) }
-        ensures scale { IfOk result (λ judge. judge.scale ≡ scale.now) }
+    pub fn reserve(alloc: Global, stored: &StoredScale) -> Result<ViewJudge, OutOfMemory>
+        ensures dataset { IfOk result (λ judge. judge.dataset ≡ stored.now.dataset) }
+        ensures scale { IfOk result (λ judge. judge.scale ≡ stored.now.scale) }
     {
-        let room = longest_room(scale);
-        let further = reserve_views(alloc, dataset, scale)?;
-        let first = Reader::open(alloc, dataset, scale)?;
+        let room = longest_room(&stored.scale);
+        let further = reserve_views(alloc, stored)?;
+        let first = Reader::open(alloc, &stored.dataset, &stored.scale)?;
         let found = Frame::alone(alloc, room)?;
         let wanted = Frame::alone(alloc, room)?;
         Ok(ViewJudge {
             first,
             further,
-            scale: scale.duplicate(),
+            scale: stored.scale.duplicate(),
             found,
             wanted,
         })

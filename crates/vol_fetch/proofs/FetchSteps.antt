@@ -1,5 +1,5 @@
 -- What a fetch answers, by what a cutout of the store answers.
-use Rattle.std.proofs.Common.{◌≡◌, ◌≢◌, ◌∙◌, ℕ, Option, Some, IfSome, Result, Ok, Err, inl, inr, sym, subst, arith}
+use Rattle.std.proofs.Common.{◌≡◌, ◌≢◌, ◌∙◌, ℕ, List, Option, Some, IfSome, Result, Ok, Err, inl, inr, sym, subst, arith}
 use Rattle.std.specs.Prelude.{⊤}
 use Rattle.vol_base.specs.Causes.{Rose, counted}
 use Rattle.vol_base.specs.Outside.{Objects}
@@ -13,6 +13,7 @@ use Rattle.cutout_cmd.specs.Cutouts.{AsksFor, CanCut, CutsOut, TellsCut}
 use Rattle.cutout_cmd.specs.Refusals.{cutout_status}
 use Rattle.cutout_cmd.specs.declared.refusal.CutoutRefusal.{CutoutRefusal}
 use Rattle.cutout_cmd.specs.declared.refusal.CutoutRefusal.TheVariants as refused
+use Rattle.remote_store.specs.Sent.{SentOnly}
 use Rattle.remote_store.specs.Shown.{count_at}
 use Rattle.vol_fetch.specs.Fetches.{Completes, Fetches}
 use Rattle.vol_fetch.specs.declared.words.Request.{Request}
@@ -62,3 +63,11 @@ asked_for asked r shown told before now0 now1 e is none same x =
     subst (λ a. IfSome a (λ r. IfSome (shown r) (λ m. AsksFor m r.dataset r.key r.part 0 (counted now1)))) (sym e)
     (subst (λ t. IfSome t (λ m. AsksFor m r.dataset r.key r.part 0 (counted now1))) is
     (subst (λ n. IfSome told (λ m. AsksFor m r.dataset r.key r.part n (counted now1))) nothing (subst (λ n. IfSome told (λ m. AsksFor m r.dataset r.key r.part (counted before) (counted n))) same x)))
+
+-- what was sent, to the port of the host of the words, since the call began
+pub sent_to : (to : List ℕ × ℕ) (host : List ℕ) (port : ℕ) (told told_now : Option Objects) (count faults faults_now own : ℕ) (old sent new : Option (List ℕ)) → host ≡ to.0 → port ≡ to.1 → count_at told faults 0 ≡ count → sent ≡ old → told_now ≡ told
+    → SentOnly to count (count_at told_now faults_now own) old new → SentOnly (host, port) (count_at told faults 0) (count_at told faults_now own) sent new
+sent_to to host port told told_now count faults faults_now own old sent new h p counts same still x =
+    subst (λ q. SentOnly (q, port) (count_at told faults 0) (count_at told faults_now own) sent new) (sym h)
+    (subst (λ q. SentOnly (to.0, q) (count_at told faults 0) (count_at told faults_now own) sent new) (sym p)
+    (subst (λ c. SentOnly to c (count_at told faults_now own) sent new) (sym counts) (subst (λ s. SentOnly to count (count_at told faults_now own) s new) (sym same) (subst (λ t. SentOnly to count (count_at t faults_now own) old new) still x))))

@@ -6,6 +6,7 @@ ghost use Rattle.command_base.specs.Statuses.{refuses};
 ghost use Rattle.cutout_cmd.specs.Cutouts.{AsksFor};
 ghost use Rattle.remote_store.specs.Dials.{DialsOnly};
 ghost use Rattle.remote_store.specs.Hosts.{is_host};
+ghost use Rattle.remote_store.specs.Sent.{SentOnly};
 ghost use Rattle.remote_store.specs.Shown.{count_at, shown};
 ghost use Rattle.vol_base.specs.Causes.{counted};
 ghost use Rattle.vol_fetch.specs.Fetches.{Completes, Fetches, IsMade, Untried};
@@ -32,6 +33,8 @@ fn open_store<N: Aim, D: Dial + Drop>(
     requires port { port ≡ N.port }
     requires dataset { dataset.now ≡ N.dataset }
     requires before { D.dialled dial ≡ N.before }
+    requires sent { D.sent dial ≡ N.sent }
+    requires count { count_at (shown dataset.now (D.peer dial)) (D.faults dial) 0 ≡ N.count }
     ensures dial { IfOk result (λ s. s.remote.dial ≡ dial) }
     ensures host { IfOk result (λ s. string_bytes s.remote.host ≡ host.now) }
     ensures port { IfOk result (λ s. s.remote.port ≡ port) }
@@ -64,6 +67,8 @@ fn fetch_from<N: Aim, D: Dial + Drop, O: Outlet, E: Outlet>(
     requires port { request.now.port ≡ N.port }
     requires of { request.now.dataset ≡ N.dataset }
     requires before { D.dialled dial ≡ N.before }
+    requires sent { D.sent dial ≡ N.sent }
+    requires count { count_at (shown request.now.dataset (D.peer dial)) (D.faults dial) 0 ≡ N.count }
     ensures used { result.0 ≢ Status.Usage }
     ensures untried { IfNone result.1 (Untried result.0
         (outlets_of O.written O.faults E.written E.faults out.old out.new err.old err.new)) }
@@ -81,6 +86,10 @@ fn fetch_from<N: Aim, D: Dial + Drop, O: Outlet, E: Outlet>(
     ensures unprinted { refuses result.0 ≡ true → out.new ≡ out.old }
     ensures dialled { IfSome result.1 (λ remote. DialsOnly (first_word (map string_bytes words.now), request.now.port)
         (D.dialled dial) (D.dialled remote.dial)) }
+    ensures sent { IfSome result.1 (λ remote. IfSome (Some request.now) (λ r. SentOnly
+        (first_word (map string_bytes words.now), r.port) (count_at (shown r.dataset (D.peer dial)) (D.faults dial) 0)
+        (count_at (shown r.dataset (D.peer dial)) (D.faults remote.dial) remote.faults)
+        (D.sent dial) (D.sent remote.dial))) }
     ensures made { IfSome result.1 (λ remote. IsMade (Some request.now) (first_word (map string_bytes words.now))
         (string_bytes remote.host) remote.port remote.dataset) }
 {
@@ -111,7 +120,7 @@ fn fetch_from<N: Aim, D: Dial + Drop, O: Outlet, E: Outlet>(
 
 /// `HOST PORT DATASET KEY BOX`: writes the values of a box of the scale of a key of a data set that a peer serves, as
 /// `cutout` writes those of objects that are at hand, and tells a refusal as it does. The store is handed back where there
-/// was one: it is one of that data set of that port of that host, and dialled that port alone.
+/// was one: it is one of that data set of that port of that host, dialled that port alone, and sent it requests for objects alone.
 pub fn fetch<D: Dial + Drop, O: Outlet, E: Outlet>(
     alloc: Global,
     words: &[String],
@@ -138,6 +147,12 @@ pub fn fetch<D: Dial + Drop, O: Outlet, E: Outlet>(
     ensures unprinted { refuses result.0 ≡ true → out.new ≡ out.old }
     ensures dialled { IfSome result.1 (λ remote. IfSome (fetch_line (map string_bytes words.now)) (λ r.
         DialsOnly (first_word (map string_bytes words.now), r.port) (D.dialled dial) (D.dialled remote.dial))) }
+    // All that was sent, on whichever connection, is requests for objects, which name the host and the port; each is whole where no
+    // call failed.
+    ensures sent { IfSome result.1 (λ remote. IfSome (fetch_line (map string_bytes words.now)) (λ r. SentOnly
+        (first_word (map string_bytes words.now), r.port) (count_at (shown r.dataset (D.peer dial)) (D.faults dial) 0)
+        (count_at (shown r.dataset (D.peer dial)) (D.faults remote.dial) remote.faults)
+        (D.sent dial) (D.sent remote.dial))) }
     ensures made { IfSome result.1 (λ remote. IsMade (fetch_line (map string_bytes words.now))
         (first_word (map string_bytes words.now)) (string_bytes remote.host) remote.port remote.dataset) }
 {

@@ -228,6 +228,8 @@ impl<R: Net + Clock> Dial for TcpDial<R> {
 
     ghost received = { λ _. None };
 
+    ghost sent = { λ _. None };
+
     ghost peer = { λ _. None };
 
     ghost line = { λ _. None };

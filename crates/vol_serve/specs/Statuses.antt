@@ -1,5 +1,6 @@
 -- How `vol_serve` ends, and what stands then (this project's).
-use Rattle.std.specs.Prelude.{◌≡◌, ℕ, Bool, true, false, Option, Some, IfSome}
+use Rattle.std.specs.Prelude.{◌≡◌, ◌<◌, ◌⊎◌, ℕ, Bool, true, false, Option, Some, IfSome}
+use Rattle.vol_base.specs.Causes.{Rose}
 use Rattle.vol_spec.specs.Types.{Bytes}
 use Rattle.command_base.specs.declared.status.Status.{Status}
 use Rattle.command_base.specs.declared.status.Status.TheVariants as status
@@ -37,6 +38,15 @@ lacks_memory Usage = false
 lacks_memory OutFault = false
 lacks_memory NoMemory = true
 lacks_memory DoorFault = false
+
+-- how many of n ends were accepted, by how it ends, while the entrance's count of faults went from one number to another: all at success, none
+-- where the output failed, fewer where an accept did; and where memory ran out all, or none, or fewer where an accept failed too
+abbrev pub Accepted : HallStatus → ℕ → ℕ → ℕ → ℕ → Type 0
+Accepted Ok n before now accepted = accepted ≡ n
+Accepted Usage n before now accepted = ⊥
+Accepted OutFault n before now accepted = accepted ≡ 0
+Accepted NoMemory n before now accepted = (accepted ≡ n) ⊎ (accepted ≡ 0) ⊎ ((accepted < n) × Rose before now)
+Accepted DoorFault n before now accepted = accepted < n
 
 -- no end is given before the port is told: none where the output gained nothing
 abbrev pub GivesLater : Option Bytes → Option Bytes → ℕ → ℕ → Type 0

@@ -11,6 +11,7 @@ mod top;
 mod words;
 
 use command_base::{Status, tell};
+use folder_store::{DirStore, HostFolder};
 use hall::{Doorway, PlainExit};
 use std::alloc::{AllocError, Global};
 use std::env::Env;
@@ -20,7 +21,7 @@ use std::time::Duration;
 use std::{env, io};
 use top::serve_all;
 use vol_base::FreeGate;
-use vol_shell::{DirStore, StdOutlet, TcpDoor};
+use vol_shell::{StdOutlet, TcpDoor};
 
 // The words after the program's name. It fails as a whole where the system doesn't give each of them as
 // text, or where there is no memory for them.
@@ -29,13 +30,16 @@ fn read_arguments<R: Env + AllocGlobal>(rt: &R) -> io::Result<Vec<String>> {
     Ok(words)
 }
 
+// The objects below the current directory.
+type HostStore = DirStore<HostFolder<HostRuntime>>;
+
 // A store for each worker that there may be.
-fn open_stores(rt: HostRuntime, alloc: Global) -> Result<Vec<DirStore<HostRuntime>>, AllocError>
+fn open_stores(rt: HostRuntime, alloc: Global) -> Result<Vec<HostStore>, AllocError>
     ensures { IfOk result (λ stores. length stores.items ≡ 16) }
 {
     let mut stores = Vec::new(alloc);
     for _i in 0..16u32 {
-        stores.push(DirStore::new(rt))?;
+        stores.push(DirStore::new(HostFolder::new(rt), alloc))?;
     }
     Ok(stores)
 }

@@ -4,8 +4,8 @@ ghost use Rattle.vol_base.specs.Causes.{Rose};
 ghost use Rattle.command_base.specs.Outlets.{outlets_of};
 ghost use Rattle.command_base.specs.Statuses.{fixed_line};
 ghost use Rattle.hall.specs.Halls.{EachServed, HasExactly, NoneFell, numbers_of};
-ghost use Rattle.serve_cmd.specs.Servings.{GivesEnds, IsBoundTo, PortTold, SaysFixed};
-ghost use Rattle.vol_serve.specs.Statuses.{GivesLater, as_status, ended_by, lacks_memory, refused_by};
+ghost use Rattle.serve_cmd.specs.Servings.{IsBoundTo, PortTold, SaysFixed};
+ghost use Rattle.vol_serve.specs.Statuses.{Accepted, GivesLater, as_status, ended_by, lacks_memory, refused_by};
 ghost use Rattle.vol_serve.specs.Words.{KeepsLimits, hall_line};
 
 use crate::announce::announce;
@@ -76,7 +76,7 @@ where
     requires stores { length stores.items ≡ 16 }
     requires limits { KeepsLimits (Some serving.now) }
     ensures other { result.status ≢ HallStatus.Usage }
-    ensures given { GivesEnds (as_status result.status) serving.now.connections
+    ensures given { Accepted result.status serving.now.connections (D.faults entrance) (D.faults result.entrance)
         (D.accepted result.entrance - D.accepted entrance) }
     ensures more { D.accepted entrance ≤ D.accepted result.entrance }
     ensures exact { IfSome (X.served result.exit) (λ list.
@@ -163,7 +163,7 @@ where
     requires stores { length stores.items ≡ 16 }
     ensures usage { (result.status ≡ HallStatus.Usage) ↔ (hall_line (map string_bytes words.now) ≡ None) }
     ensures given { IfSome (hall_line (map string_bytes words.now)) (λ serving.
-        GivesEnds (as_status result.status) serving.connections
+        Accepted result.status serving.connections (D.faults entrance) (D.faults result.entrance)
         (D.accepted result.entrance - D.accepted entrance)) }
     ensures more { D.accepted entrance ≤ D.accepted result.entrance }
     ensures exact { IfSome (X.served result.exit) (λ list.

@@ -1,4 +1,3 @@
-pub mod Absences
 pub mod Effects
 pub mod Lines
 pub mod Tallies

@@ -1,18 +1,16 @@
-//! What the tool shows of itself: the lines that are always the same, and the outside as the host has it, objects as files
-//! below the current directory, the standard streams as a feed and outlets, connections over TCP as links behind a
-//! door, and what stands for a door where none is wanted.
+//! What the tool shows of itself: the lines that are always the same, and the outside as the host has it but for its files: the
+//! standard streams as a feed and outlets, connections over TCP as links behind a door, and what stands for a door where
+//! none is wanted.
 #![tactic(auto)]
 
 mod accepts;
 mod counts;
-mod directory;
 mod door;
 mod lines;
 mod link;
 mod output;
 mod streams;
 
-pub use directory::DirStore;
 pub use door::TcpDoor;
 pub use lines::{
     DOOR_LINE, FEED_LINE, FOLDER_LINE, MEMORY_LINE, OUTPUT_LINE, STORE_LINE, USAGE_LINE, tell_lines,

@@ -1,1 +1,2 @@
+mod FileSteps
 mod MemorySteps

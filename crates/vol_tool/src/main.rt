@@ -7,13 +7,14 @@ mod tests;
 mod top;
 
 use command_base::{Status, tell};
+use folder_store::{DirStore, HostFolder};
 use std::env::Env;
 use std::io::ErrorKind;
 use std::process::ExitCode;
 use std::{env, io};
 use top::run;
 use vol_base::FreeGate;
-use vol_shell::{DirStore, StdFeed, StdOutlet, TcpDoor};
+use vol_shell::{StdFeed, StdOutlet, TcpDoor};
 
 // The words after the program's name. It fails as a whole where the system doesn't give each of them as
 // text, or where there is no memory for them.
@@ -38,7 +39,7 @@ fn main(rt: HostRuntime) -> ExitCode {
         &rt,
         rt.alloc(),
         &words,
-        &mut DirStore::new(rt),
+        &mut DirStore::new(HostFolder::new(rt), rt.alloc()),
         &mut StdFeed::new(rt.stdin()),
         &mut StdOutlet::new(rt.stdout()),
         &mut err,

@@ -1,6 +1,7 @@
 //! Calls of the tool over stand-ins in memory: what each command is handed, and what one command leaves for the next. What
 //! each answers was worked out by hand; what a command says of more than that is tried in its crate.
 
+mod files;
 mod levels;
 mod peers;
 mod seats;

@@ -1,6 +1,8 @@
 //! The top call.
 ghost use Rattle.std.specs.Prelude.{◌≡◌, None, Some, map, string_bytes};
+ghost use Rattle.std.specs.Option.{option_map};
 ghost use Rattle.command_line.specs.Words.{KeepsLimits, line};
+ghost use Rattle.folder_store.specs.Disks.{objects_of};
 ghost use Rattle.vol_tool.specs.Runs.{Answers, Causes, Headline, Keeps, Succeeds};
 ghost use Rattle.vol_tool.specs.Seen.{Seen, view};
 
@@ -8,6 +10,7 @@ use command_base::{Crew, Status, tell};
 use command_line::{Command, read_words};
 use cutout_cmd::run_cutout;
 use downsample_cmd::run_downsample;
+use folder_store::{DirStore, Folder};
 use generate_cmd::run_generate;
 use reshard_cmd::run_reshard;
 use serve_cmd::run_serve;
@@ -30,6 +33,14 @@ pub trait Viewed<S, F, O, E, D> {
 impl<S: Store, F: Feed, O: Outlet, E: Outlet, D: Door> Viewed<S, F, O, E, D> for Outside {
     ghost at = { view S.objects S.draft S.asked S.faults F.left F.faults O.written O.faults E.written E.faults
         D.bound D.accepted D.served D.faults };
+}
+
+/// A name for the outside with the files of a folder for its store.
+pub struct OutsideFiles;
+
+impl<L: Folder, F: Feed, O: Outlet, E: Outlet, D: Door> Viewed<L, F, O, E, D> for OutsideFiles {
+    ghost at = { view (λ folder. option_map objects_of (L.disk folder)) (λ _. None) (λ _. 0) (λ _. 0)
+        F.left F.faults O.written O.faults E.written E.faults D.bound D.accepted D.served D.faults };
 }
 
 // Runs a command.
@@ -186,4 +197,32 @@ where
         }
         Ok(Some(command)) => run_command(rt, alloc, command, store, feed, out, err, door, gate),
     }
+}
+
+/// Runs a command over the files of a folder, as the calls of the system see and change them, and hands the folder
+/// back: the headline of `run`, said of the folder's files where it tells them. The program itself calls `run` over
+/// such a store. **So it is a theorem on real files, for whoever believes that the system's calls do what `Folder`
+/// says of them, and that `HostFolder` makes them.**
+pub fn run_in<R, L: Folder + Drop, F: Feed, O: Outlet, E: Outlet, D: Door, G: Gate + Sync>(
+    rt: &R,
+    alloc: Global,
+    words: &[String],
+    folder: L,
+    feed: &mut F,
+    out: &mut O,
+    err: &mut E,
+    door: &mut D,
+    gate: &G,
+) -> (Status, L)
+where
+    R: Threads + Wait + Sync,
+    requires { D.bound door.old ≡ None }
+    ensures headline { let at = ⟦<OutsideFiles as Viewed<L, F, O, E, D>>⟧.at in
+        Headline (line (map string_bytes words.now)) result.0
+        (at folder feed.old out.old err.old door.old)
+        (at result.1 feed.new out.new err.new door.new) }
+{
+    let mut store = DirStore::new(folder, alloc);
+    let status = run(rt, alloc, words, &mut store, feed, out, err, door, gate);
+    (status, store.into_folder())
 }

@@ -43,7 +43,7 @@ fn link_of(alloc: Global, bytes: &[u8], piece: usize, failing: &[u64]) -> Result
 fn serve_link<L: Link>(alloc: Global, link: &mut L, failing: &[u64]) -> Result<Ended, Fail> {
     let mut store = store_of(alloc, OBJECTS, failing)?;
     let dataset = name_of("d")?;
-    Ok(serve_to_end(alloc, link, &mut store, &dataset).ended)
+    Ok(serve_to_end(alloc, link, &mut store, &dataset, &mut None).ended)
 }
 
 // What is sent to a peer whose bytes come in pieces, and how serving ends.

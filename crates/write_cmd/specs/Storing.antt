@@ -4,14 +4,16 @@ use Rattle.std.specs.Prelude.{◌≡◌, ◌⊎◌, ℕ, drop, All, ◌≤◌, �
 use Rattle.std.specs.Option.{option_map}
 use Rattle.vol_base.specs.declared.boxes.Box3.{Box3}
 use Rattle.vol_base.specs.Bytes.{AreBytes}
+use Rattle.vol_base.specs.Causes.{HasCauseOf}
 use Rattle.vol_base.specs.Outside.{any_under, Draft, Objects, OnlyReads}
+use Rattle.vol_base.specs.declared.outside.Source.{Ghosts}
 use Rattle.vol_spec.specs.CellNames.{folder_of}
 use Rattle.vol_spec.specs.Grid.{Inside}
 use Rattle.vol_spec.specs.Types.{Bytes, Name, Writes}
 use Rattle.vol_spec.specs.Writable.{IsWritable}
 use Rattle.vol_spec.specs.declared.scale.Scale.{Scale}
 use Rattle.chunk_laws.specs.Told.{HasLastWrites, ReadsBack}
-use Rattle.shard_writer.specs.Writing.{joint_len, PutsFront}
+use Rattle.shard_writer.specs.Writing.{Drops, joint_len, PutsFront}
 use Rattle.shard_writer.specs.declared.written.Written.{Written}
 use Rattle.write_plan.specs.Stream.{writes_of}
 use Rattle.write_plan.specs.declared.fault.PlanFault.{PlanFault}
@@ -157,6 +159,15 @@ KeepsPlan refused.StoreFault old new before now = Unit {0}
 KeepsPlan refused.NoMemory old new before now = Unit {0}
 KeepsPlan (refused.TooManyCells cells) old new before now = OnlyReads old new before now
 KeepsPlan other old new before now = ⊥
+
+-- what is left of a store that a list of writes is put in: nothing is being written, or what was before; and the store's count rose at its fault,
+-- and stands at success
+pub record WriteLeaves {T : Type 0} (store : Ghosts T) (before after : T)
+    (result : Result Written WriteRefusal) : Type 0 where
+  pub draft : Drops (store.draft before) (store.draft after)
+  pub kept : IfErr result (λ refusal. KeepsStore refusal (store.objects before) (store.objects after)
+      (store.draft before) (store.draft after))
+  pub cause : HasCauseOf refused.StoreFault (store.faults before) (store.faults after) result
 
 -- what is right of the answer of `write`: over objects, the feed told or not; over both; and where nothing is told, what is left of the
 -- feed, and that a refusal of a status that puts nothing changed no object

@@ -13,7 +13,7 @@ ghost use Rattle.command_base.specs.Ending.{EndsWell, IsCaused};
 ghost use Rattle.command_base.specs.Outlets.{outlets_of};
 ghost use Rattle.command_base.specs.Scales.{stored_scale};
 ghost use Rattle.command_base.specs.Statuses.{prints, puts};
-ghost use Rattle.write_cmd.specs.Storing.{CanWrite, Judges, JudgesLimit, KeepsFeed, KeepsPlan, KeepsStore, PutsWrites, TakesStream, WritesAll, WritesScale, WrittenBack, Wrote};
+ghost use Rattle.write_cmd.specs.Storing.{CanWrite, Judges, JudgesLimit, KeepsFeed, KeepsPlan, PutsWrites, TakesStream, WriteLeaves, WritesAll, WritesScale, WrittenBack, Wrote};
 
 use crate::refusal::WriteRefusal;
 use chunk_grid::find_folder;
@@ -92,10 +92,7 @@ pub fn write_list<R: Threads + Wait + Sync, S: Store, F: Feed, G: Gate + Sync>(
         (writes_of bytes scale.now) dataset.now key scale.now)) }
     ensures feed { KeepsFeed result (F.left feed.old) (F.left feed.new) }
     ensures took { TakesStream (F.left feed.old) (F.left feed.new) }
-    ensures draft { Drops (S.draft store.old) (S.draft store.new) }
-    ensures kept { IfErr result (λ refusal. KeepsStore refusal (S.objects store.old) (S.objects store.new)
-        (S.draft store.old) (S.draft store.new)) }
-    ensures cause { HasCauseOf WriteRefusal.StoreFault (S.faults store.old) (S.faults store.new) result }
+    ensures leaves { WriteLeaves S.Source store.old store.new result }
     ensures feed_cause { HasCauseOf WriteRefusal.FeedFault (F.faults feed.old) (F.faults feed.new) result }
 {
     let writes = read_writes(crew.alloc, feed, scale)?;
@@ -120,10 +117,7 @@ fn write_objects<R: Threads + Wait + Sync, S: Store, F: Feed, G: Gate + Sync>(
         (S.objects store.new) (writes_of bytes) dataset.now key.now)) }
     ensures feed { KeepsFeed result (F.left feed.old) (F.left feed.new) }
     ensures took { TakesStream (F.left feed.old) (F.left feed.new) }
-    ensures draft { Drops (S.draft store.old) (S.draft store.new) }
-    ensures kept { IfErr result (λ refusal. KeepsStore refusal (S.objects store.old) (S.objects store.new)
-        (S.draft store.old) (S.draft store.new)) }
-    ensures cause { HasCauseOf WriteRefusal.StoreFault (S.faults store.old) (S.faults store.new) result }
+    ensures leaves { WriteLeaves S.Source store.old store.new result }
     ensures feed_cause { HasCauseOf WriteRefusal.FeedFault (F.faults feed.old) (F.faults feed.new) result }
 {
     let scale = read_scale(crew.alloc, store, dataset, key)?;

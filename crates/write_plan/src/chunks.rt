@@ -61,7 +61,8 @@ pub trait Chunks {
     }
 
     /// Prepares the jobs from one number up to, not with, another: at most a window of them where they hold values, and
-    /// else as many as there are. What is kept must be what the objects say, as it is after `forget`, and behind another call where the objects stayed the same.
+    /// else as many as there are. What is kept must be what the objects say, as it is after `forget`, and behind another
+    /// call where the objects stayed the same.
     ///
     /// # Errors
     /// `StoreFault` only where the store failed; else `Damaged` exactly where one of these jobs has a

@@ -355,7 +355,7 @@ fn serve_long(alloc: Global, call: u64) -> Result<(Vec<u8>, Ended), Fail> {
     let stream = Vec::from_slice(alloc, b"GET /s/long HTTP/1.1\r\n\r\n")?;
     let link = MemoryLink::new(alloc, stream, 1 << 20, 1 << 20, Vec::new(alloc))?;
     let mut link = CutLink::new(link, Vec::from_slice(alloc, &[1])?);
-    let ended = serve_to_end(alloc, &mut link, &mut store, &name_of("d")?).ended;
+    let ended = serve_to_end(alloc, &mut link, &mut store, &name_of("d")?, &mut None).ended;
     Ok((Vec::from_slice(alloc, link.sent())?, ended))
 }
 

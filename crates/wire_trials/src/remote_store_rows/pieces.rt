@@ -46,6 +46,8 @@ impl<D: Dial> Dial for PieceDial<D> {
 
     ghost received = { λ d. D.received d.dial };
 
+    ghost sent = { λ d. D.sent d.dial };
+
     ghost peer = { λ d. D.peer d.dial };
 
     ghost line = { λ d. D.line d.dial };

@@ -4,6 +4,7 @@ use Rattle.std.proofs.lemmas.List.{length-replicate}
 use Rattle.std.proofs.lemmas.List.Elements.{All-replicate}
 use Rattle.vol_spec.specs.Grid.{Inside, cells_in}
 use Rattle.vol_spec.specs.StoredCells.{AreInOrder}
+use Rattle.cutout.specs.Opened.{Opened}
 use Rattle.write_plan.specs.Pairs.{cell_count}
 use Rattle.copier.specs.Marks.{AreMarked, marked}
 use Rattle.copier.specs.Placed.{is_placed}
@@ -19,6 +20,12 @@ pub overflow_cast-count : goal.overflow_cast-count
 overflow_cast-count g c =
     let count : c.count_cells-count.result ≡ cell_count c.args.to.now = c.count_cells-count.ensures ∙ ap (λ b. length (cells_in c.args.to.now b)) c.whole.ensures ∙ count_whole c.args.to.now in
     omega (arith, count, c.requires.few)
+
+pub mark_placed-requires-clause-source : goal.mark_placed-requires-clause-source
+mark_placed-requires-clause-source g c = ap (λ (r : Opened). r.scale) c.forget.ensures.same ∙ c.requires.source
+
+pub mark_placed-requires-clause-keeps : goal.mark_placed-requires-clause-keeps
+mark_placed-requires-clause-keeps g c = c.forget.ensures.nothing (g.S.Source.objects c.args.store.now)
 
 pub mark_placed-requires-clause-len : goal.mark_placed-requires-clause-len
 mark_placed-requires-clause-len g c =
@@ -45,7 +52,9 @@ returns-in-Ok-list_marked-clause-few g c = subst (λ cells. length cells ≤ 2 ^
 pub returns-in-Ok-list_marked-clause-made : goal.returns-in-Ok-list_marked-clause-made
 returns-in-Ok-list_marked-clause-made g c =
     let kept : length c.mark_placed.new.marks ≡ length c.in-Ok.marks.items = c.mark_placed.auto.marks ∙ ap length c.deref_mut.ensures.value in
-    found_placed (g.P.Placing.place c.args.from.now c.args.to.now) (λ m. g.P.Placing.made m c.args.reader.now.dataset c.args.from.now c.args.to.now) (g.S.Source.objects c.args.store.now) c.args.reader.now.dataset c.args.from.now c.args.to.now c.deref.result.now c.in-Ok-list_marked.list.items
-    (λ m. g.met.P.Placing.placed m c.args.reader.now.dataset c.args.from.now c.args.to.now) c.in-Ok-list_marked.ensures
-    (subst (λ marks. IfSome (g.S.Source.objects c.args.store.now) (λ m. AreMarked c.args.to.now (is_placed (g.P.Placing.place c.args.from.now c.args.to.now) m c.args.reader.now.dataset c.args.from.now c.args.to.now) marks))
-    (sym (c.deref.ensures.value ∙ same_items c.in-Ok.marks c.mark_placed.new.marks kept)) c.in-Ok-mark_placed.ensures.marks)
+    found_placed (g.P.Placing.place c.args.from.now c.args.to.now) (λ m. g.P.Placing.made m c.args.reader.now.opened.dataset c.args.from.now c.args.to.now) (g.S.Source.objects c.args.store.now) c.args.reader.now.opened.dataset c.args.from.now c.args.to.now c.deref.result.now c.in-Ok-list_marked.list.items
+    (λ m. g.met.P.Placing.placed m c.args.reader.now.opened.dataset c.args.from.now c.args.to.now) c.in-Ok-list_marked.ensures
+    (subst (λ marks. IfSome (g.S.Source.objects c.args.store.now) (λ m. AreMarked c.args.to.now (is_placed (g.P.Placing.place c.args.from.now c.args.to.now) m c.args.reader.now.opened.dataset c.args.from.now c.args.to.now) marks))
+    (sym (c.deref.ensures.value ∙ same_items c.in-Ok.marks c.mark_placed.new.marks kept))
+    (subst (λ dataset. IfSome (g.S.Source.objects c.args.store.now) (λ m. AreMarked c.args.to.now (is_placed (g.P.Placing.place c.args.from.now c.args.to.now) m dataset c.args.from.now c.args.to.now) c.mark_placed.new.marks))
+    (ap (λ (r : Opened). r.dataset) c.forget.ensures.same) c.in-Ok-mark_placed.ensures.marks))

@@ -1,4 +1,4 @@
-use Rattle.std.proofs.Common.{◌≤◌, arith, length, length-take}
+use Rattle.std.proofs.Common.{arith, length-take}
 use Rattle.std.proofs.lemmas.List.{take_at}
 use Rattle.vol_spec.specs.Encodings.{raw_size}
 use Rattle.copier.proofs.TakingSteps.{kept_front, taken_front}

@@ -12,7 +12,7 @@ returns-in_err-scale-clause-asked g c =
 pub returns-clause-asked : goal.returns-clause-asked
 returns-clause-asked g c =
     asks_cells (g.S.Source.objects c.args.store.now) (g.S.Source.objects c.read_scale.new.store) c.args.dataset.now c.args.key.now c.in_ok-scale.scale c.args.part.now (g.S.Source.asked c.args.store.now)
-    (g.S.Source.asked c.read_scale.new.store) (g.S.Source.asked c.cut_scale.new.store) c.read_scale.ensures.kept.same_objects c.in_ok-scale.ensures.read c.read_scale.ensures.asked c.cut_scale.ensures.asked
+    (g.S.Source.asked c.read_scale.new.store) (g.S.Source.asked c.cut_scale.new.store) c.read_scale.ensures.reads.kept.same_objects c.in_ok-scale.ensures.read c.read_scale.ensures.asked c.cut_scale.ensures.asked
 
 pub returns-clause-unread : goal.returns-clause-unread
 returns-clause-unread g c =

@@ -10,5 +10,5 @@ loop-i-preserved g c = (
   c.seat_place.ensures.desks,
   omega (arith, c.loop-i.invariant.3, c.seat_place.ensures.left),
   omega (arith, c.loop-i.invariant.4, c.seat_place.ensures.room),
-  put_more _ c.loop-i.places c.loop-i.i c.seat_place.new.place (search rules) c.seat_place.ensures.there c.seat_place.ensures.idle c.loop-i.invariant.5,
+  put_more _ c.loop-i.places c.loop-i.i c.seat_place.new.place (search rules) c.seat_place.ensures.there c.seat_place.ensures.seated c.loop-i.invariant.5,
 )

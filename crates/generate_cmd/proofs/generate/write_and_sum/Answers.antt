@@ -14,13 +14,13 @@ returns-in-Err-clause-generates g c key =
 pub returns-in-Ok-sum_scale-clause-generates : goal.returns-in-Ok-sum_scale-clause-generates
 returns-in-Ok-sum_scale-clause-generates g c key =
     summed_told c.in-Ok.written c.in-Ok-sum_scale.sum (g.S.Source.objects c.args.store.now) (g.S.Source.objects c.write_list.new.store) (g.S.Source.objects c.sum_scale.new.store) (writes_of c.new-list.result c.args.scale.now)
-    (drawn c.args.number c.args.count) c.args.dataset.now key c.args.scale.now c.requires.small.1 c.new-list.ensures.read c.sum_scale.ensures.kept.same_objects
+    (drawn c.args.number c.args.count) c.args.dataset.now key c.args.scale.now c.requires.small.1 c.new-list.ensures.read c.sum_scale.ensures.reads.kept.same_objects
     (subst (λ r. IfSome (g.S.Source.objects c.args.store.now) (λ m. WritesScale r m (g.S.Source.objects c.write_list.new.store) (writes_of c.new-list.result c.args.scale.now) c.args.dataset.now key c.args.scale.now)) c.in-Ok.is (c.write_list.ensures.writes key))
     c.in-Ok-sum_scale.ensures.sums
 
 pub returns-in-Err-sum_scale-clause-generates : goal.returns-in-Err-sum_scale-clause-generates
 returns-in-Err-sum_scale-clause-generates g c key =
     unsummed_told c.in-Err-sum_scale.refusal (g.S.Source.objects c.args.store.now) (g.S.Source.objects c.write_list.new.store) (g.S.Source.objects c.sum_scale.new.store) (writes_of c.new-list.result c.args.scale.now)
-    (drawn c.args.number c.args.count) c.args.dataset.now key c.args.scale.now c.in-Ok.written c.requires.small.1 c.in-Err-sum_scale.ensures.refused c.new-list.ensures.read c.sum_scale.ensures.kept.same_objects
+    (drawn c.args.number c.args.count) c.args.dataset.now key c.args.scale.now c.in-Ok.written c.requires.small.1 c.in-Err-sum_scale.ensures.refused c.new-list.ensures.read c.sum_scale.ensures.reads.kept.same_objects
     (subst (λ r. IfSome (g.S.Source.objects c.args.store.now) (λ m. WritesScale r m (g.S.Source.objects c.write_list.new.store) (writes_of c.new-list.result c.args.scale.now) c.args.dataset.now key c.args.scale.now)) c.in-Ok.is (c.write_list.ensures.writes key))
     c.in-Err-sum_scale.ensures.sums

@@ -15,9 +15,10 @@ returns g c =
       bound = c.close-entrance.ensures.bound;
       exact = subst (λ n. IfSome (g.X.Exit.served c.close-exit.result.0) (λ list. HasExactly n (numbers_of list))) gone c.close-exit.ensures.exact;
       given =
-          subst (λ e. Accepts e g.N.Naming.jobs (now - g.N.Hall.accepted)) (sym c.end_of.ensures)
-          (accepts ran failed g.N.Naming.jobs g.N.Hall.accepted c.args.porch.given now c.close-entrance.ensures.accepted c.close-entrance.ensures.most
-          (λ e. c.close-entrance.ensures.fewer (sym c.close-entrance.ensures.failed ∙ e)) (λ e. c.requires.over (sym c.close-entrance.ensures.failed ∙ e)));
+          subst (λ e. Accepts e g.N.Naming.jobs g.N.Hall.count (g.D.Entrance.faults c.close-entrance.result.0) (now - g.N.Hall.accepted)) (sym c.end_of.ensures)
+          (accepts ran failed g.N.Naming.jobs g.N.Hall.accepted c.args.porch.given now g.N.Hall.count (g.D.Entrance.faults c.close-entrance.result.0) c.close-entrance.ensures.accepted
+          (λ e. c.close-entrance.ensures.fewer (sym c.close-entrance.ensures.failed ∙ e)) (λ f. c.close-entrance.ensures.rose (sym c.close-entrance.ensures.failed ∙ f))
+          (λ e. c.requires.over (sym c.close-entrance.ensures.failed ∙ e)));
       more = more;
       each =
           subst (λ e. EachServed g.N.Hall.told g.N.Hall.dataset (is_short e) (g.X.Exit.served c.close-exit.result.0) g.N.Hall.counts (map g.S.Source.faults c.args.stores.items)) (sym c.end_of.ensures)

@@ -11,4 +11,4 @@ keep_stored-requires-clause-counted g c =
 
 pub keep_stored-requires-clause-few : goal.keep_stored-requires-clause-few
 keep_stored-requires-clause-few g c =
-    few_met c.args.scale.now c.args.plan.now.writes c.in-Ok.found (subst (λ (s : Scale). Counts s (met s c.args.plan.now.writes) c.in-Ok.found) c.requires.plan c.in-Ok.ensures) c.requires.few
+    few_met c.args.stored.now.scale c.args.plan.now.writes c.in-Ok.found (subst (λ (s : Scale). Counts s (met s c.args.plan.now.writes) c.in-Ok.found) c.requires.plan c.in-Ok.ensures) c.requires.few

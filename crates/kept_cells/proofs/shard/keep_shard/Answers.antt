@@ -7,9 +7,9 @@ use Rattle.kept_cells.proofs.shard.keep_shard.Goals as goal
 pub loop-minishard-preserved : goal.loop-minishard-preserved
 loop-minishard-preserved g c = record {
   few = omega (arith, c.loop-minishard.invariant.few, c.in-Ok-true.ensures.few);
-  past = told_more c.args.scale.now c.args.sharding.now c.args.plan.now.writes c.args.shard (g.S.Source.objects c.args.store.now) _ c.shard_name-name.result c.loop-minishard.minishard c.keep_minishard.result c.in-Ok-true.field-0 c.args.found.now c.loop-minishard.found c.keep_minishard.new.found
+  past = told_more c.args.stored.now.scale c.args.sharding.now c.args.plan.now.writes c.args.shard (g.S.Source.objects c.args.store.now) _ c.shard_name-name.result c.loop-minishard.minishard c.keep_minishard.result c.in-Ok-true.field-0 c.args.found.now c.loop-minishard.found c.keep_minishard.new.found
       c.in-Ok-true.is c.in-Ok-true.field-0-test c.loop-minishard.invariant.kept.same_objects c.loop-minishard.invariant.past c.keep_minishard.ensures.keeps;
-  own = front_more c.args.scale.now c.args.sharding.now c.args.plan.now.writes c.args.shard c.loop-minishard.minishard c.args.found.now c.loop-minishard.found c.keep_minishard.new.found c.loop-minishard.invariant.own c.in-Ok-true.ensures.own;
+  own = front_more c.args.stored.now.scale c.args.sharding.now c.args.plan.now.writes c.args.shard c.loop-minishard.minishard c.args.found.now c.loop-minishard.found c.keep_minishard.new.found c.loop-minishard.invariant.own c.in-Ok-true.ensures.own;
   kept = record {
     same_objects = c.in-Ok-true.ensures.reads.kept.same_objects ∙ c.loop-minishard.invariant.kept.same_objects;
     same_draft = c.in-Ok-true.ensures.reads.kept.same_draft ∙ c.loop-minishard.invariant.kept.same_draft;
@@ -19,24 +19,24 @@ loop-minishard-preserved g c = record {
 
 pub returns-in-Ok-false-clause-keeps : goal.returns-in-Ok-false-clause-keeps
 returns-in-Ok-false-clause-keeps g c =
-    told_absent c.args.scale.now c.args.sharding.now c.args.plan.now.writes c.args.shard (g.S.Source.objects c.args.store.now) _ c.args.dataset.now c.shard_name-name.result c.loop-minishard.minishard c.keep_minishard.result c.in-Ok-false.field-0 c.args.found.now c.loop-minishard.found c.keep_minishard.new.found
+    told_absent c.args.stored.now.scale c.args.sharding.now c.args.plan.now.writes c.args.shard (g.S.Source.objects c.args.store.now) _ c.args.stored.now.dataset c.shard_name-name.result c.loop-minishard.minishard c.keep_minishard.result c.in-Ok-false.field-0 c.args.found.now c.loop-minishard.found c.keep_minishard.new.found
     c.in-Ok-false.is c.in-Ok-false.field-0-test c.loop-minishard.invariant.kept.same_objects c.shard_name-name.ensures c.loop-minishard.invariant.past c.keep_minishard.ensures.keeps
 
 pub returns-in-Err-clause-keeps : goal.returns-in-Err-clause-keeps
 returns-in-Err-clause-keeps g c =
-    subst (λ e. IfSome (g.S.Source.objects c.args.store.now) (λ m. KeepsCells m c.args.dataset.now c.args.scale.now c.args.sharding.now c.args.plan.now.writes c.args.shard (Err e) c.args.found.now c.keep_minishard.new.found)) (sym c.refused.ensures)
-    (told_refused c.args.scale.now c.args.sharding.now c.args.plan.now.writes c.args.shard (g.S.Source.objects c.args.store.now) _ c.args.dataset.now c.shard_name-name.result c.loop-minishard.minishard (2 ^ c.args.sharding.now.minishard_bits) c.keep_minishard.result c.in-Err.fault c.args.found.now c.loop-minishard.found c.keep_minishard.new.found c.keep_minishard.new.found
+    subst (λ e. IfSome (g.S.Source.objects c.args.store.now) (λ m. KeepsCells m c.args.stored.now.dataset c.args.stored.now.scale c.args.sharding.now c.args.plan.now.writes c.args.shard (Err e) c.args.found.now c.keep_minishard.new.found)) (sym c.refused.ensures)
+    (told_refused c.args.stored.now.scale c.args.sharding.now c.args.plan.now.writes c.args.shard (g.S.Source.objects c.args.store.now) _ c.args.stored.now.dataset c.shard_name-name.result c.loop-minishard.minishard (2 ^ c.args.sharding.now.minishard_bits) c.keep_minishard.result c.in-Err.fault c.args.found.now c.loop-minishard.found c.keep_minishard.new.found c.keep_minishard.new.found
     c.in-Err.is c.loop-minishard.invariant.kept.same_objects c.shard_name-name.ensures (let few = few_minishards c.args.sharding.now.minishard_bits c.args.sharding.now.minishard_ok in omega (arith, few, c.loop-minishard-test.true)) refl c.loop-minishard.invariant.past c.keep_minishard.ensures.keeps)
 
 pub returns-clause-keeps : goal.returns-clause-keeps
 returns-clause-keeps g c =
-    told_all c.args.scale.now c.args.sharding.now c.args.plan.now.writes c.args.shard (g.S.Source.objects c.args.store.now) c.args.dataset.now c.shard_name-name.result c.loop-minishard.minishard c.args.found.now c.loop-minishard.found c.shard_name-name.ensures
+    told_all c.args.stored.now.scale c.args.sharding.now c.args.plan.now.writes c.args.shard (g.S.Source.objects c.args.store.now) c.args.stored.now.dataset c.shard_name-name.result c.loop-minishard.minishard c.args.found.now c.loop-minishard.found c.shard_name-name.ensures
     (let few = few_minishards c.args.sharding.now.minishard_bits c.args.sharding.now.minishard_ok in omega (arith, few, c.loop-minishard-test.false, c.loop-minishard.auto.minishard-end)) c.loop-minishard.invariant.past
 
 pub returns-in-Ok-false-clause-own : goal.returns-in-Ok-false-clause-own
 returns-in-Ok-false-clause-own g c =
-    front_all c.args.scale.now c.args.sharding.now c.args.plan.now.writes c.args.shard (c.loop-minishard.minishard + 1) c.args.found.now c.keep_minishard.new.found
-    (front_more c.args.scale.now c.args.sharding.now c.args.plan.now.writes c.args.shard c.loop-minishard.minishard c.args.found.now c.loop-minishard.found c.keep_minishard.new.found c.loop-minishard.invariant.own c.in-Ok-false.ensures.own)
+    front_all c.args.stored.now.scale c.args.sharding.now c.args.plan.now.writes c.args.shard (c.loop-minishard.minishard + 1) c.args.found.now c.keep_minishard.new.found
+    (front_more c.args.stored.now.scale c.args.sharding.now c.args.plan.now.writes c.args.shard c.loop-minishard.minishard c.args.found.now c.loop-minishard.found c.keep_minishard.new.found c.loop-minishard.invariant.own c.in-Ok-false.ensures.own)
 
 pub returns-clause-own : goal.returns-clause-own
-returns-clause-own g c = front_all c.args.scale.now c.args.sharding.now c.args.plan.now.writes c.args.shard c.loop-minishard.minishard c.args.found.now c.loop-minishard.found c.loop-minishard.invariant.own
+returns-clause-own g c = front_all c.args.stored.now.scale c.args.sharding.now c.args.plan.now.writes c.args.shard c.loop-minishard.minishard c.args.found.now c.loop-minishard.found c.loop-minishard.invariant.own

@@ -10,8 +10,8 @@ use Rattle.kept_cells.proofs.touched.keep_touched.Given as goal
 abbrev pub invariant-loop-shard : goal.invariant-loop-shard
 invariant-loop-shard g l = record {
   few : l.found.count ≤ 2 ^ 22;
-  past : WithTold l.scale l.sharding l.plan.writes (g.S.Source.objects l.fn.store) l.dataset l.shard-index l.found;
-  own : CountsBut l.scale (met l.scale l.plan.writes) (is_of l.scale l.sharding (take l.shard-index (touched_shards l.scale l.sharding l.plan.writes))) l.found;
+  past : WithTold l.stored.scale l.sharding l.plan.writes (g.S.Source.objects l.fn.store) l.stored.dataset l.shard-index l.found;
+  own : CountsBut l.stored.scale (met l.stored.scale l.plan.writes) (is_of l.stored.scale l.sharding (take l.shard-index (touched_shards l.stored.scale l.sharding l.plan.writes))) l.found;
   kept : OnlyReads (g.S.Source.objects l.fn.store) (g.S.Source.objects l.store) (g.S.Source.draft l.fn.store) (g.S.Source.draft l.store);
   later : g.S.Source.faults l.store ≡ g.S.Source.faults l.fn.store;
 }

@@ -5,13 +5,13 @@ use Rattle.make_scale.proofs.scale.write_made.Goals as goal
 
 pub returns-clause-puts : goal.returns-clause-puts
 returns-clause-puts g c =
-    wrote (g.S.Source.objects c.args.store.now) (g.S.Source.objects c.begin.new.store) (g.S.Source.objects c.write_scale.new.store) c.args.to_dataset.now (g.M.Maker.Chunks.work c.in_ok-maker.maker)
-    (λ m now. g.M.Making.says c.args.making.now m now c.args.from_dataset.now c.args.from.now c.args.to_dataset.now c.args.to.now) c.write_scale.result c.begin.ensures.reads.kept.same_objects
+    wrote (g.S.Source.objects c.args.store.now) (g.S.Source.objects c.begin.new.store) (g.S.Source.objects c.write_scale.new.store) c.args.to.now.dataset (g.M.Maker.Chunks.work c.in_ok-maker.maker)
+    (λ m now. g.M.Making.says c.args.making.now m now c.args.from.now.dataset c.args.from.now.scale c.args.to.now.dataset c.args.to.now.scale) c.write_scale.result c.begin.ensures.reads.kept.same_objects
     c.write_scale.ensures.put c.write_scale.ensures.front c.write_scale.ensures.spares c.write_scale.ensures.objects c.write_scale.ensures.cells c.write_scale.ensures.bytes c.write_scale.ensures.answer
     c.in_ok-maker.ensures.says
 
 pub returns-in_err-maker-clause-puts : goal.returns-in_err-maker-clause-puts
 returns-in_err-maker-clause-puts g c =
     let is = err_is c.from_residual.result (of_store c.in_err-maker.field-0.0) c.from_residual.ensures.1 in
-    unbegun_in (g.S.Source.objects c.args.store.now) (g.S.Source.objects c.begin.new.store) (λ m now. g.M.Making.says c.args.making.now m now c.args.from_dataset.now c.args.from.now c.args.to_dataset.now c.args.to.now) c.from_residual.result
-    c.in_err-maker.field-0.0 is (λ m. g.met.M.Making.untouched c.args.making.now m c.args.from_dataset.now c.args.from.now c.args.to_dataset.now c.args.to.now) c.begin.ensures.reads.kept.same_objects
+    unbegun_in (g.S.Source.objects c.args.store.now) (g.S.Source.objects c.begin.new.store) (λ m now. g.M.Making.says c.args.making.now m now c.args.from.now.dataset c.args.from.now.scale c.args.to.now.dataset c.args.to.now.scale) c.from_residual.result
+    c.in_err-maker.field-0.0 is (λ m. g.met.M.Making.untouched c.args.making.now m c.args.from.now.dataset c.args.from.now.scale c.args.to.now.dataset c.args.to.now.scale) c.begin.ensures.reads.kept.same_objects

@@ -19,7 +19,6 @@ loop-number-preserved g c =
     let on = subst (λ t. IfNext t (λ more. (m : Objects) → g.S.Source.objects c.loop-number.store ≡ Some m → (rest : List ℕ) → waiting ≡ Some rest
     → GoesOn m c.args.dataset.now c.loop-number.number rest sent next (pending c.serve_one.new.desk.received.items more (g.L.Link.left c.serve_one.new.link)))) c.in-Ok-Next.field-0-is c.in-Ok-Next.ensures.goes_on in
     record {
-      ready = c.serve_one.ensures.ready;
       calm = calm;
       within = within;
       alive = elim (cases_eq (c.loop-number.number + 1) 65536) [ inl e ↦ absurd (last (omega (arith, e))) | inr apart ↦ below c.loop-number-test.true apart ];
@@ -27,7 +26,7 @@ loop-number-preserved g c =
           (c.loop-number.invariant.reached m told stream all) (λ rest is. on m (c.loop-number.invariant.kept.same_objects ∙ told) rest is);
       stream = c.serve_one.ensures.serves.stream ∙ c.loop-number.invariant.stream;
       kept = record { same_objects = c.serve_one.ensures.serves.kept.same_objects ∙ c.loop-number.invariant.kept.same_objects; same_draft = c.serve_one.ensures.serves.kept.same_draft ∙ c.loop-number.invariant.kept.same_draft };
-      link_later = omega (arith, c.loop-number.invariant.link_later, c.serve_one.ensures.serves.cause.link_later);
+      link_stands = c.serve_one.ensures.serves.cause.link_stands (λ no. absurd (cc no)) ∙ c.loop-number.invariant.link_stands;
       store_later = omega (arith, c.loop-number.invariant.store_later, c.serve_one.ensures.serves.cause.store_later);
     }
   where

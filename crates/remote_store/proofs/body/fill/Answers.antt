@@ -51,7 +51,7 @@ loop-there-preserved g c =
       line = given_from _ _ _ t0 t n a b i.line e.line e.kept i.more e.more;
       ends = e.ends ∙ no_end n t _ e.more c.if-more-there.false ∙ i.ends;
       held = e.held ∙ i.held;
-      same = record { same_peer = e.same.same_peer ∙ i.same.same_peer; same_dialled = e.same.same_dialled ∙ i.same.same_dialled };
+      same = record { same_peer = e.same.same_peer ∙ i.same.same_peer; same_dialled = e.same.same_dialled ∙ i.same.same_dialled; same_sent = e.same.same_sent ∙ i.same.same_sent };
       stands = e.cause.stands ∙ i.stands;
     }
 

@@ -46,6 +46,6 @@ loop-done-preserved g c =
       room = omega (arith, i.room, length-append f.new.buffer (drop piece c.loop-done.scratch), f.auto.buffer, full, c.min-piece.ensures, c.loop-done-test.true);
       ends = omega (arith, i.ends, passed.later);
       held = f.ensures.held ∙ i.held;
-      same = record { same_peer = f.ensures.same.same_peer ∙ i.same.same_peer; same_dialled = f.ensures.same.same_dialled ∙ i.same.same_dialled };
+      same = record { same_peer = f.ensures.same.same_peer ∙ i.same.same_peer; same_dialled = f.ensures.same.same_dialled ∙ i.same.same_dialled; same_sent = f.ensures.same.same_sent ∙ i.same.same_sent };
       stands = stood _ c.in-Ok.is f.ensures.cause ∙ i.stands;
     }

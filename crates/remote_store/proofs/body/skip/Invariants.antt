@@ -1,5 +1,5 @@
 use Rattle.std.proofs.Common.{◌≡◌, ◌≤◌, ◌-◌, ◌<◌, ℕ, List, length}
-use Rattle.remote_store.specs.Dials.{SamePeer}
+use Rattle.remote_store.specs.Dials.{OnlyReceives}
 use Rattle.remote_store.proofs.Bodies.{Sofar}
 use Rattle.remote_store.proofs.body.skip.Given as goal
 
@@ -10,7 +10,7 @@ invariant-loop-done g l = record {
   room : 0 < length l.scratch;
   ends : g.D.Dial.ends l.fn.dial ≤ g.D.Dial.ends l.dial;
   held : g.D.Dial.holds l.dial ≡ g.D.Dial.holds l.fn.dial;
-  same : SamePeer (g.D.Dial.peer l.fn.dial) (g.D.Dial.peer l.dial) (g.D.Dial.dialled l.fn.dial) (g.D.Dial.dialled l.dial);
+  same : OnlyReceives (g.D.Dial.peer l.fn.dial) (g.D.Dial.peer l.dial) (g.D.Dial.dialled l.fn.dial) (g.D.Dial.dialled l.dial) (g.D.Dial.sent l.fn.dial) (g.D.Dial.sent l.dial);
   stands : g.D.Dial.faults l.dial ≡ g.D.Dial.faults l.fn.dial;
 }
 

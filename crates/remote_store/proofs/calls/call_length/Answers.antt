@@ -1,5 +1,9 @@
-use Rattle.std.proofs.Common.{◌∙◌}
+use Rattle.std.proofs.Common.{◌∙◌, ap}
 use Rattle.remote_store.specs.declared.wanted.Wanted.TheVariants.{Length}
+use Rattle.remote_store.specs.Sent.{request_bytes}
+use Rattle.remote_store.specs.Texts.{request_text}
+use Rattle.remote_store.proofs.AskSteps.{asks_text}
+use Rattle.remote_store.proofs.RequestTexts.{printed}
 use Rattle.remote_store.proofs.EndSteps.{end_of}
 use Rattle.remote_store.proofs.CallSteps.{asks_for, peer_fits, told_length}
 use Rattle.remote_store.proofs.SentSteps.{sent_request}
@@ -27,3 +31,8 @@ returns-clause-sent g c =
     let bytes = c.as_slice.ensures.value ∙ c.write_request.ensures.bytes in
     sent_request c.ask_length.result c.args.host.now c.args.peer.now c.as_slice.result.now c.args.key.now c.args.port Length c.args.kept.now (g.D.Dial.peer c.args.dial.now) (g.D.Dial.line c.args.dial.now) (g.D.Dial.line c.ask_length.new.dial)
     c.requires.peer bytes c.ask_length.ensures.sent
+
+pub returns-clause-asks : goal.returns-clause-asks
+returns-clause-asks g c =
+    let bytes = c.as_slice.ensures.value ∙ c.write_request.ensures.bytes ∙ ap (λ p. request_text p c.args.key.now Length) c.requires.peer ∙ printed c.args.host.now c.args.port c.args.key.now Length in
+    asks_text c.ask_length.result c.as_slice.result.now (request_bytes (c.args.host.now, c.args.port) c.args.key.now Length) (g.D.Dial.sent c.args.dial.now) (g.D.Dial.sent c.ask_length.new.dial) bytes c.ask_length.ensures.asks

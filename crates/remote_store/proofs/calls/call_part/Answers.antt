@@ -1,5 +1,9 @@
-use Rattle.std.proofs.Common.{◌∙◌, length}
+use Rattle.std.proofs.Common.{◌∙◌, ap, length}
 use Rattle.remote_store.specs.declared.wanted.Wanted.TheVariants.{Part}
+use Rattle.remote_store.specs.Sent.{request_bytes}
+use Rattle.remote_store.specs.Texts.{request_text}
+use Rattle.remote_store.proofs.AskSteps.{asks_text}
+use Rattle.remote_store.proofs.RequestTexts.{printed}
 use Rattle.remote_store.proofs.EndSteps.{end_of}
 use Rattle.remote_store.proofs.CallSteps.{asks_for, peer_fits, told_part}
 use Rattle.remote_store.proofs.SentSteps.{sent_request}
@@ -28,3 +32,8 @@ returns-clause-sent g c =
     let bytes = c.as_slice.ensures.value ∙ c.write_request.ensures.bytes in
     sent_request c.ask_part.result c.args.host.now c.args.peer.now c.as_slice.result.now c.args.key.now c.args.port (Part c.args.from (length c.args.out.now)) c.args.kept.now (g.D.Dial.peer c.args.dial.now) (g.D.Dial.line c.args.dial.now) (g.D.Dial.line c.ask_part.new.dial)
     c.requires.peer bytes c.ask_part.ensures.sent
+
+pub returns-clause-asks : goal.returns-clause-asks
+returns-clause-asks g c =
+    let bytes = c.as_slice.ensures.value ∙ c.write_request.ensures.bytes ∙ ap (λ p. request_text p c.args.key.now (Part c.args.from (length c.args.out.now))) c.requires.peer ∙ printed c.args.host.now c.args.port c.args.key.now (Part c.args.from (length c.args.out.now)) in
+    asks_text c.ask_part.result c.as_slice.result.now (request_bytes (c.args.host.now, c.args.port) c.args.key.now (Part c.args.from (length c.args.out.now))) (g.D.Dial.sent c.args.dial.now) (g.D.Dial.sent c.ask_part.new.dial) bytes c.ask_part.ensures.asks

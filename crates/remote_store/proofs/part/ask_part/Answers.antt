@@ -1,5 +1,6 @@
 use Rattle.std.proofs.Common.{◌≡◌, ◌≤◌, ◌∙◌, ◌++◌, true, false, IsTrue, Ok, Err, Some, None, take, length, length-take, ap, subst, sym, refl, arith}
 use Rattle.remote_store.specs.Dials.{Dials}
+use Rattle.remote_store.proofs.AskSteps.{asks_still}
 use Rattle.remote_store.proofs.EndSteps.{end_dropped}
 use Rattle.remote_store.proofs.HeardParts.{begun_some, heard_there, kept_behind}
 use Rattle.remote_store.proofs.SentSteps.{sent_still}
@@ -103,3 +104,15 @@ returns-in-Ok-false-clause-sent g c =
     let is : c.finish_part.result ≡ Ok false = c.in-Ok-false.is ∙ ap Ok c.in-Ok-false.field-0-test in
     let fin = c.finish_part.ensures.finished in
     sent_still c.finish_part.result false is c.args.kept.now c.args.text.now fin.0 (g.D.Dial.peer c.args.dial.now) _ _ (g.D.Dial.line c.args.dial.now) (g.D.Dial.line c.start.new.dial) (g.D.Dial.line c.finish_part.new.dial) fin.1.came c.in-Ok-Some.ensures.sent
+
+pub returns-in-Ok-true-clause-asks : goal.returns-in-Ok-true-clause-asks
+returns-in-Ok-true-clause-asks g c =
+    asks_still (Ok c.in-Ok-Some.field-0) (Ok (Some c.in-Ok-Some.begun.promise)) c.args.text.now (g.D.Dial.sent c.args.dial.now) (g.D.Dial.sent c.start.new.dial) (g.D.Dial.sent c.finish_part.new.dial) c.finish_part.ensures.same.same_sent (λ h. h) c.in-Ok-Some.ensures.asks
+
+pub returns-in-Ok-false-clause-asks : goal.returns-in-Ok-false-clause-asks
+returns-in-Ok-false-clause-asks g c =
+    asks_still (Ok c.in-Ok-Some.field-0) (Ok None) c.args.text.now (g.D.Dial.sent c.args.dial.now) (g.D.Dial.sent c.start.new.dial) (g.D.Dial.sent c.finish_part.new.dial) c.finish_part.ensures.same.same_sent (λ h. h) c.in-Ok-Some.ensures.asks
+
+pub returns-in-Err-finish_part-clause-asks : goal.returns-in-Err-finish_part-clause-asks
+returns-in-Err-finish_part-clause-asks g c =
+    asks_still (Ok c.in-Ok-Some.field-0) (Err c.in-Err-finish_part.failed) c.args.text.now (g.D.Dial.sent c.args.dial.now) (g.D.Dial.sent c.start.new.dial) (g.D.Dial.sent c.finish_part.new.dial) c.finish_part.ensures.same.same_sent (λ h. tt) c.in-Ok-Some.ensures.asks

@@ -1,4 +1,5 @@
 use Rattle.std.proofs.Common.{◌≡◌, None, IsTrue, inl, refl, rules}
+use Rattle.remote_store.proofs.AskSteps.{front_none}
 use Rattle.remote_store.proofs.ToldAsks.{has_none}
 use Rattle.remote_store.proofs.start.ask_kept.Goals as goal
 
@@ -23,3 +24,6 @@ pub returns-in-Ok-Some-clause-sent : goal.returns-in-Ok-Some-clause-sent
 returns-in-Ok-Some-clause-sent g c =
     let on : IsTrue c.args.kept = search rules in
     inl (on, c.in-Ok-Some.ensures.sent)
+
+pub returns-then-not-kept-clause-front : goal.returns-then-not-kept-clause-front
+returns-then-not-kept-clause-front g c = front_none c.args.text.now (g.D.Dial.sent c.args.dial.now) (g.D.Dial.sent c.args.dial.now) refl

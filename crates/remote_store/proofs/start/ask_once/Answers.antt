@@ -1,5 +1,6 @@
 use Rattle.std.proofs.Common.{take}
 use Rattle.remote_store.proofs.HeardParts.{counted_nothing}
+use Rattle.remote_store.proofs.AskSteps.{front_still, whole_still}
 use Rattle.remote_store.proofs.SentSteps.{sent_once}
 use Rattle.remote_store.proofs.ToldParts.{told_once}
 use Rattle.remote_store.proofs.start.ask_once.Goals as goal
@@ -18,3 +19,11 @@ pub returns-clause-sent : goal.returns-clause-sent
 returns-clause-sent g c =
     let b = c.begin-answer in
     sent_once b.result c.args.text.now _ _ _ (g.D.Dial.line c.args.dial.now) (g.D.Dial.line c.send_all.new.dial) (g.D.Dial.line b.new.dial) c.in-Ok.ensures.line b.ensures.came
+
+pub returns-clause-whole : goal.returns-clause-whole
+returns-clause-whole g c =
+    whole_still c.begin-answer.result c.args.text.now (g.D.Dial.sent c.args.dial.now) (g.D.Dial.sent c.send_all.new.dial) (g.D.Dial.sent c.begin-answer.new.dial) c.begin-answer.ensures.same.same_sent c.in-Ok.ensures.sent
+
+pub returns-clause-front : goal.returns-clause-front
+returns-clause-front g c =
+    front_still c.args.text.now (g.D.Dial.sent c.args.dial.now) (g.D.Dial.sent c.send_all.new.dial) (g.D.Dial.sent c.begin-answer.new.dial) c.begin-answer.ensures.same.same_sent c.send_all.ensures.front

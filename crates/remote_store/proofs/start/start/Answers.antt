@@ -1,5 +1,6 @@
-use Rattle.std.proofs.Common.{◌≡◌, Some, None, take}
+use Rattle.std.proofs.Common.{◌≡◌, ◌++◌, Some, None, inl, take}
 use Rattle.std.proofs.lemmas.Result.{IfOk-weaker}
+use Rattle.remote_store.proofs.AskSteps.{asks_last, front_still, front_twice, once_front}
 use Rattle.remote_store.proofs.SentSteps.{sent_new, some_kept}
 use Rattle.remote_store.proofs.ToldParts.{told_kept, told_new}
 use Rattle.remote_store.proofs.start.start.Goals as goal
@@ -29,3 +30,26 @@ pub returns-clause-sent : goal.returns-clause-sent
 returns-clause-sent g c =
     sent_new c.ask_once.result c.args.kept c.args.text.now (g.D.Dial.peer c.args.dial.now) (g.D.Dial.peer c.ask_kept.new.dial) (g.D.Dial.line c.args.dial.now) (g.D.Dial.line c.dial.new.self) (g.D.Dial.line c.ask_once.new.dial)
     c.ask_kept.ensures.same.same_peer c.in-Ok.ensures.line c.ask_once.ensures.sent
+
+pub returns-in-Ok-Some-clause-asks : goal.returns-in-Ok-Some-clause-asks
+returns-in-Ok-Some-clause-asks g c =
+    let is : c.in-Ok-Some.field-0 ≡ Some c.in-Ok-Some.answer = cc in record {
+      whole = inl (some_kept c.in-Ok-Some.field-0 c.in-Ok-Some.answer is c.in-Ok-Some.ensures.whole);
+      front = front_twice c.args.text.now (g.D.Dial.sent c.args.dial.now) (g.D.Dial.sent c.ask_kept.new.dial) c.ask_kept.ensures.front;
+    }
+
+pub returns-in-Err-clause-asks : goal.returns-in-Err-clause-asks
+returns-in-Err-clause-asks g c = record { whole = tt; front = front_twice c.args.text.now (g.D.Dial.sent c.args.dial.now) (g.D.Dial.sent c.ask_kept.new.dial) c.ask_kept.ensures.front }
+
+pub returns-in-Err-dial-clause-asks : goal.returns-in-Err-dial-clause-asks
+returns-in-Err-dial-clause-asks g c =
+    let none : c.in-Ok-None.field-0 ≡ None = cc in
+    let text = c.args.text.now in record {
+      whole = tt;
+      front = front_still (text ++ text) (g.D.Dial.sent c.args.dial.now) (g.D.Dial.sent c.ask_kept.new.dial) (g.D.Dial.sent c.dial.new.self) c.dial.ensures.sent (once_front text (g.D.Dial.sent c.args.dial.now) (g.D.Dial.sent c.ask_kept.new.dial) (c.in-Ok-None.ensures.once none));
+    }
+
+pub returns-clause-asks : goal.returns-clause-asks
+returns-clause-asks g c =
+    let none : c.in-Ok-None.field-0 ≡ None = cc in
+    asks_last c.ask_once.result c.args.text.now (g.D.Dial.sent c.args.dial.now) (g.D.Dial.sent c.ask_kept.new.dial) (g.D.Dial.sent c.dial.new.self) (g.D.Dial.sent c.ask_once.new.dial) (c.in-Ok-None.ensures.once none) c.dial.ensures.sent c.ask_once.ensures.whole c.ask_once.ensures.front

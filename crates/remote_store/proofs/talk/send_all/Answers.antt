@@ -1,4 +1,5 @@
 use Rattle.std.proofs.Common.{◌∙◌, length, ◌-◌, arith}
+use Rattle.vol_base.proofs.Gained.{gained-next}
 use Rattle.remote_store.proofs.Received.{sent_next}
 use Rattle.remote_store.proofs.talk.send_all.Goals as goal
 
@@ -8,6 +9,7 @@ loop-done-preserved g c =
     let e = c.in-Ok.ensures in record {
       within = omega (arith, e.some);
       line = sent_next _ _ _ c.args.bytes.now c.loop-done.done c.in-Ok.n (length c.args.bytes.now - c.loop-done.done) i.line (omega (arith, e.some)) e.line;
+      gained = gained-next _ _ _ c.args.bytes.now c.loop-done.done c.in-Ok.n (length c.args.bytes.now - c.loop-done.done) i.gained (omega (arith, e.some)) (omega (arith, e.some)) e.sent;
       received = c.send.ensures.received ∙ i.received;
       ends = c.send.ensures.ends ∙ i.ends;
       held = c.send.ensures.held ∙ i.held;

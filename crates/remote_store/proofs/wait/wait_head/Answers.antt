@@ -22,7 +22,7 @@ loop-parts-preserved g c =
       line = given_on _ _ _ t n c.loop-parts.buffer c.receive.new.buffer i.line e.line e.kept e.more;
       ends = e.ends ∙ no_end n t _ e.more c.if-more-there.false ∙ i.ends;
       held = e.held ∙ i.held;
-      same = record { same_peer = e.same.same_peer ∙ i.same.same_peer; same_dialled = e.same.same_dialled ∙ i.same.same_dialled };
+      same = record { same_peer = e.same.same_peer ∙ i.same.same_peer; same_dialled = e.same.same_dialled ∙ i.same.same_dialled; same_sent = e.same.same_sent ∙ i.same.same_sent };
       stands = e.cause.stands ∙ i.stands;
     }
 

@@ -19,7 +19,7 @@ pub returns-in-Err-clause-complete : goal.returns-in-Err-clause-complete
 returns-in-Err-clause-complete g c = λ m told can kept written.
     reshard_complete c.in-Err.refusal c.report.result m (g.S.Source.objects c.copy_stored.new.store) c.args.dataset.now c.args.key.now c.args.to_dataset.now c.args.to_key.now c.find_named-named.result.now
     (outlets_of g.O.Outlet.written g.O.Outlet.faults g.E.Outlet.written g.E.Outlet.faults c.args.out.now c.args.out.now c.args.err.now c.report.new.err)
-    (from_told _ _ m told c.in-Err.ensures.copies) can (λ is. kept (c.copy_stored.ensures.cause.failed (c.in-Err.is ∙ ap Err is))) c.report.ensures.told
+    (from_told _ _ m told c.in-Err.ensures.copies) can (λ is. kept (c.copy_stored.ensures.leaves.cause.failed (c.in-Err.is ∙ ap Err is))) c.report.ensures.told
 
 pub returns-clause-back : goal.returns-clause-back
 returns-clause-back g c done =

@@ -9,35 +9,35 @@ returns-in-Ok-clause-judges g c = key_judges c.update_scale.result (g.S.Source.o
 pub returns-in-Ok-clause-answers : goal.returns-in-Ok-clause-answers
 returns-in-Ok-clause-answers g c =
     key_told c.update_scale.result (g.S.Source.objects c.args.store.now) (g.S.Source.objects c.read_writable.new.store) (g.S.Source.objects c.update_scale.new.store) (g.F.Feed.left c.args.feed.now) c.args.dataset.now c.args.key.now c.in-Ok.scale
-    c.read_writable.ensures.kept.same_objects c.in-Ok.ensures.read (c.update_scale.ensures.answers c.args.key.now)
+    c.read_writable.ensures.reads.kept.same_objects c.in-Ok.ensures.read (c.update_scale.ensures.answers c.args.key.now)
 
 pub returns-in-Ok-clause-store : goal.returns-in-Ok-clause-store
 returns-in-Ok-clause-store g c =
     leaves_read c.update_scale.result (g.S.Source.objects c.args.store.now) (g.S.Source.objects c.read_writable.new.store) (g.S.Source.objects c.update_scale.new.store) (g.S.Source.draft c.args.store.now) (g.S.Source.draft c.read_writable.new.store)
-    (g.S.Source.draft c.update_scale.new.store) c.read_writable.ensures.kept.same_objects c.read_writable.ensures.kept.same_draft c.update_scale.ensures.store
+    (g.S.Source.draft c.update_scale.new.store) c.read_writable.ensures.reads.kept.same_objects c.read_writable.ensures.reads.kept.same_draft c.update_scale.ensures.store
 
 pub returns-in-Ok-clause-unsharded : goal.returns-in-Ok-clause-unsharded
 returns-in-Ok-clause-unsharded g c =
     drops_read (g.S.Source.objects c.args.store.now) c.args.dataset.now c.args.key.now c.in-Ok.scale (g.S.Source.draft c.args.store.now) (g.S.Source.draft c.read_writable.new.store) (g.S.Source.draft c.update_scale.new.store)
-    c.read_writable.ensures.kept.same_draft c.in-Ok.ensures.read c.update_scale.ensures.unsharded
+    c.read_writable.ensures.reads.kept.same_draft c.in-Ok.ensures.read c.update_scale.ensures.unsharded
 
 pub returns-in-Err-clause-judges : goal.returns-in-Err-clause-judges
 returns-in-Err-clause-judges g c = unread_judges c.in-Err.refusal (g.S.Source.objects c.args.store.now) c.args.dataset.now c.args.key.now c.in-Err.ensures.read
 
 pub returns-in-Err-clause-answers : goal.returns-in-Err-clause-answers
 returns-in-Err-clause-answers g c =
-    unread_told c.in-Err.refusal (g.S.Source.objects c.args.store.now) (g.S.Source.objects c.read_writable.new.store) (g.F.Feed.left c.args.feed.now) c.args.dataset.now c.args.key.now c.read_writable.ensures.kept.same_objects c.in-Err.ensures.read
+    unread_told c.in-Err.refusal (g.S.Source.objects c.args.store.now) (g.S.Source.objects c.read_writable.new.store) (g.F.Feed.left c.args.feed.now) c.args.dataset.now c.args.key.now c.read_writable.ensures.reads.kept.same_objects c.in-Err.ensures.read
 
 pub returns-in-Err-clause-feed : goal.returns-in-Err-clause-feed
 returns-in-Err-clause-feed g c = unread_feed c.in-Err.refusal (g.F.Feed.left c.args.feed.now)
 
 pub returns-in-Err-clause-store : goal.returns-in-Err-clause-store
 returns-in-Err-clause-store g c =
-    unread_leaves c.in-Err.refusal (g.S.Source.objects c.args.store.now) (g.S.Source.objects c.read_writable.new.store) (g.S.Source.draft c.args.store.now) (g.S.Source.draft c.read_writable.new.store) c.read_writable.ensures.kept
+    unread_leaves c.in-Err.refusal (g.S.Source.objects c.args.store.now) (g.S.Source.objects c.read_writable.new.store) (g.S.Source.draft c.args.store.now) (g.S.Source.draft c.read_writable.new.store) c.read_writable.ensures.reads.kept
 
 pub returns-in-Err-clause-unsharded : goal.returns-in-Err-clause-unsharded
 returns-in-Err-clause-unsharded g c =
-    drops_unread (g.S.Source.objects c.args.store.now) c.args.dataset.now c.args.key.now (g.S.Source.draft c.args.store.now) (g.S.Source.draft c.read_writable.new.store) c.read_writable.ensures.kept.same_draft
+    drops_unread (g.S.Source.objects c.args.store.now) c.args.dataset.now c.args.key.now (g.S.Source.draft c.args.store.now) (g.S.Source.draft c.read_writable.new.store) c.read_writable.ensures.reads.kept.same_draft
 
 pub returns-in-Err-clause-took : goal.returns-in-Err-clause-took
 returns-in-Err-clause-took g c = takes_none (g.F.Feed.left c.args.feed.now)
@@ -46,4 +46,4 @@ pub returns-in-Ok-clause-begun : goal.returns-in-Ok-clause-begun
 returns-in-Ok-clause-begun g c =
     begun_stored (g.S.Source.objects c.args.store.now) (g.S.Source.objects c.read_writable.new.store) (g.S.Source.objects c.update_scale.new.store) (g.F.Feed.left c.args.feed.now) c.args.dataset.now c.args.key.now c.in-Ok.scale
     (g.S.Source.draft c.args.store.now) (g.S.Source.draft c.read_writable.new.store) (g.S.Source.draft c.update_scale.new.store)
-    c.read_writable.ensures.kept.same_objects c.read_writable.ensures.kept.same_draft c.in-Ok.ensures.read c.update_scale.ensures.begun
+    c.read_writable.ensures.reads.kept.same_objects c.read_writable.ensures.reads.kept.same_draft c.in-Ok.ensures.read c.update_scale.ensures.begun

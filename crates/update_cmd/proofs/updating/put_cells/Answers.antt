@@ -12,23 +12,23 @@ pub of-requires-clause-distinct : goal.of-requires-clause-distinct
 of-requires-clause-distinct g c = c.requires.distinct.distinct
 
 pub put_updates-requires-clause-few : goal.put_updates-requires-clause-few
-put_updates-requires-clause-few g c κs within = jobs_few c.args.scale.now c.args.cells.items _ c.requires.distinct c.in-Ok.ensures.jobs c.requires.few
+put_updates-requires-clause-few g c κs within = jobs_few c.args.stored.now.scale c.args.cells.items _ c.requires.distinct c.in-Ok.ensures.jobs c.requires.few
 
 pub put_updates-requires-clause-jobs : goal.put_updates-requires-clause-jobs
 put_updates-requires-clause-jobs g c κs within =
-    jobs_told (g.S.Source.objects c.args.store.now) c.in-Ok.updater c.args.dataset.now c.args.scale.now c.args.plan.writes c.args.cells.items c.in-Ok.ensures.writes c.in-Ok.ensures.jobs c.requires.stored
+    jobs_told (g.S.Source.objects c.args.store.now) c.in-Ok.updater c.args.stored.now.dataset c.args.stored.now.scale c.args.plan.writes c.args.cells.items c.in-Ok.ensures.writes c.in-Ok.ensures.jobs c.requires.listed
 
 pub put_updates-requires-clause-written : goal.put_updates-requires-clause-written
 put_updates-requires-clause-written g c κs within = subst (λ ws. All (λ write. AreBytes write.1) ws) (sym c.in-Ok.ensures.writes) c.requires.written
 
 pub returns-in-Ok-clause-updates : goal.returns-in-Ok-clause-updates
 returns-in-Ok-clause-updates g c =
-    updates_as (g.S.Source.objects c.args.store.now) (g.S.Source.objects c.put_updates.new.store) c.put_updates.result c.args.dataset.now c.args.scale.now _ c.args.plan.writes c.in-Ok.ensures.writes c.put_updates.ensures.updates
+    updates_as (g.S.Source.objects c.args.store.now) (g.S.Source.objects c.put_updates.new.store) c.put_updates.result c.args.stored.now.dataset c.args.stored.now.scale _ c.args.plan.writes c.in-Ok.ensures.writes c.put_updates.ensures.updates
 
 pub returns-in-Err-clause-updates : goal.returns-in-Err-clause-updates
-returns-in-Err-clause-updates g c = none_put c.args.dataset.now c.args.scale.now c.args.plan.writes (g.S.Source.objects c.args.store.now)
+returns-in-Err-clause-updates g c = none_put c.args.stored.now.dataset c.args.stored.now.scale c.args.plan.writes (g.S.Source.objects c.args.store.now)
 
 pub returns-in-Ok-clause-begun : goal.returns-in-Ok-clause-begun
 returns-in-Ok-clause-begun g c =
-    begun_as (g.S.Source.objects c.args.store.now) (g.S.Source.objects c.put_updates.new.store) c.args.dataset.now c.args.scale.now _ c.args.plan.writes (g.S.Source.draft c.args.store.now) (g.S.Source.draft c.put_updates.new.store)
+    begun_as (g.S.Source.objects c.args.store.now) (g.S.Source.objects c.put_updates.new.store) c.args.stored.now.dataset c.args.stored.now.scale _ c.args.plan.writes (g.S.Source.draft c.args.store.now) (g.S.Source.draft c.put_updates.new.store)
     c.in-Ok.ensures.writes c.put_updates.ensures.begun

@@ -9,22 +9,22 @@ use Rattle.update_cmd.specs.Updating.{update_list}
 use Rattle.update_cmd.proofs.updating.update_planned.Goals as goal
 
 pub gather_cells-requires-clause-few : goal.gather_cells-requires-clause-few
-gather_cells-requires-clause-few g c = let few = few_cells c.args.scale.now c.args.plan.writes in omega (arith, few, c.requires.few)
+gather_cells-requires-clause-few g c = let few = few_cells c.args.stored.now.scale c.args.plan.writes in omega (arith, few, c.requires.few)
 
-pub put_cells-requires-clause-stored : goal.put_cells-requires-clause-stored
-put_cells-requires-clause-stored g c κs within =
-    listed_told c.args.dataset.now c.args.scale.now c.args.plan.writes (g.S.Source.objects c.args.store.now) (g.S.Source.objects c.gather_cells.new.store)
-    (λ m. Lists c.args.scale.now (is_after m c.args.dataset.now c.args.scale.now c.args.plan.writes) c.in-Ok.cells.items) c.gather_cells.ensures.reads.kept.same_objects c.in-Ok.ensures.gathers
+pub put_cells-requires-clause-listed : goal.put_cells-requires-clause-listed
+put_cells-requires-clause-listed g c κs within =
+    listed_told c.args.stored.now.dataset c.args.stored.now.scale c.args.plan.writes (g.S.Source.objects c.args.store.now) (g.S.Source.objects c.gather_cells.new.store)
+    (λ m. Lists c.args.stored.now.scale (is_after m c.args.stored.now.dataset c.args.stored.now.scale c.args.plan.writes) c.in-Ok.cells.items) c.gather_cells.ensures.reads.kept.same_objects c.in-Ok.ensures.gathers
 
 pub returns-in-Ok-clause-updates : goal.returns-in-Ok-clause-updates
 returns-in-Ok-clause-updates g c =
-    planned_told c.args.dataset.now c.args.scale.now c.args.plan.writes c.put_cells.result (g.S.Source.objects c.args.store.now) (g.S.Source.objects c.gather_cells.new.store) (g.S.Source.objects c.put_cells.new.store)
-    (λ m. Lists c.args.scale.now (is_after m c.args.dataset.now c.args.scale.now c.args.plan.writes) c.in-Ok.cells.items) c.gather_cells.ensures.reads.kept.same_objects c.in-Ok.ensures.gathers c.put_cells.ensures.updates
+    planned_told c.args.stored.now.dataset c.args.stored.now.scale c.args.plan.writes c.put_cells.result (g.S.Source.objects c.args.store.now) (g.S.Source.objects c.gather_cells.new.store) (g.S.Source.objects c.put_cells.new.store)
+    (λ m. Lists c.args.stored.now.scale (is_after m c.args.stored.now.dataset c.args.stored.now.scale c.args.plan.writes) c.in-Ok.cells.items) c.gather_cells.ensures.reads.kept.same_objects c.in-Ok.ensures.gathers c.put_cells.ensures.updates
 
 pub returns-in-Err-clause-updates : goal.returns-in-Err-clause-updates
 returns-in-Err-clause-updates g c =
-    refused_told c.args.dataset.now c.args.scale.now c.args.plan.writes (g.S.Source.objects c.args.store.now) (g.S.Source.objects c.gather_cells.new.store) c.in-Err.refusal c.refuse.result
-    (λ m cells. Lists c.args.scale.now (is_after m c.args.dataset.now c.args.scale.now c.args.plan.writes) cells.items) c.refuse.ensures c.gather_cells.ensures.reads.kept.same_objects c.in-Err.ensures.gathers
+    refused_told c.args.stored.now.dataset c.args.stored.now.scale c.args.plan.writes (g.S.Source.objects c.args.store.now) (g.S.Source.objects c.gather_cells.new.store) c.in-Err.refusal c.refuse.result
+    (λ m cells. Lists c.args.stored.now.scale (is_after m c.args.stored.now.dataset c.args.stored.now.scale c.args.plan.writes) cells.items) c.refuse.ensures c.gather_cells.ensures.reads.kept.same_objects c.in-Err.ensures.gathers
 
 pub returns-in-Ok-clause-kept : goal.returns-in-Ok-clause-kept
 returns-in-Ok-clause-kept g c =
@@ -47,6 +47,6 @@ returns-in-Ok-clause-cause g c = record {
 
 pub returns-in-Ok-clause-begun : goal.returns-in-Ok-clause-begun
 returns-in-Ok-clause-begun g c =
-    begun_read (λ m. BeginsNext (update_list m c.args.dataset.now c.args.scale.now c.args.plan.writes) m (g.S.Source.objects c.put_cells.new.store) (g.S.Source.draft c.put_cells.new.store))
+    begun_read (λ m. BeginsNext (update_list m c.args.stored.now.dataset c.args.stored.now.scale c.args.plan.writes) m (g.S.Source.objects c.put_cells.new.store) (g.S.Source.draft c.put_cells.new.store))
     (g.S.Source.objects c.args.store.now) (g.S.Source.objects c.gather_cells.new.store) (g.S.Source.draft c.args.store.now) (g.S.Source.draft c.gather_cells.new.store) (g.S.Source.draft c.put_cells.new.store)
     c.gather_cells.ensures.reads.kept.same_objects c.gather_cells.ensures.reads.kept.same_draft c.put_cells.ensures.begun

@@ -10,7 +10,7 @@ pub returns-in-Ok-clause-right : goal.returns-in-Ok-clause-right
 returns-in-Ok-clause-right g c = record {
   judges =
       key_judges c.judge_scale.result (g.S.Source.objects c.args.store.now) (g.S.Source.objects c.read_scale.new.store) c.args.dataset.now c.args.key.now c.in-Ok.scale c.args.part.now
-      c.read_scale.ensures.kept.same_objects c.in-Ok.ensures.read c.judge_scale.ensures.judges;
+      c.read_scale.ensures.reads.kept.same_objects c.in-Ok.ensures.read c.judge_scale.ensures.judges;
   asked = c.judge_scale.ensures.asked;
 }
 
@@ -30,7 +30,7 @@ returns-in-Ok-clause-unread g c =
 pub returns-in-Ok-clause-cost : goal.returns-in-Ok-clause-cost
 returns-in-Ok-clause-cost g c =
     asks_cells (g.S.Source.objects c.args.store.now) (g.S.Source.objects c.read_scale.new.store) c.args.dataset.now c.args.key.now c.in-Ok.scale c.args.part.now (g.S.Source.asked c.args.store.now)
-    (g.S.Source.asked c.read_scale.new.store) (g.S.Source.asked c.judge_scale.new.store) c.read_scale.ensures.kept.same_objects c.in-Ok.ensures.read c.read_scale.ensures.asked c.judge_scale.ensures.asks.asked
+    (g.S.Source.asked c.read_scale.new.store) (g.S.Source.asked c.judge_scale.new.store) c.read_scale.ensures.reads.kept.same_objects c.in-Ok.ensures.read c.read_scale.ensures.asked c.judge_scale.ensures.asks.asked
 
 pub returns-in-Err-clause-cost : goal.returns-in-Err-clause-cost
 returns-in-Err-clause-cost g c =

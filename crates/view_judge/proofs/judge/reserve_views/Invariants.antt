@@ -6,5 +6,5 @@ use Rattle.view_judge.proofs.judge.reserve_views.Given as goal
 
 abbrev pub invariant-loop-k : goal.invariant-loop-k
 invariant-loop-k l = record {
-  views : l.views.items ≡ map (opened l.dataset) (map (view l.scale) (range_with_len 1 l.k));
+  views : l.views.items ≡ map (opened l.stored.dataset) (map (view l.stored.scale) (range_with_len 1 l.k));
 }

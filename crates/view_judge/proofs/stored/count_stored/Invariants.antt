@@ -6,10 +6,10 @@ use Rattle.view_judge.proofs.stored.count_stored.Given as goal
 
 abbrev pub invariant-loop-cell : goal.invariant-loop-cell
 invariant-loop-cell g l = record {
-  left : l.yielded ++ l.cell-iterator ≡ cells_in l.view l.part;
+  left : l.yielded ++ l.cell-iterator ≡ cells_in l.view.scale l.part;
   cells : l.report.cells ≡ length l.yielded;
   both : l.report.stored + l.report.absent ≡ l.report.cells;
-  named : (m : Objects) → g.S.Source.objects l.fn.store ≡ Some m → AreNamed m l.dataset l.view l.yielded l.report;
+  named : (m : Objects) → g.S.Source.objects l.fn.store ≡ Some m → AreNamed m l.view.dataset l.view.scale l.yielded l.report;
   asked : g.S.Source.asked l.store ≡ g.S.Source.asked l.fn.store;
   kept : OnlyReads (g.S.Source.objects l.fn.store) (g.S.Source.objects l.store) (g.S.Source.draft l.fn.store) (g.S.Source.draft l.store);
   later : g.S.Source.faults l.store ≡ g.S.Source.faults l.fn.store;

@@ -1,7 +1,8 @@
 use Rattle.std.proofs.Common.{◌≡◌, ◌∙◌, ◌+◌, ◌≤◌, ◌^◌, Some, ap, arith, refl, sym}
-use Rattle.remote_store.specs.Shown.{shown}
+use Rattle.remote_store.specs.Sent.{SentOnly}
+use Rattle.remote_store.specs.Shown.{count_at, shown}
 use Rattle.vol_base.specs.Causes.{counted}
-use Rattle.vol_fetch.proofs.FetchSteps.{asked_for, caused, completed, fetched, not_usage}
+use Rattle.vol_fetch.proofs.FetchSteps.{asked_for, caused, completed, fetched, not_usage, sent_to}
 use Rattle.vol_fetch.proofs.fetch.fetch_from.Goals as goal
 
 pub returns-clause-used : goal.returns-clause-used
@@ -58,3 +59,15 @@ pub returns-clause-made : goal.returns-clause-made
 returns-clause-made g c =
     let e = c.into_remote.ensures in
     (e.host ∙ sym c.requires.host, e.port ∙ sym c.requires.port, e.dataset ∙ sym c.requires.of)
+
+pub returns-clause-sent : goal.returns-clause-sent
+returns-clause-sent g c =
+    let r = c.args.request.now in
+    let s = c.in-Ok.store in
+    let n = c.run_cutout-status.new.store in
+    let now = c.into_remote.result in
+    let e = c.into_remote.ensures in
+    let told : shown s.remote.dataset (g.D.Dial.peer s.remote.dial) ≡ shown r.dataset (g.D.Dial.peer c.args.dial) = λ i. shown (c.in-Ok.ensures.dataset i) (g.D.Dial.peer (c.in-Ok.ensures.dial i)) in
+    let same : shown now.dataset (g.D.Dial.peer now.dial) ≡ shown n.remote.dataset (g.D.Dial.peer n.remote.dial) = λ i. shown ((e.remote i).dataset) (g.D.Dial.peer ((e.remote i).dial)) in
+    sent_to (g.N.Aim.host, g.N.Aim.port) _ _ (shown r.dataset (g.D.Dial.peer c.args.dial)) (shown now.dataset (g.D.Dial.peer now.dial)) g.N.Aim.count (g.D.Dial.faults c.args.dial) (g.D.Dial.faults now.dial) now.faults
+    g.N.Aim.sent (g.D.Dial.sent c.args.dial) (g.D.Dial.sent now.dial) c.requires.host c.requires.port c.requires.count c.requires.sent (same ∙ c.run_cutout-status.ensures.kept.same_objects ∙ told) e.asks

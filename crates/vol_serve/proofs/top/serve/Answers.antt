@@ -1,10 +1,10 @@
-use Rattle.std.proofs.Common.{◌∙◌, None, ap, map, refl, subst, sym}
+use Rattle.std.proofs.Common.{◌-◌, ◌∙◌, None, ap, arith, map, refl, subst, sym}
 use Rattle.hall.specs.Halls.{EachServed}
 use Rattle.hall.proofs.EndSteps.{each_none}
 use Rattle.hall.proofs.Sums.{none_stands}
 use Rattle.serve_cmd.proofs.ServeSteps.{told_first}
-use Rattle.vol_serve.specs.Statuses.{lacks_memory}
-use Rattle.vol_serve.proofs.Closings.{lacks_by}
+use Rattle.vol_serve.specs.Statuses.{Accepted, lacks_memory}
+use Rattle.vol_serve.proofs.Closings.{gives, gives_none, lacks_by}
 use Rattle.vol_serve.proofs.top.serve.Goals as goal
 
 pub returns-in-Ok-clause-each : goal.returns-in-Ok-clause-each
@@ -19,6 +19,19 @@ returns-in-Err-clause-each g c =
 
 pub returns-in-Err-clause-stores_later : goal.returns-in-Err-clause-stores_later
 returns-in-Err-clause-stores_later g c = none_stands (map g.S.Source.faults c.args.stores.items)
+
+pub returns-in-Ok-clause-given : goal.returns-in-Ok-clause-given
+returns-in-Ok-clause-given g c =
+    let now = c.run_hall-end.result.entrance in
+    subst (λ s. Accepted s c.args.serving.now.connections (g.D.Entrance.faults c.args.entrance) (g.D.Entrance.faults now) (g.D.Entrance.accepted now - g.D.Entrance.accepted c.args.entrance)) (sym c.ended.ensures)
+    (gives c.run_hall-end.result.end c.args.serving.now.connections (g.D.Entrance.faults c.args.entrance) (g.D.Entrance.faults c.announce.new.entrance) (g.D.Entrance.faults now)
+    (g.D.Entrance.accepted c.args.entrance) (g.D.Entrance.accepted c.announce.new.entrance) (g.D.Entrance.accepted now) c.in-Ok.ensures.entrance_cause.stands c.announce.ensures.accepted c.run_hall-end.ensures.given)
+
+pub returns-in-Err-clause-given : goal.returns-in-Err-clause-given
+returns-in-Err-clause-given g c =
+    let now = c.announce.new.entrance in
+    subst (λ s. Accepted s c.args.serving.now.connections (g.D.Entrance.faults c.args.entrance) (g.D.Entrance.faults now) (g.D.Entrance.accepted now - g.D.Entrance.accepted c.args.entrance)) (sym c.refused.ensures)
+    (gives_none c.in-Err.refusal c.args.serving.now.connections (g.D.Entrance.faults c.args.entrance) (g.D.Entrance.faults now) (g.D.Entrance.accepted c.args.entrance) (g.D.Entrance.accepted now) c.announce.ensures.accepted (omega (arith, c.requires.limits.0)))
 
 pub returns-in-Ok-clause-first : goal.returns-in-Ok-clause-first
 returns-in-Ok-clause-first g c =

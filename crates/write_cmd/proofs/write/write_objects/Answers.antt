@@ -13,7 +13,7 @@ write_list-requires-clause-empty g c κs within =
 pub returns-clause-writes : goal.returns-clause-writes
 returns-clause-writes g c =
     key_told c.write_list.result (g.S.Source.objects c.args.store.now) (g.S.Source.objects c.any_under.new.self) (g.S.Source.objects c.write_list.new.store) (g.F.Feed.left c.args.feed.now)
-    c.args.dataset.now c.args.key.now c.in_ok-scale.scale (c.any_under.ensures.kept.same_objects ∙ c.read_scale.ensures.kept.same_objects) c.in_ok-scale.ensures.read (c.write_list.ensures.writes c.args.key.now)
+    c.args.dataset.now c.args.key.now c.in_ok-scale.scale (c.any_under.ensures.kept.same_objects ∙ c.read_scale.ensures.reads.kept.same_objects) c.in_ok-scale.ensures.read (c.write_list.ensures.writes c.args.key.now)
 
 pub returns-in_err-scale-clause-took : goal.returns-in_err-scale-clause-took
 returns-in_err-scale-clause-took g c = takes_none (g.F.Feed.left c.args.feed.now)

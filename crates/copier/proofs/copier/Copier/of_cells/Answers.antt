@@ -1,10 +1,11 @@
-use Rattle.std.proofs.Common.{◌≡◌, arith, subst, sym}
+use Rattle.std.proofs.Common.{◌≡◌, ◌∙◌, ap, arith, subst, sym}
 use Rattle.std.specs.Prelude.{IsTrue, filter}
 use Rattle.vol_spec.specs.Copies.{AreOfOneVolume}
 use Rattle.vol_spec.specs.Grid.{cells_on, numbers_on}
 use Rattle.vol_spec.specs.StoredLists.{in_key_order}
 use Rattle.vol_spec.specs.declared.scale.Scale.{Scale}
 use Rattle.chunk_laws.specs.Told.{is_listed}
+use Rattle.cutout.specs.Kept.{Keeping}
 use Rattle.cutout.specs.Opened.{Opened}
 use Rattle.write_plan.specs.Jobs.{cells_in}
 use Rattle.copy_laws.specs.Twins.{AreTwins}
@@ -17,7 +18,7 @@ pub invariant_of-result : goal.invariant_of-result
 invariant_of-result c =
     let frames = c.in-Ok-reserve_jobs.frames.items in
     let twins = c.are_twins-twins.result in
-    subst (λ (r : Opened). IsHeldIn (holding_frames r.dataset r.scale c.duplicate.result c.in-Ok-of.jobs 0 0 frames) c.in-Ok-of.jobs twins frames) (sym c.in-Ok-keep_reader.ensures)
+    subst (λ (r : Opened). IsHeldIn (holding_frames r.dataset r.scale c.duplicate.result c.in-Ok-of.jobs 0 0 frames) c.in-Ok-of.jobs twins frames) (sym (ap (λ (k : Keeping). k.opened) c.in-Ok-keep_reader.ensures ∙ c.keeping.ensures))
     (subst (λ (s : Scale). IsHeldIn (holding_frames c.in-Ok.reader.dataset c.in-Ok.reader.scale s c.in-Ok-of.jobs 0 0 frames) c.in-Ok-of.jobs twins frames) (sym c.duplicate.ensures)
     (record {
       volume = subst (λ s. AreOfOneVolume s c.args.to.now) (sym c.in-Ok.ensures.scale) c.requires.volume;

@@ -1,4 +1,4 @@
-use Rattle.std.proofs.Common.{◌≡◌, ◌≤◌, ◌-◌, ◌∙◌, [], IfSome, List, ap, arith, get_or, length, refl, subst, sym, take}
+use Rattle.std.proofs.Common.{◌≡◌, ◌≤◌, ◌-◌, [], IfSome, List, ap, arith, get_or, length, refl, subst, sym, take}
 use Rattle.std.specs.Prelude.{IsSome, unwrap_or}
 use Rattle.vol_base.specs.Bytes.{AreBytes}
 use Rattle.vol_spec.specs.Encodings.{encoded}

@@ -13,19 +13,19 @@ use Rattle.downsample_cmd.proofs.downsampling.ReducingMaking.begin.Goals as goal
 
 pub returns-clause-apart : goal.returns-clause-apart
 returns-clause-apart g c =
-    of_reducer (g.S.Source.objects c.args.store.now) c.of.result c.args.self.now.method c.args.from_dataset.now c.args._to_dataset.now c.args.from.now c.args.to.now (λ m r. IsApart r c.args._to_dataset.now c.args.to.now)
+    of_reducer (g.S.Source.objects c.args.store.now) c.of.result c.args.self.now.method c.args.from.now.dataset c.args.to.now.dataset c.args.from.now.scale c.args.to.now.scale (λ m r. IsApart r c.args.to.now.dataset c.args.to.now.scale)
     c.requires.suits c.of.ensures.method c.of.ensures.dataset c.of.ensures.from c.of.ensures.to c.of.ensures.jobs c.requires.empty (g.met.S.Source.bytes c.args.store.now)
-    (λ m r way own read scale made none bytes. apart_in m r c.args.self.now.method c.args._to_dataset.now c.args.from.now c.args.to.now way own read scale made c.requires.fits none)
+    (λ m r way own read scale made none bytes. apart_in m r c.args.self.now.method c.args.to.now.dataset c.args.from.now.scale c.args.to.now.scale way own read scale made c.requires.fits none)
 
 pub returns-clause-due : goal.returns-clause-due
 returns-clause-due g c =
-    of_reducer (g.S.Source.objects c.args.store.now) c.of.result c.args.self.now.method c.args.from_dataset.now c.args._to_dataset.now c.args.from.now c.args.to.now (λ m r. job_objects c.args._to_dataset.now (work_of r) m ≡ reduced_list c.args.self.now.method m c.args._to_dataset.now c.args.from.now c.args.to.now)
+    of_reducer (g.S.Source.objects c.args.store.now) c.of.result c.args.self.now.method c.args.from.now.dataset c.args.to.now.dataset c.args.from.now.scale c.args.to.now.scale (λ m r. job_objects c.args.to.now.dataset (work_of r) m ≡ reduced_list c.args.self.now.method m c.args.to.now.dataset c.args.from.now.scale c.args.to.now.scale)
     c.requires.suits c.of.ensures.method c.of.ensures.dataset c.of.ensures.from c.of.ensures.to c.of.ensures.jobs c.requires.empty (g.met.S.Source.bytes c.args.store.now)
-    (λ m r way own read scale made none bytes. due_in m r c.args.self.now.method c.args._to_dataset.now c.args.from.now c.args.to.now way own read scale made c.requires.fits)
+    (λ m r way own read scale made none bytes. due_in m r c.args.self.now.method c.args.to.now.dataset c.args.from.now.scale c.args.to.now.scale way own read scale made c.requires.fits)
 
 pub returns-clause-says : goal.returns-clause-says
 returns-clause-says g c =
-    of_reducer (g.S.Source.objects c.args.store.now) c.of.result c.args.self.now.method c.args.from_dataset.now c.args._to_dataset.now c.args.from.now c.args.to.now
-    (λ m r. (now : Option Objects) (answer : Result Written WriteFault) → Wrote c.args._to_dataset.now (work_of r) m now answer → Puts (said_reduction c.args.self.now.method m now c.args._to_dataset.now c.args.from.now c.args.to.now) answer)
+    of_reducer (g.S.Source.objects c.args.store.now) c.of.result c.args.self.now.method c.args.from.now.dataset c.args.to.now.dataset c.args.from.now.scale c.args.to.now.scale
+    (λ m r. (now : Option Objects) (answer : Result Written WriteFault) → Wrote c.args.to.now.dataset (work_of r) m now answer → Puts (said_reduction c.args.self.now.method m now c.args.to.now.dataset c.args.from.now.scale c.args.to.now.scale) answer)
     c.requires.suits c.of.ensures.method c.of.ensures.dataset c.of.ensures.from c.of.ensures.to c.of.ensures.jobs c.requires.empty (g.met.S.Source.bytes c.args.store.now)
-    (λ m r way own read scale made none bytes. says_in m r c.args.self.now.method c.args._to_dataset.now c.args.from.now c.args.to.now way own read scale made c.requires.fits c.requires.few c.requires.writable none bytes)
+    (λ m r way own read scale made none bytes. says_in m r c.args.self.now.method c.args.to.now.dataset c.args.from.now.scale c.args.to.now.scale way own read scale made c.requires.fits c.requires.few c.requires.writable none bytes)

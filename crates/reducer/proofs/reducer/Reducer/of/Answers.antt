@@ -14,7 +14,7 @@ use Rattle.reducer.specs.Works.{IsReduction}
 use Rattle.reducer.proofs.reducer.Reducer.of.Goals as goal
 
 pub find_placed-requires-clause-source : goal.find_placed-requires-clause-source
-find_placed-requires-clause-source g c = c.in-Ok.ensures.scale
+find_placed-requires-clause-source g c = ap (λ (r : Opened). r.scale) c.keeping-reader.ensures ∙ c.in-Ok.ensures.scale
 
 pub of-requires-clause-each : goal.of-requires-clause-each
 of-requires-clause-each g c = c.in-Ok-find_placed.ensures.order.each
@@ -24,14 +24,14 @@ of-requires-clause-distinct g c = distinct_cells c.args.to.now c.in-Ok-find_plac
 
 pub invariant_of-result : goal.invariant_of-result
 invariant_of-result g c = (
-  ap (λ (r : Opened). r.scale) (c.keeping.ensures ∙ c.find_placed.ensures.same) ∙ c.in-Ok.ensures.scale ∙ sym c.duplicate.ensures,
+  ap (λ (r : Opened). r.scale) (c.find_placed.ensures.same ∙ c.keeping-reader.ensures) ∙ c.in-Ok.ensures.scale ∙ sym c.duplicate.ensures,
   subst (λ (d : List ℕ). IsReduction (holding d c.duplicate.result c.duplicate-2.result c.in-Ok-of.jobs 0 0 c.in-Ok-reserve_frames.frames.items) c.in-Ok-of.jobs c.in-Ok-reserve_frames.frames.items c.in-Ok-reserve_buffer.buffer c.in-Ok-reserve_ahead.ahead)
-      (sym (ap (λ (r : Opened). r.dataset) (c.keeping.ensures ∙ c.find_placed.ensures.same)))
+      (sym (ap (λ (r : Opened). r.dataset) (c.find_placed.ensures.same ∙ c.keeping-reader.ensures)))
       (subst (λ (s : Scale). IsReduction (holding c.in-Ok.reader.dataset s c.duplicate-2.result c.in-Ok-of.jobs 0 0 c.in-Ok-reserve_frames.frames.items) c.in-Ok-of.jobs c.in-Ok-reserve_frames.frames.items c.in-Ok-reserve_buffer.buffer c.in-Ok-reserve_ahead.ahead) (sym c.duplicate.ensures)
-      (subst (λ (s : Scale). IsReduction (holding c.in-Ok.reader.dataset c.args.from.now s c.in-Ok-of.jobs 0 0 c.in-Ok-reserve_frames.frames.items) c.in-Ok-of.jobs c.in-Ok-reserve_frames.frames.items c.in-Ok-reserve_buffer.buffer c.in-Ok-reserve_ahead.ahead) (sym c.duplicate-2.ensures)
+      (subst (λ (s : Scale). IsReduction (holding c.in-Ok.reader.dataset c.args.from.now.scale s c.in-Ok-of.jobs 0 0 c.in-Ok-reserve_frames.frames.items) c.in-Ok-of.jobs c.in-Ok-reserve_frames.frames.items c.in-Ok-reserve_buffer.buffer c.in-Ok-reserve_ahead.ahead) (sym c.duplicate-2.ensures)
       (record {
         next = c.requires.next;
-        held = held_new c.in-Ok.reader.dataset c.args.from.now c.args.to.now c.in-Ok-find_placed.cells.items c.in-Ok-of.jobs c.in-Ok-reserve_frames.frames.items c.in-Ok-find_placed.ensures.order.each c.in-Ok-of.ensures.jobs
+        held = held_new c.in-Ok.reader.dataset c.args.from.now.scale c.args.to.now c.in-Ok-find_placed.cells.items c.in-Ok-of.jobs c.in-Ok-reserve_frames.frames.items c.in-Ok-find_placed.ensures.order.each c.in-Ok-of.ensures.jobs
             (omega (arith, c.in-Ok-reserve_frames.ensures.count, c.min.ensures, c.window.ensures, c.len.ensures)) c.in-Ok-reserve_frames.ensures.each;
         room = c.in-Ok-reserve_buffer.ensures.room;
         room_ahead = c.in-Ok-reserve_ahead.ensures.room;
@@ -45,10 +45,10 @@ returns-clause-few g c =
 
 pub returns-clause-jobs : goal.returns-clause-jobs
 returns-clause-jobs g c =
-    subst (λ (s : Scale). IfSome (g.S.Source.objects c.args.store.now) (λ m. in_key_order s (filter (is_listed (cells_in c.in-Ok-of.jobs)) (numbers_on (cells_on s))) ≡ in_key_order c.args.to.now (reduced_cells m c.args.dataset.now c.args.from.now c.args.to.now)))
+    subst (λ (s : Scale). IfSome (g.S.Source.objects c.args.store.now) (λ m. in_key_order s (filter (is_listed (cells_in c.in-Ok-of.jobs)) (numbers_on (cells_on s))) ≡ in_key_order c.args.to.now (reduced_cells m c.args.from.now.dataset c.args.from.now.scale c.args.to.now)))
     (sym c.duplicate-2.ensures)
-    (held_told (g.S.Source.objects c.args.store.now) (λ m. reduced_cells m c.args.dataset.now c.args.from.now c.args.to.now) c.args.to.now c.in-Ok-find_placed.cells.items c.in-Ok-of.jobs c.in-Ok-find_placed.ensures.order c.in-Ok-of.ensures.jobs
-    (subst (λ name. IfSome (g.S.Source.objects c.args.store.now) (λ m. c.in-Ok-find_placed.cells.items ≡ reduced_cells m name c.args.from.now c.args.to.now)) c.in-Ok.ensures.dataset c.in-Ok-find_placed.ensures.made))
+    (held_told (g.S.Source.objects c.args.store.now) (λ m. reduced_cells m c.args.from.now.dataset c.args.from.now.scale c.args.to.now) c.args.to.now c.in-Ok-find_placed.cells.items c.in-Ok-of.jobs c.in-Ok-find_placed.ensures.order c.in-Ok-of.ensures.jobs
+    (subst (λ name. IfSome (g.S.Source.objects c.args.store.now) (λ m. c.in-Ok-find_placed.cells.items ≡ reduced_cells m name c.args.from.now.scale c.args.to.now)) (ap (λ (r : Opened). r.dataset) c.keeping-reader.ensures ∙ c.in-Ok.ensures.dataset) c.in-Ok-find_placed.ensures.made))
 
 pub returns-clause-reads : goal.returns-clause-reads
 returns-clause-reads g c = record {

@@ -1,8 +1,9 @@
 use Rattle.std.proofs.Common.{IfOk, subst, string_bytes, ◌∙◌, ◌≤◌, take, length, length-take, ap, arith}
-use Rattle.remote_store.specs.Sent.{Requests}
+use Rattle.remote_store.specs.Sent.{Requests, SendsRequest, request_bytes}
 use Rattle.remote_store.specs.Talks.{SaysLength}
 use Rattle.remote_store.specs.declared.wanted.Wanted.TheVariants.{Length}
 use Rattle.std.specs.Vec.{with_items}
+use Rattle.remote_store.proofs.AskSteps.{asks_settled}
 use Rattle.remote_store.proofs.JudgedSteps.{judged_length, written_front}
 use Rattle.remote_store.proofs.RemoteSteps.{refilled, length_at, length_comes, settled, settled_cause, settled_end}
 use Rattle.remote_store.proofs.remote.Remote.ask_length.Goals as goal
@@ -11,7 +12,7 @@ pub invariant_of-self : goal.invariant_of-self
 invariant_of-self g c =
     let s = c.args.self.now in
     let e = c.call_length-answer.ensures in
-    let spans_old : 4096 ≤ length s.spans.items = s.spans_ok in
+    let spans_old : 2730 ≤ length s.spans.items = s.spans_ok in
     record {
       held = e.end.held;
       quiet = λ on. e.end.quiet on s.dataset c.requires s.quiet;
@@ -62,3 +63,10 @@ returns-clause-sent g c =
     let s = c.args.self.now in
     settled c.call_length-answer.result c.settle.result c.settle.ensures.said (λ o. Requests (string_bytes s.host, s.port) c.args.key.now Length s.kept (g.D.Dial.peer s.dial) (g.D.Dial.line s.dial) (g.D.Dial.line c.call_length-answer.new.dial))
     (subst (λ host. IfOk c.call_length-answer.result (λ _. Requests (host, s.port) c.args.key.now Length s.kept (g.D.Dial.peer s.dial) (g.D.Dial.line s.dial) (g.D.Dial.line c.call_length-answer.new.dial))) c.as_str.ensures.value c.call_length-answer.ensures.sent)
+
+pub returns-clause-asks : goal.returns-clause-asks
+returns-clause-asks g c =
+    let s = c.args.self.now in
+    let a = c.call_length-answer in
+    asks_settled a.result c.settle.result (request_bytes (string_bytes s.host, s.port) c.args.key.now Length) (g.D.Dial.sent s.dial) (g.D.Dial.sent a.new.dial) c.settle.ensures.said
+    (subst (λ host. SendsRequest (request_bytes (host, s.port) c.args.key.now Length) (g.D.Dial.sent s.dial) (g.D.Dial.sent a.new.dial) a.result) c.as_str.ensures.value a.ensures.asks)

@@ -1,10 +1,11 @@
 use Rattle.std.proofs.Common.{IfOk, subst, string_bytes, ◌∙◌, ◌≤◌, take, length, ap, ◌<◌, arith}
 use Rattle.vol_base.specs.Outside.{KeepsRest}
 use Rattle.remote_store.specs.Bodies.{got_of_kind, stretch_count}
-use Rattle.remote_store.specs.Sent.{Requests}
+use Rattle.remote_store.specs.Sent.{Requests, SendsRequest, request_bytes}
 use Rattle.remote_store.specs.Talks.{SaysPart}
 use Rattle.remote_store.specs.declared.wanted.Wanted.TheVariants.{Part}
 use Rattle.std.specs.Vec.{with_items}
+use Rattle.remote_store.proofs.AskSteps.{asks_settled}
 use Rattle.remote_store.proofs.JudgedSteps.{judged_part, written_front}
 use Rattle.remote_store.proofs.RemoteSteps.{refilled, part_at, part_comes, replied_kept, settled, settled_cause, settled_end, settled_some}
 use Rattle.remote_store.proofs.remote.Remote.ask_part.Goals as goal
@@ -13,7 +14,7 @@ pub invariant_of-self : goal.invariant_of-self
 invariant_of-self g c =
     let s = c.args.self.now in
     let e = c.call_part-answer.ensures in
-    let spans_old : 4096 ≤ length s.spans.items = s.spans_ok in
+    let spans_old : 2730 ≤ length s.spans.items = s.spans_ok in
     let scratch_old : 0 < length s.scratch.items = s.scratch_ok in
     record {
       held = e.end.held;
@@ -71,3 +72,10 @@ returns-clause-sent g c =
     let s = c.args.self.now in
     settled c.call_part-answer.result c.settle.result c.settle.ensures.said (λ o. Requests (string_bytes s.host, s.port) c.args.key.now (Part c.args.at (length c.args.out.now)) s.kept (g.D.Dial.peer s.dial) (g.D.Dial.line s.dial) (g.D.Dial.line c.call_part-answer.new.dial))
     (subst (λ host. IfOk c.call_part-answer.result (λ _. Requests (host, s.port) c.args.key.now (Part c.args.at (length c.args.out.now)) s.kept (g.D.Dial.peer s.dial) (g.D.Dial.line s.dial) (g.D.Dial.line c.call_part-answer.new.dial))) c.as_str.ensures.value c.call_part-answer.ensures.sent)
+
+pub returns-clause-asks : goal.returns-clause-asks
+returns-clause-asks g c =
+    let s = c.args.self.now in
+    let a = c.call_part-answer in
+    asks_settled a.result c.settle.result (request_bytes (string_bytes s.host, s.port) c.args.key.now (Part c.args.at (length c.args.out.now))) (g.D.Dial.sent s.dial) (g.D.Dial.sent a.new.dial) c.settle.ensures.said
+    (subst (λ host. SendsRequest (request_bytes (host, s.port) c.args.key.now (Part c.args.at (length c.args.out.now))) (g.D.Dial.sent s.dial) (g.D.Dial.sent a.new.dial) a.result) c.as_str.ensures.value a.ensures.asks)

@@ -1,7 +1,8 @@
-use Rattle.std.proofs.Common.{string_bytes, ◌≡◌, Some, None, length, subst, sym, arith, ◌≢◌, []}
+use Rattle.std.proofs.Common.{string_bytes, ◌≡◌, Ok, Err, Some, None, length, subst, sym, arith, ◌≢◌, []}
 use Rattle.std.specs.FinMap as map
 use Rattle.vol_base.specs.Outside.{Reads}
 use Rattle.remote_store.specs.Shown.{key_in, shown}
+use Rattle.remote_store.proofs.AskSteps.{asks_key, asks_no_key}
 use Rattle.remote_store.proofs.HeardParts.{kept_nowhere}
 use Rattle.remote_store.proofs.KeySteps.{key_parts}
 use Rattle.remote_store.proofs.Looked.{if_shown, no_bytes}
@@ -10,6 +11,7 @@ use Rattle.remote_store.specs.declared.wanted.Wanted.TheVariants.{Length, Part}
 use Rattle.remote_store.proofs.JudgedSteps.{if_any, if_none, judged_empty, judged_failed, judged_read, wanted_none, wanted_some}
 use Rattle.remote_store.proofs.SentSteps.{at_key, no_key, request_of_wanted}
 use Rattle.remote_store.proofs.RemoteSteps.{empty_told, read_told}
+use Rattle.vol_base.specs.declared.outside.Got.TheVariants.{Absent}
 use Rattle.remote_store.proofs.remote.RemoteSource.read_at.Goals as goal
 
 pub returns-in-None-clause-read : goal.returns-in-None-clause-read
@@ -101,3 +103,41 @@ returns-in-Ok-ask_part-clause-sent g c =
 
 pub returns-in-Err-ask_part-clause-sent : goal.returns-in-Err-ask_part-clause-sent
 returns-in-Err-ask_part-clause-sent g c = if_any (key_in c.args.self.now.dataset c.args.name.now) tt
+
+pub returns-in-None-clause-asks : goal.returns-in-None-clause-asks
+returns-in-None-clause-asks g c =
+    let s = c.args.self.now in
+    let e : key_in s.dataset c.args.name.now ≡ None = cc in
+    asks_no_key (key_in s.dataset c.args.name.now) (string_bytes s.host, s.port) (wanted_of c.args.at (length c.args.out.now)) (g.D.Dial.sent s.dial) (g.D.Dial.sent s.dial) (Ok Absent) e
+
+pub returns-in-Ok-clause-asks : goal.returns-in-Ok-clause-asks
+returns-in-Ok-clause-asks g c =
+    let s = c.args.self.now in
+    let e : key_in s.dataset c.args.name.now ≡ Some c.in-Some.key = cc in
+    let none : length c.args.out.now ≡ 0 = omega (arith, c.if-count-eq0.true) in
+    let same = wanted_none [] 0 None None 0 0 0 0 c.args.at (length c.args.out.now) none in
+    asks_key (key_in s.dataset c.args.name.now) c.in-Some.key (string_bytes s.host, s.port) Length (wanted_of c.args.at (length c.args.out.now)) (g.D.Dial.sent s.dial) (g.D.Dial.sent c.ask_length.new.self.dial) (Ok c.in-Ok.promise) (Ok c.find_empty_got.result) e same (λ h. h) c.in-Ok.ensures.asks
+
+pub returns-in-Err-clause-asks : goal.returns-in-Err-clause-asks
+returns-in-Err-clause-asks g c =
+    let s = c.args.self.now in
+    let e : key_in s.dataset c.args.name.now ≡ Some c.in-Some.key = cc in
+    let none : length c.args.out.now ≡ 0 = omega (arith, c.if-count-eq0.true) in
+    let same = wanted_none [] 0 None None 0 0 0 0 c.args.at (length c.args.out.now) none in
+    asks_key (key_in s.dataset c.args.name.now) c.in-Some.key (string_bytes s.host, s.port) Length (wanted_of c.args.at (length c.args.out.now)) (g.D.Dial.sent s.dial) (g.D.Dial.sent c.ask_length.new.self.dial) (Err c.in-Err.failed) (Err c.in-Err.failed) e same (λ h. h) c.in-Err.ensures.asks
+
+pub returns-in-Ok-ask_part-clause-asks : goal.returns-in-Ok-ask_part-clause-asks
+returns-in-Ok-ask_part-clause-asks g c =
+    let s = c.args.self.now in
+    let e : key_in s.dataset c.args.name.now ≡ Some c.in-Some.key = cc in
+    let some : length c.args.out.now ≢ 0 = λ e. absurd (c.if-count-eq0.false e) in
+    let same = wanted_some [] 0 None None 0 0 0 0 c.args.at (length c.args.out.now) some in
+    asks_key (key_in s.dataset c.args.name.now) c.in-Some.key (string_bytes s.host, s.port) (Part c.args.at (length c.args.out.now)) (wanted_of c.args.at (length c.args.out.now)) (g.D.Dial.sent s.dial) (g.D.Dial.sent c.ask_part.new.self.dial) (Ok c.in-Ok-ask_part.promise) (Ok c.find_got.result) e same (λ h. h) c.in-Ok-ask_part.ensures.asks
+
+pub returns-in-Err-ask_part-clause-asks : goal.returns-in-Err-ask_part-clause-asks
+returns-in-Err-ask_part-clause-asks g c =
+    let s = c.args.self.now in
+    let e : key_in s.dataset c.args.name.now ≡ Some c.in-Some.key = cc in
+    let some : length c.args.out.now ≢ 0 = λ e. absurd (c.if-count-eq0.false e) in
+    let same = wanted_some [] 0 None None 0 0 0 0 c.args.at (length c.args.out.now) some in
+    asks_key (key_in s.dataset c.args.name.now) c.in-Some.key (string_bytes s.host, s.port) (Part c.args.at (length c.args.out.now)) (wanted_of c.args.at (length c.args.out.now)) (g.D.Dial.sent s.dial) (g.D.Dial.sent c.ask_part.new.self.dial) (Err c.in-Err-ask_part.failed) (Err c.in-Err-ask_part.failed) e same (λ h. h) c.in-Err-ask_part.ensures.asks

@@ -1,5 +1,6 @@
-use Rattle.std.proofs.Common.{◌≡◌, ◌∙◌, Some, None, refl}
+use Rattle.std.proofs.Common.{◌≡◌, ◌∙◌, Ok, Err, Some, None, refl, string_bytes}
 use Rattle.remote_store.specs.Shown.{key_in, shown}
+use Rattle.remote_store.proofs.AskSteps.{asks_key, asks_no_key}
 use Rattle.remote_store.proofs.HeardParts.{kept_nowhere}
 use Rattle.remote_store.proofs.KeySteps.{key_parts}
 use Rattle.remote_store.proofs.Looked.{if_shown, no_length}
@@ -55,3 +56,21 @@ returns-in-Ok-clause-sent g c =
 
 pub returns-in-Err-clause-sent : goal.returns-in-Err-clause-sent
 returns-in-Err-clause-sent g c = if_any (key_in c.args.self.now.dataset c.args.name.now) tt
+
+pub returns-in-None-clause-asks : goal.returns-in-None-clause-asks
+returns-in-None-clause-asks g c =
+    let s = c.args.self.now in
+    let e : key_in s.dataset c.args.name.now ≡ None = cc in
+    asks_no_key (key_in s.dataset c.args.name.now) (string_bytes s.host, s.port) Length (g.D.Dial.sent s.dial) (g.D.Dial.sent s.dial) (Ok None) e
+
+pub returns-in-Ok-clause-asks : goal.returns-in-Ok-clause-asks
+returns-in-Ok-clause-asks g c =
+    let s = c.args.self.now in
+    let e : key_in s.dataset c.args.name.now ≡ Some c.in-Some.key = cc in
+    asks_key (key_in s.dataset c.args.name.now) c.in-Some.key (string_bytes s.host, s.port) Length Length (g.D.Dial.sent s.dial) (g.D.Dial.sent c.ask_length.new.self.dial) (Ok c.in-Ok.promise) (Ok c.find_size.result) e refl (λ h. h) c.in-Ok.ensures.asks
+
+pub returns-in-Err-clause-asks : goal.returns-in-Err-clause-asks
+returns-in-Err-clause-asks g c =
+    let s = c.args.self.now in
+    let e : key_in s.dataset c.args.name.now ≡ Some c.in-Some.key = cc in
+    asks_key (key_in s.dataset c.args.name.now) c.in-Some.key (string_bytes s.host, s.port) Length Length (g.D.Dial.sent s.dial) (g.D.Dial.sent c.ask_length.new.self.dial) (Err c.in-Err.failed) (Err c.in-Err.failed) e refl (λ h. h) c.in-Err.ensures.asks

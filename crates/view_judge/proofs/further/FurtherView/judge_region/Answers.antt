@@ -14,25 +14,25 @@ shared_box-shared-requires g c = (c.requires.meets.0, subst (λ b. Covers b c.re
 
 pub judge_box-requires-clause-inside : goal.judge_box-requires-clause-inside
 judge_box-requires-clause-inside g c =
-    let is = held_shared c.args.self.now.scale c.self.inside.scale c.args.regions.now c.args.part.now c.args.region c.shared_box-shared.result (sym (ap (λ (r : Opened). r.scale) c.self.view_is)) c.requires.grid c.requires.beside.inside c.requires.region c.requires.meets
+    let is = held_shared c.args.self.now.scale c.self.inside.stored.scale c.args.regions.now c.args.part.now c.args.region c.shared_box-shared.result (sym (ap (λ (r : Opened). r.scale) c.self.view_is)) c.requires.grid c.requires.beside.inside c.requires.region c.requires.meets
     (c.shared_box-shared.ensures ∙ ap (λ x. common x c.args.part.now) c.cell_box.ensures.positions) in
     is.inside
 
 pub judge_box-requires-clause-found : goal.judge_box-requires-clause-found
 judge_box-requires-clause-found g c =
-    let is = held_shared c.args.self.now.scale c.self.inside.scale c.args.regions.now c.args.part.now c.args.region c.shared_box-shared.result (sym (ap (λ (r : Opened). r.scale) c.self.view_is)) c.requires.grid c.requires.beside.inside c.requires.region c.requires.meets
+    let is = held_shared c.args.self.now.scale c.self.inside.stored.scale c.args.regions.now c.args.part.now c.args.region c.shared_box-shared.result (sym (ap (λ (r : Opened). r.scale) c.self.view_is)) c.requires.grid c.requires.beside.inside c.requires.region c.requires.meets
     (c.shared_box-shared.ensures ∙ ap (λ x. common x c.args.part.now) c.cell_box.ensures.positions) in
     omega (arith, is.room, c.requires.found)
 
 pub judge_box-requires-clause-wanted : goal.judge_box-requires-clause-wanted
 judge_box-requires-clause-wanted g c =
-    let is = held_shared c.args.self.now.scale c.self.inside.scale c.args.regions.now c.args.part.now c.args.region c.shared_box-shared.result (sym (ap (λ (r : Opened). r.scale) c.self.view_is)) c.requires.grid c.requires.beside.inside c.requires.region c.requires.meets
+    let is = held_shared c.args.self.now.scale c.self.inside.stored.scale c.args.regions.now c.args.part.now c.args.region c.shared_box-shared.result (sym (ap (λ (r : Opened). r.scale) c.self.view_is)) c.requires.grid c.requires.beside.inside c.requires.region c.requires.meets
     (c.shared_box-shared.ensures ∙ ap (λ x. common x c.args.part.now) c.cell_box.ensures.positions) in
     omega (arith, is.room, c.requires.wanted)
 
 pub judge_box-requires-clause-limit : goal.judge_box-requires-clause-limit
 judge_box-requires-clause-limit g c =
-    let is = held_shared c.args.self.now.scale c.self.inside.scale c.args.regions.now c.args.part.now c.args.region c.shared_box-shared.result (sym (ap (λ (r : Opened). r.scale) c.self.view_is)) c.requires.grid c.requires.beside.inside c.requires.region c.requires.meets
+    let is = held_shared c.args.self.now.scale c.self.inside.stored.scale c.args.regions.now c.args.part.now c.args.region c.shared_box-shared.result (sym (ap (λ (r : Opened). r.scale) c.self.view_is)) c.requires.grid c.requires.beside.inside c.requires.region c.requires.meets
     (c.shared_box-shared.ensures ∙ ap (λ x. common x c.args.part.now) c.cell_box.ensures.positions) in
     is.few
 
@@ -52,4 +52,4 @@ returns-clause-asks g c = record {
 }
 
 pub invariant_of-self : goal.invariant_of-self
-invariant_of-self g c = held_again c.self.inside.dataset c.self.inside.scale c.self.inside.reader c.judge_box.new.reader c.self.invariant c.judge_box.ensures.reader
+invariant_of-self g c = held_again c.self.inside.stored.dataset c.self.inside.stored.scale c.self.inside.reader c.judge_box.new.reader c.self.invariant c.judge_box.ensures.reader

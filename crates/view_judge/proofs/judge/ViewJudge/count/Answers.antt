@@ -1,4 +1,4 @@
-use Rattle.std.proofs.Common.{◌∙◌, IfSome, ap, arith, subst}
+use Rattle.std.proofs.Common.{◌∙◌, ap, arith}
 use Rattle.vol_spec.proofs.Told.{in_told}
 use Rattle.cutout.specs.Opened.{Opened}
 use Rattle.size_laws.specs.Further.{further}

@@ -8,6 +8,6 @@ invariant_of-result c =
     record {
       views = c.in_ok-further.ensures ∙ (λ i. all_opened (sym c.in_ok-first.ensures.dataset i) (same i));
       scale_is = c.duplicate.ensures ∙ same;
-      room = subst (λ s. HasRooms s (length c.in_ok-found.found.bytes)) same (subst (HasRooms c.args.scale.now) (sym c.in_ok-found.ensures.len) c.longest_room-room.ensures);
-      beside = subst (λ s. HasRooms s (length c.in_ok-wanted.wanted.bytes)) same (subst (HasRooms c.args.scale.now) (sym c.in_ok-wanted.ensures.len) c.longest_room-room.ensures);
+      room = subst (λ s. HasRooms s (length c.in_ok-found.found.bytes)) same (subst (HasRooms c.args.stored.now.scale) (sym c.in_ok-found.ensures.len) c.longest_room-room.ensures);
+      beside = subst (λ s. HasRooms s (length c.in_ok-wanted.wanted.bytes)) same (subst (HasRooms c.args.stored.now.scale) (sym c.in_ok-wanted.ensures.len) c.longest_room-room.ensures);
     }

@@ -1,0 +1,93 @@
+-- Moments that pass, call by call.
+use Rattle.std.proofs.Common.{◌≡◌, ℕ, List, [], ◌∷◌, ◌++◌, map as map_list, Option, Some, None, IfSome, refl, ap, sym, subst, ◌∙◌}
+use Rattle.std.proofs.lemmas.List.{append-nil, append_assoc, map-append}
+use Rattle.std.specs.Option.{option_map}
+use Rattle.std.specs.List.{AllByRecursion}
+use Rattle.vol_base.specs.Outside.{Passes, Turns}
+use Rattle.folder_store.specs.Disks.{Disk, with_bytes, written, objects_of, Stands, Touches}
+use Rattle.folder_store.specs.Shown.{IsDraft, SparesTold, Keeps}
+use Rattle.folder_store.proofs.ObjectSteps.{spares_twice, spares_told}
+use Rattle.folder_store.proofs.ToldSteps.{same_spares, written_spares}
+use Rattle.folder_store.proofs.WriteSteps.{with_twice}
+
+module _ {X : Type 0} (P : X → Type 0) where
+  all_joined : (xs ys : List X) → AllByRecursion P xs → AllByRecursion P ys → AllByRecursion P (xs ++ ys)
+  all_joined [] ys h k = k
+  all_joined (x ∷ xs) ys h k = (h.0, all_joined xs ys h.1 k)
+
+  all_weaker : (Q : X → Type 0) → ((x : X) → P x → Q x) → (xs : List X) → AllByRecursion P xs → AllByRecursion Q xs
+  all_weaker Q f [] h = tt
+  all_weaker Q f (x ∷ xs) h = (f x h.0, all_weaker Q f xs h.1)
+
+  pub passes_none : (old new : List X) → new ≡ old → Passes P old new
+  passes_none old new e = record { gained = []; is = e ∙ sym (append-nil old); each = tt }
+
+  pub passes_twice : (a b c : List X) → Passes P a b → Passes P b c → Passes P a c
+  passes_twice a b c h k = record {
+    gained = h.gained ++ k.gained;
+    is = k.is ∙ ap (λ xs. xs ++ k.gained) h.is ∙ append_assoc a h.gained k.gained;
+    each = all_joined h.gained k.gained h.each k.each;
+  }
+
+  pub passes_weaker : (Q : X → Type 0) → ((x : X) → P x → Q x) → (a b : List X) → Passes P a b → Passes Q a b
+  passes_weaker Q f a b h = record { gained = h.gained; is = h.is; each = all_weaker Q f h.gained h.each }
+
+all_mapped : {X Y : Type 0} (P : X → Type 0) (Q : Y → Type 0) (f : X → Y) → ((x : X) → P x → Q (f x)) → (xs : List X) → AllByRecursion P xs → AllByRecursion Q (map_list f xs)
+all_mapped P Q f t [] h = tt
+all_mapped P Q f t (x ∷ xs) h = (t x h.0, all_mapped P Q f t xs h.1)
+
+pub passes_mapped : {X Y : Type 0} (P : X → Type 0) (Q : Y → Type 0) (f : X → Y) → ((x : X) → P x → Q (f x)) → (a b : List X) → Passes P a b → Passes Q (map_list f a) (map_list f b)
+passes_mapped P Q f t a b h = record {
+  gained = map_list f h.gained;
+  is = ap (map_list f) h.is ∙ map-append f a h.gained;
+  each = all_mapped P Q f t h.gained h.each;
+}
+
+-- a call that changes nothing
+pub keeps_same : (old new : Option Disk) (was now : List Disk) → new ≡ old → now ≡ was → Keeps old new was now
+keeps_same old new was now e f = record { spares = same_spares old new e; passed = passes_none _ was now f }
+
+-- a call that changes the disk at one moment
+pub keeps_at_once : (old new : Option Disk) (was now : List Disk) → SparesTold old new → Passes (Stands new) was now → Keeps old new was now
+keeps_at_once old new was now s h = record {
+  spares = s;
+  passed = passes_weaker (Stands new) (λ d. SparesTold old (Some d)) (λ d e. subst (SparesTold old) e s) was now h;
+}
+
+-- one call after the other
+pub keeps_joined : (a b c : Option Disk) (u v w : List Disk) → Keeps a b u v → Keeps b c v w → Keeps a c u w
+keeps_joined a b c u v w h k = record {
+  spares = spares_twice a b c h.spares k.spares;
+  passed = passes_twice _ u v w h.passed (passes_weaker (λ d. SparesTold b (Some d)) (λ d. SparesTold a (Some d)) (λ d s. spares_twice a b (Some d) h.spares s) v w k.passed);
+}
+
+-- a write into a draft's file
+pub keeps_written : (old new : Option Disk) (was now : List Disk) (name path : List ℕ) (number k len : ℕ) → k ≡ number → IfSome old (λ d. IsDraft d name path number len) → ((bytes : List ℕ) × (new ≡ option_map (λ d. with_bytes d k bytes) old)) → Passes (Touches old k) was now → Keeps old new was now
+keeps_written old new was now name path number k len same draft h p = record {
+  spares = written_spares old new name path number k len same draft h;
+  passed = passes_weaker (Touches old k) (λ d. SparesTold old (Some d)) (λ d t. written_spares old (Some d) name path number k len same draft (t.0, sym t.1)) was now p;
+}
+
+-- a write into a file that others came before
+touches_after : (o p : Option Disk) (k at : ℕ) (piece : List ℕ) (d : Disk) → p ≡ option_map (λ x. written x k at piece) o → Touches p k d → Touches o k d
+touches_after None p k at piece d e t = (t.0, sym (ap (option_map (λ x. with_bytes x k t.0)) e) ∙ t.1)
+touches_after (Some x) p k at piece d e t = (t.0, ap Some (sym (with_twice x k _ t.0)) ∙ sym (ap (option_map (λ y. with_bytes y k t.0)) e) ∙ t.1)
+
+pub passes_after : (o p : Option Disk) (u v w : List Disk) (k m at : ℕ) (piece : List ℕ) → m ≡ k → p ≡ option_map (λ x. written x k at piece) o → Passes (Touches o k) u v → Passes (Touches p m) v w → Passes (Touches o k) u w
+passes_after o p u v w k m at piece same e h t =
+    passes_twice (Touches o k) u v w h (passes_weaker (Touches p m) (Touches o k) (λ d x. touches_after o p k at piece d e (subst (λ n. Touches p n d) same x)) v w t)
+
+-- what the objects were at each moment
+pub turns_kept : (old new : Option Disk) (was now : List Disk) → Keeps old new was now → Turns (option_map objects_of old) (option_map objects_of new) (map_list objects_of was) (map_list objects_of now)
+turns_kept old new was now h = record {
+  turn = map_list objects_of now;
+  steady = passes_mapped (λ d. SparesTold old (Some d)) (λ m. option_map objects_of old ≡ Some m) objects_of (λ d s. sym (spares_told old (Some d) s)) was now h.passed;
+  turned = passes_none _ _ _ refl;
+}
+
+pub turns_at_once : (old new : Option Disk) (was now : List Disk) → Passes (Stands new) was now → Turns (option_map objects_of old) (option_map objects_of new) (map_list objects_of was) (map_list objects_of now)
+turns_at_once old new was now h = record {
+  turn = map_list objects_of was;
+  steady = passes_none _ _ _ refl;
+  turned = passes_mapped (Stands new) (λ m. option_map objects_of new ≡ Some m) objects_of (λ d e. ap (option_map objects_of) e) was now h;
+}

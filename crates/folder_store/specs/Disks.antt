@@ -1,0 +1,80 @@
+-- What a folder of files is (this project's): the model of a file system that the trait `Folder` is said over.
+use Rattle.std.specs.Prelude.{◌≡◌, ◌≢◌, ◌++◌, ℕ, Bool, not, nat_eq, ◌==◌, if◌then◌else◌, List, [], ◌∷◌, length, map as map_list, codes, Option, Some, None}
+use Rattle.std.specs.Option.{option_map, unwrap_or}
+use Rattle.std.specs.List.{ends_with}
+use Rattle.std.specs.FinMap as map
+use Rattle.std.specs.Ordering.{nat_cmp}
+use Rattle.std.specs.Cmp.Lexicographic.{slice_cmp}
+use Rattle.vol_base.specs.Bytes.{AreBytes}
+use Rattle.vol_base.specs.Outside.{Objects, overwritten}
+use Rattle.folder_store.specs.declared.folder.Kind.TheVariants.{File}
+use Rattle.folder_store.specs.declared.folder.Standing.{Standing}
+
+-- which file stands at each path, by a number of its own, and what each file holds. Folders are only what paths have in front
+pub record Disk : Type 0 where
+  pub files : map.FinMap (slice_cmp nat_cmp) ℕ
+  pub holds : ℕ → List ℕ
+
+abbrev pub file_at : Disk → List ℕ → Option ℕ
+file_at d path = map.get d.files path
+
+abbrev pub bytes_at : Disk → List ℕ → Option (List ℕ)
+bytes_at d path = option_map d.holds (file_at d path)
+
+-- each file holds bytes
+abbrev pub HoldBytes : Disk → Type 0
+HoldBytes d = (number : ℕ) → AreBytes (d.holds number)
+
+-- what is told of a path where a file with these bytes stands, or none
+abbrev pub StandsAs : Option (List ℕ) → Standing → Type 0
+StandsAs None s = s.kind ≢ File
+StandsAs (Some bytes) s = (s.kind ≡ File) × (s.len ≡ length bytes)
+
+-- no path leads to this file
+abbrev pub IsNew : Disk → ℕ → Type 0
+IsNew d number = (path : List ℕ) → file_at d path ≢ Some number
+
+abbrev pub with_bytes : Disk → ℕ → List ℕ → Disk
+with_bytes d number bytes = record { files = d.files; holds = λ n. if n == number then bytes else d.holds n }
+
+-- a file with no bytes, made at a path
+abbrev pub made : Disk → List ℕ → ℕ → Disk
+made d path number = record { files = map.insert d.files path number; holds = λ n. if n == number then [] else d.holds n }
+
+-- bytes written from a place on, which isn't past the end
+abbrev pub written : Disk → ℕ → ℕ → List ℕ → Disk
+written d number at piece = with_bytes d number (overwritten (d.holds number) at piece)
+
+-- a file that stands at a path from now on, in place of another
+abbrev pub renamed : Disk → List ℕ → List ℕ → Disk
+renamed d from to = record { files = map.insert (map.remove d.files from) to (unwrap_or (file_at d from) 0); holds = d.holds }
+
+abbrev pub removed : Disk → List ℕ → Disk
+removed d path = record { files = map.remove d.files path; holds = d.holds }
+
+-- a path of an object: one that doesn't end in `.part`
+abbrev pub part_end : List ℕ
+part_end = codes ".part"
+
+abbrev pub is_object : List ℕ → Bool
+is_object path = not (ends_with nat_eq path part_end)
+
+-- the files of a map by their numbers, with what they hold
+unfoldable pub values_by : (ℕ → List ℕ) → map.FinMap (slice_cmp nat_cmp) ℕ → Objects
+values_by holds files = map.from_entries (map_list (λ e. (e.0, holds e.1)) (map.entries files))
+
+-- the objects: files at such paths
+unfoldable pub objects_of : Disk → Objects
+objects_of d = values_by d.holds (map.retain_keys d.files is_object)
+
+-- this is what stands, so the call has changed it by then
+abbrev pub Stands : Option Disk → Disk → Type 0
+Stands disk d = disk ≡ Some d
+
+-- one file holds something else, and all else is as it was
+abbrev pub Touches : Option Disk → ℕ → Disk → Type 0
+Touches disk number d = (bytes : List ℕ) × (option_map (λ x. with_bytes x number bytes) disk ≡ Some d)
+
+-- the last of some moments
+abbrev pub IsLast : List Disk → Disk → Type 0
+IsLast moments d = (front : List Disk) × (moments ≡ front ++ d ∷ [])
