@@ -118,22 +118,9 @@ fn check_thrice(
     requires knows { Knows (Some (seen store.old).objects) stored.now.dataset stored.now.scale sharding.now judge.old }
 {
     let [once, twice, last] = asked;
-    check(
-        rt, judge, store, stored, sharding, &FIRST, wanted, once,
-    );
-    check(
-        rt, judge, store, stored, sharding, &FIRST, wanted, twice,
-    );
-    check(
-        rt,
-        judge,
-        store,
-        stored,
-        sharding,
-        &SECOND,
-        Ok(()),
-        last,
-    );
+    check(rt, judge, store, stored, sharding, &FIRST, wanted, once);
+    check(rt, judge, store, stored, sharding, &FIRST, wanted, twice);
+    check(rt, judge, store, stored, sharding, &SECOND, Ok(()), last);
 }
 
 // A store of a shard of many rows, of which row 2,300 has `more` over the one before it.
