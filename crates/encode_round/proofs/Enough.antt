@@ -7,7 +7,7 @@ use Rattle.job_log.specs.declared.stages.Event.TheVariants.{Claim, Deposit}
 use Rattle.job_log.specs.Claims.{EachClaim, IsFree}
 use Rattle.job_log.specs.Replay.{claim_of, claims_in, deposit_of}
 use Rattle.job_log.proofs.Claims.{each_none, each-push_claim, each-push_deposit}
-use Rattle.encode_round.specs.Begun.{AreBegun, IsCounted, IsReached, IsShort, MayBegin, MayEnd, MayStop, bytes_done}
+use Rattle.encode_round.specs.Begun.{AreBegun, IsCounted, HasEnough, IsShort, MayBegin, MayEnd, MayStop, bytes_done}
 use Rattle.encode_round.specs.Ready.{bytes_in}
 
 bytes-push_claim : (wanted : List Bytes) (log : List Event) (seat job : ℕ) → bytes_done wanted (log ++ claim_of seat job ∷ []) ≡ bytes_done wanted log
@@ -45,10 +45,10 @@ counted_deposit enough wanted log now limit bytes more seat job chunk h is has s
 }
 
 -- what is counted tells whether the bytes are enough
-pub reached_is : (enough : Option ℕ) (wanted : List Bytes) (log : List Event) (limit : Option ℕ) (bytes : ℕ) → IsCounted enough wanted log limit bytes → IsReached limit bytes → IsReached enough (bytes_done wanted log)
-reached_is enough wanted log limit bytes h reached = subst (λ o. IsReached o (bytes_done wanted log)) h.limit_is (at limit reached)
+pub reached_is : (enough : Option ℕ) (wanted : List Bytes) (log : List Event) (limit : Option ℕ) (bytes : ℕ) → IsCounted enough wanted log limit bytes → HasEnough limit bytes → HasEnough enough (bytes_done wanted log)
+reached_is enough wanted log limit bytes h reached = subst (λ o. HasEnough o (bytes_done wanted log)) h.limit_is (at limit reached)
   where
-    at : (o : Option ℕ) → IsReached o bytes → IsReached o (bytes_done wanted log)
+    at : (o : Option ℕ) → HasEnough o bytes → HasEnough o (bytes_done wanted log)
     at None never = absurd never
     at (Some most) has = omega (arith, has, h.counted)
 

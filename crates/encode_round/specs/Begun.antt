@@ -14,9 +14,9 @@ bytes_done wanted (Claim seat job ∷ es) = bytes_done wanted es
 bytes_done wanted (Deposit seat job ∷ es) = length (bytes_in (slice_get wanted job)) + bytes_done wanted es
 
 -- a round that ends with so many bytes, if with some, has them; or has fewer
-abbrev pub IsReached : Option ℕ → ℕ → Type 0
-IsReached None done = ⊥
-IsReached (Some bytes) done = bytes ≤ done
+abbrev pub HasEnough : Option ℕ → ℕ → Type 0
+HasEnough None done = ⊥
+HasEnough (Some bytes) done = bytes ≤ done
 
 abbrev pub IsShort : Option ℕ → ℕ → Type 0
 IsShort None done = Unit {0}
@@ -35,7 +35,7 @@ AreBegun seats enough wanted log = EachClaim (MayBegin seats enough wanted) log
 
 -- behind this log a round may end: each job was claimed; or some were, and what is done has as many bytes as the round ends with
 abbrev pub MayEnd : Option ℕ → List Bytes → List Event → Type 0
-MayEnd enough wanted log = (claims_in log ≡ length wanted) ⊎ ((0 < claims_in log) × IsReached enough (bytes_done wanted log))
+MayEnd enough wanted log = (claims_in log ≡ length wanted) ⊎ ((0 < claims_in log) × HasEnough enough (bytes_done wanted log))
 
 -- the same, or a job is out at this seat
 abbrev pub MayStop : Option ℕ → List Bytes → List Event → ℕ → Type 0

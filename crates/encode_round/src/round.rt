@@ -2,7 +2,7 @@
 ghost use Rattle.std.specs.Prelude.{◌≡◌, ◌≢◌, ◌<◌, ◌≤◌, ◌+◌, ◌^◌, ◌++◌, ◌∷◌, [], ℕ, All, length, Some, None, IfSome, IfNone, true, false, slice_get, slice_index_or, vec_capacity};
 ghost use Rattle.job_log.specs.Claims.{IsFree};
 ghost use Rattle.job_log.specs.Replay.{IsFinished, Moves, claim_of, claims_in, deposit_of, out_at, stage_in};
-ghost use Rattle.encode_round.specs.Begun.{AreBegun, IsReached, IsShort, MayStop, bytes_done};
+ghost use Rattle.encode_round.specs.Begun.{AreBegun, HasEnough, IsShort, MayStop, bytes_done};
 ghost use Rattle.encode_round.specs.Held.{HasBytes, HasLen, used_of};
 
 use crate::names::Wanted;
@@ -45,7 +45,7 @@ impl<N: Wanted> Model for Round<N> {
 
 // Whether there are as many bytes as a limit says, if there is one.
 fn is_reached(limit: Option<u64>, bytes: u64) -> bool
-    ensures yes { result ≡ true → IsReached limit bytes }
+    ensures yes { result ≡ true → HasEnough limit bytes }
     ensures no { result ≡ false → IsShort limit bytes }
     ensures small { IfSome limit (λ most. most < 2 ^ 64) }
 {
@@ -93,7 +93,7 @@ impl<N: Wanted> Round<N> {
 
     // Whether a job was claimed, and what was deposited has as many bytes as the round ends with.
     fn is_full(&self) -> bool
-        ensures yes { result ≡ true → (0 < claims_in self.now) × IsReached N.enough (bytes_done N.wanted self.now) }
+        ensures yes { result ≡ true → (0 < claims_in self.now) × HasEnough N.enough (bytes_done N.wanted self.now) }
         ensures no { result ≡ false → 0 < claims_in self.now → IsShort N.enough (bytes_done N.wanted self.now) }
     {
         if self.jobs.claimed() == 0 {
