@@ -1,7 +1,9 @@
 //! Rounds of a scale's jobs: their chunks are encoded by workers, and stored afterwards in the jobs' order.
-ghost use Rattle.std.specs.Prelude.{◌≡◌, ◌≢◌, ◌-◌, ◌/◌, ◌≤◌, ◌<◌, ◌^◌, ℕ, IfOk, length, min};
-ghost use Rattle.encode_round.specs.Serving.{ArePrepared, ServesBench, done_in};
-ghost use Rattle.shard_writer.specs.Serving.{HoldsJobs, ServesRounds, chunk_at, fitting, held_bytes, most_after, next_size, prepared_bytes, prepared_size, round_bytes, round_size, several_frames};
+ghost use Rattle.std.specs.Prelude.{◌≡◌, ◌≢◌, ◌-◌, ◌/◌, ◌≤◌, ◌<◌, ◌^◌, ℕ, IfOk, Some, length, min};
+ghost use Rattle.encode_round.specs.Begun.{AreBegun, MayEnd};
+ghost use Rattle.encode_round.specs.Ready.{chunks_from};
+ghost use Rattle.encode_round.specs.Serving.{ArePrepared, ServesBench, done_in, log_in, seats_in};
+ghost use Rattle.shard_writer.specs.Serving.{HoldsJobs, ServesRounds, chunk_at, first_longest, fitting, held_bytes, most_after, next_size, prepared_bytes, prepared_size, round_bytes, round_size, several_frames};
 ghost use Rattle.vol_spec.specs.Limits.{first_bytes};
 ghost use Rattle.vol_spec.specs.Writable.{IsWritable};
 ghost use Rattle.write_plan.specs.Jobs.{FitsWindow, frame_len};
@@ -25,7 +27,7 @@ pub(crate) struct Crew<'a, R, G> {
 
 /// A bench, and the first job of the last round. Of a round how many jobs it has at least, where there are as many, and at most;
 /// for how many bytes it has room, how many a job has of them for its values, and how many the longest chunk of the last round
-/// has: before the first round as many as a chunk may have.
+/// has: before the first round none, or as many as a chunk may have where jobs hold their values.
 #[derive(Drop)]
 pub(crate) struct Rounds {
     pub bench: Bench,
@@ -124,6 +126,14 @@ fn pick_room(holds: bool) -> u64
     if holds { ROOM } else { CHUNK_ROOM }
 }
 
+// How many bytes the longest chunk counts for before the first round. Where jobs hold no values it is none: no job is begun once
+// the chunks of a round have as many bytes as it has room for, however long they are.
+fn count_longest(scale: &Scale, holds: bool) -> u32
+    ensures { result ≡ first_longest holds scale.now }
+{
+    if holds { scale.chunk_limit() as u32 } else { 0 }
+}
+
 /// Takes all memory that the rounds of so many jobs take, which hold their values or don't: for as many as a round has, and
 /// for a worker each, but no more than a round has jobs, and no more than 16.
 pub(crate) fn reserve_rounds<R, G>(
@@ -134,6 +144,9 @@ pub(crate) fn reserve_rounds<R, G>(
 ) -> Result<Rounds, OutOfMemory>
     ensures serves { IfOk result (ServesRounds scale.now) }
     ensures first { IfOk result (λ rounds. rounds.first ≡ 0) }
+    ensures room { IfOk result (λ rounds. rounds.room ≡ round_bytes holds) }
+    ensures held { IfOk result (λ rounds. rounds.held ≡ held_bytes holds scale.now) }
+    ensures longest { IfOk result (λ rounds. rounds.longest ≡ first_longest holds scale.now) }
 {
     let workers = crew.workers.min(16);
     let size = count_frames(scale, workers, holds).min(count.max(1));
@@ -146,7 +159,7 @@ pub(crate) fn reserve_rounds<R, G>(
         most: size,
         room: pick_room(holds),
         held: count_held(scale, holds),
-        longest: scale.chunk_limit() as u32,
+        longest: count_longest(scale, holds),
     })
 }
 
@@ -234,8 +247,9 @@ fn find_longest(scale: &Scale, bench: &Bench, count: u64) -> u32
     longest
 }
 
-/// Encodes the chunks of jobs from one number on, up to, not with, another at most, which are prepared, in one round. No job is
-/// begun once the chunks have as many bytes as a round has room for. Answers which job is next.
+/// Encodes the chunks of jobs from one number on, up to, not with, another at most, which are prepared, in one round. No job but
+/// the first one is begun once the chunks have as many bytes as a round has room for, and each other one is. Answers which job is
+/// next.
 pub(crate) fn encode_jobs<R: Threads + Wait + Sync, C: Chunks + Sync, G: Gate + Sync>(
     crew: &Crew<R, G>,
     scale: &Scale,
@@ -252,6 +266,12 @@ pub(crate) fn encode_jobs<R: Threads + Wait + Sync, C: Chunks + Sync, G: Gate + 
     ensures within { result ≤ to }
     ensures rounds { ServesRounds scale.now rounds.new }
     ensures longest { (k : ℕ) → k < result - from → length (done_in rounds.new.bench k) ≤ rounds.new.longest }
+    ensures room { rounds.new.room ≡ rounds.old.room }
+    ensures values { rounds.new.held ≡ rounds.old.held }
+    ensures begun { let wanted = chunks_from (C.work chunks.now) (C.ready chunks.now) from (to - from) in
+        AreBegun (seats_in rounds.old.bench) (Some rounds.old.room) wanted (log_in rounds.new.bench) }
+    ensures end { let wanted = chunks_from (C.work chunks.now) (C.ready chunks.now) from (to - from) in
+        MayEnd (Some rounds.old.room) wanted (log_in rounds.new.bench) }
     ensures most { rounds.new.most ≡ most_after scale.now (record rounds.new { most = rounds.old.most }) }
     ensures held { HoldsJobs (C.work chunks.now) (C.ready chunks.now) from result rounds.new }
 {
