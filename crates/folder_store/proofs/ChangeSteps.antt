@@ -15,7 +15,7 @@ use Rattle.folder_store.specs.Disks.{Disk, file_at, IsNew}
 use Rattle.folder_store.specs.Below.{Below, AtOrBelow, Among, IsLeaf, Lists}
 use Rattle.folder_store.specs.Changes.{changed, disk_of, given_lower, told_path, gives_number, gives_below}
 use Rattle.folder_store.specs.declared.memory.Change.{Change}
-use Rattle.folder_store.specs.declared.memory.Change.TheVariants.{Made, Wrote, Moved, Removed}
+use Rattle.folder_store.specs.declared.memory.Change.TheVariants.{Made, Wrote, Synced, Moved, Removed}
 use Rattle.folder_store.proofs.BelowSteps.{tested_below, below_tested}
 
 pub on_err : {T E : Type 0} (r : Result T E) (A : Type 0) → A → OnErr r A
@@ -31,12 +31,13 @@ twice_told : (a b : Bool) (x y z : Option ℕ) → cond a x (cond b y z) ≡ unw
 twice_told true b x y z = refl
 twice_told false b x y z = cond_told b y z
 
-one_on : (c : Change) (d : Disk) (q : List ℕ) → file_at (changed c d) q ≡ unwrap_or (told_path c q) (file_at d q)
+pub one_on : (c : Change) (d : Disk) (q : List ℕ) → file_at (changed c d) q ≡ unwrap_or (told_path c q) (file_at d q)
 one_on (Made p n) d q =
     map.get-insert nat_list_cmp_total d.files (string_bytes p) n q
     ∙ ap (λ b. cond b (Some n) (file_at d q)) (is_eq-slice_cmp q (string_bytes p))
     ∙ cond_told (bytes_eq q (string_bytes p)) (Some n) (file_at d q)
 one_on (Wrote n content) d q = refl
+one_on (Synced n) d q = refl
 one_on (Moved f t n) d q =
     map.get-insert nat_list_cmp_total (map.remove d.files (string_bytes f)) (string_bytes t) n q
     ∙ ap (cond (eq_by_cmp (slice_cmp nat_cmp) q (string_bytes t)) (Some n)) (map.get-remove nat_list_cmp_total d.files (string_bytes f) q)
@@ -95,6 +96,7 @@ given_number q n (Made p m) e =
       | inr apart ↦ absurd (none_some (Some n) (sym (ap (λ b. cond b (Some (Some m)) None) apart) ∙ e))
     ]
 given_number q n (Wrote m content) e = absurd (none_some (Some n) e)
+given_number q n (Synced m) e = absurd (none_some (Some n) e)
 given_number q n (Moved f t m) e =
     elim (cases_Bool (bytes_eq q (string_bytes t))) [
       | inl same ↦ eq-eqb m n (some_same m n (sym (ap (λ b. cond b (Some (Some m)) (cond (bytes_eq q (string_bytes f)) (Some None) None)) same) ∙ e))
@@ -111,6 +113,7 @@ given_below path q n u (Made p m) e =
       | inr apart ↦ absurd (none_some (Some n) (sym (ap (λ b. cond b (Some (Some m)) None) apart) ∙ e))
     ]
 given_below path q n u (Wrote m content) e = absurd (none_some (Some n) e)
+given_below path q n u (Synced m) e = absurd (none_some (Some n) e)
 given_below path q n u (Moved f t m) e =
     elim (cases_Bool (bytes_eq q (string_bytes t))) [
       | inl same ↦ ap (is_under path) (sym ((bytes_decides q (string_bytes t)).0 same)) ∙ u
@@ -149,6 +152,7 @@ some_if P false p f = tt
 given_is_below : (path : List ℕ) (c : Change) → IfSome (given_lower path c) (Below path)
 given_is_below path (Made p m) = some_if (Below path) (is_under path (string_bytes p)) (string_bytes p) (below_tested path (string_bytes p))
 given_is_below path (Wrote m content) = tt
+given_is_below path (Synced m) = tt
 given_is_below path (Moved f t m) = some_if (Below path) (is_under path (string_bytes t)) (string_bytes t) (below_tested path (string_bytes t))
 given_is_below path (Removed p) = tt
 
@@ -161,6 +165,7 @@ given_exact path q n u (Made p m) e =
       | inr apart ↦ absurd (none_some (Some n) (sym (ap (λ b. cond b (Some (Some m)) None) apart) ∙ e))
     ]
 given_exact path q n u (Wrote m content) e = absurd (none_some (Some n) e)
+given_exact path q n u (Synced m) e = absurd (none_some (Some n) e)
 given_exact path q n u (Moved f t m) e =
     elim (cases_Bool (bytes_eq q (string_bytes t))) [
       | inl same ↦

@@ -12,9 +12,9 @@ abbrev pub AtOrBelow : List ℕ → List ℕ → Type 0
 AtOrBelow path lower = (lower ≡ path) ⊎ Below path lower
 
 -- one of them passes
-abbrev pub Among : (List ℕ → Type 0) → List (List ℕ) → Type 0
+abbrev pub Among : {X : Type 0} → (X → Type 0) → List X → Type 0
 Among P [] = ⊥
-Among P (path ∷ paths) = P path ⊎ Among P paths
+Among P (x ∷ xs) = P x ⊎ Among P xs
 
 -- no file stands below
 abbrev pub IsLeaf : Disk → List ℕ → Type 0

@@ -1,5 +1,5 @@
 -- What a folder of files is (this project's): the model of a file system that the trait `Folder` is said over.
-use Rattle.std.specs.Prelude.{◌≡◌, ◌≢◌, ◌++◌, ℕ, Bool, not, nat_eq, ◌==◌, if◌then◌else◌, List, [], ◌∷◌, length, map as map_list, codes, Option, Some, None}
+use Rattle.std.specs.Prelude.{◌≡◌, ◌≢◌, ◌++◌, ℕ, Bool, true, not, nat_eq, ◌==◌, if◌then◌else◌, List, [], ◌∷◌, length, map as map_list, codes, Option, Some, None, IsSome, IfSome}
 use Rattle.std.specs.Option.{option_map, unwrap_or}
 use Rattle.std.specs.List.{ends_with}
 use Rattle.std.specs.FinMap as map
@@ -67,14 +67,27 @@ values_by holds files = map.from_entries (map_list (λ e. (e.0, holds e.1)) (map
 unfoldable pub objects_of : Disk → Objects
 objects_of d = values_by d.holds (map.retain_keys d.files is_object)
 
+-- what stands at a moment, and of which files the disk has what they hold: a loss of power leaves them so
+pub record Moment : Type 0 where
+  pub disk : Disk
+  pub kept : ℕ → Bool
+
+-- no object's path leads to this file
+abbrev pub IsApart : Disk → ℕ → Type 0
+IsApart d number = (path : List ℕ) → is_object path ≡ true → file_at d path ≢ Some number
+
+-- where a file stands at the second path, the one at the first is kept
+abbrev pub IsSettled : Disk → (ℕ → Bool) → List ℕ → List ℕ → Type 0
+IsSettled d kept from to = IsSome (file_at d to) → IfSome (file_at d from) (λ number. kept number ≡ true)
+
 -- this is what stands, so the call has changed it by then
-abbrev pub Stands : Option Disk → Disk → Type 0
-Stands disk d = disk ≡ Some d
+abbrev pub Stands : Option Disk → Moment → Type 0
+Stands disk m = disk ≡ Some m.disk
 
 -- one file holds something else, and all else is as it was
-abbrev pub Touches : Option Disk → ℕ → Disk → Type 0
-Touches disk number d = (bytes : List ℕ) × (option_map (λ x. with_bytes x number bytes) disk ≡ Some d)
+abbrev pub Touches : Option Disk → ℕ → Moment → Type 0
+Touches disk number m = (bytes : List ℕ) × (option_map (λ x. with_bytes x number bytes) disk ≡ Some m.disk)
 
 -- the last of some moments
-abbrev pub IsLast : List Disk → Disk → Type 0
-IsLast moments d = (front : List Disk) × (moments ≡ front ++ d ∷ [])
+abbrev pub IsLast : List Moment → Moment → Type 0
+IsLast moments m = (front : List Moment) × (moments ≡ front ++ m ∷ [])

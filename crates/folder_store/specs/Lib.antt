@@ -3,6 +3,7 @@ pub mod Below
 pub mod Changes
 pub mod Disks
 pub mod ObjectBytes
+pub mod Power
 pub mod Puts
 pub mod Searching
 pub mod Shown

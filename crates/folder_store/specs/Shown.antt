@@ -5,7 +5,7 @@ use base.Stored.{coded_sub}
 use Rattle.std.specs.Option.{option_map}
 use Rattle.std.specs.FinMap as map
 use Rattle.vol_base.specs.Outside.{Objects, Draft, HaveBytes, IsTold, Passes}
-use Rattle.folder_store.specs.Disks.{Disk, file_at, part_end, is_object}
+use Rattle.folder_store.specs.Disks.{Disk, Moment, Stands, file_at, part_end, is_object}
 use Rattle.folder_store.specs.ObjectBytes.{have_bytes_once}
 
 -- a file is open for reading that stands at an object's path, and was that long
@@ -37,9 +37,15 @@ SparesTold (Some d) None = ⊥
 SparesTold (Some d) (Some e) = Spares d e
 
 -- The objects stay as they are, and so they do at each moment that passes
-pub record Keeps (old new : Option Disk) (was now : List Disk) : Type 0 where
+pub record Keeps (old new : Option Disk) (was now : List Moment) : Type 0 where
   pub spares : SparesTold old new
-  pub passed : Passes (λ d. SparesTold old (Some d)) was now
+  pub passed : Passes (λ m. SparesTold old (Some m.disk)) was now
+
+-- The files stay as they are, at each moment that passes, until they are the new ones
+pub record TurnsAt (old new : Option Disk) (was now : List Moment) : Type 0 where
+  pub turn : List Moment
+  pub steady : Passes (Stands old) was turn
+  pub turned : Passes (Stands new) turn now
 
 -- the object being written: its name, its length, and what its file holds, where that is told
 pub record Writing : Type 0 where

@@ -1,5 +1,5 @@
 //! The objects below a folder.
-ghost use Rattle.std.specs.Prelude.{[], ◌∷◌, map as map_list, ℕ, List, OnErr, string_bytes, ◌≡◌, ◌+◌, ◌++◌, ◌-◌, ◌<◌, ◌≤◌, ◌^◌, ◌↔◌, min, length, take, drop, Ok, Err, IfOk, OnOk, IsOk, IfSome, Some, None, true, false, nat_eq, is_some, MatchOption};
+ghost use Rattle.std.specs.Prelude.{[], ◌∷◌, map as map_list, ℕ, List, OnErr, string_bytes, ◌≡◌, ◌+◌, ◌++◌, ◌-◌, ◌<◌, ◌≤◌, ◌^◌, ◌↔◌, min, length, take, drop, Ok, Err, IfOk, OnOk, IsOk, IsSome, IfSome, Some, None, true, false, nat_eq, is_some, MatchOption};
 ghost use Rattle.std.specs.FinMap as map;
 ghost use Rattle.std.specs.IoError.{error_kind};
 ghost use Rattle.std.specs.List.{ends_with};
@@ -8,9 +8,9 @@ ghost use Rattle.vol_base.specs.Causes.{HasCauseOf};
 ghost use Rattle.vol_base.specs.Outside.{KeepsRest, Passes, Reads, any_under};
 ghost use Rattle.folder_store.specs.Absences.{says_absent};
 ghost use Rattle.folder_store.specs.Below.{Among};
-ghost use Rattle.folder_store.specs.Disks.{file_at, part_end, objects_of, is_object, Stands, Touches, with_bytes, written, renamed};
+ghost use Rattle.folder_store.specs.Disks.{file_at, part_end, objects_of, is_object, IsApart, Stands, Touches, with_bytes, written, renamed};
 ghost use Rattle.folder_store.specs.Searching.{ArePassed, HasBelow, IsObjectAt, IsPassed, IsSearched, Judges};
-ghost use Rattle.folder_store.specs.Shown.{IsOpen, IsDraft, IsFresh, Keeps};
+ghost use Rattle.folder_store.specs.Shown.{IsOpen, IsDraft, IsFresh, Keeps, TurnsAt};
 
 use crate::counts::count_fault;
 use crate::folder::{Folder, Kind, Standing};
@@ -50,6 +50,7 @@ struct Unfinished<T> {
 /// another file, or a longer or shorter one, stands in its place.
 ///
 /// An object is written to a file with `.part` behind its name, which is renamed at the end, in place of an older object.
+/// Where one stands the disk is waited for first, so a loss of power leaves the old one or the new one.
 /// After a refusal, and where another object is begun, that file is removed, if the system lets it. What an earlier run
 /// left there, a file or a link of either kind, is unlinked and made anew, so that nothing that a link leads to is written;
 /// a folder there, or what is neither a file nor a link, is a fault.
@@ -79,7 +80,7 @@ impl<F: Folder> Model for DirStore<F> {
       sound = have_told (F.Folder.disk s.folder) (F.Folder.bytes s.folder);
       writing =
           option_map (λ w. shown_in (F.Folder.disk s.folder) w.name (F.Folder.writes w.file) w.len) s.writing;
-      history = map_list objects_of (F.Folder.moments s.folder);
+      history = map_list (λ m. objects_of m.disk) (F.Folder.moments s.folder);
       asked = s.asked;
       faults = s.faults;
     } };
@@ -95,6 +96,7 @@ impl<F: Folder> DirStore<F> {
     ghost use Rattle.std.specs.Option.{option_map};
     ghost use Rattle.folder_store.specs.Disks.{objects_of};
     ghost use Rattle.folder_store.specs.ObjectBytes.{have_told};
+    ghost use Rattle.folder_store.specs.Power.{Survives};
 
     /// Nothing was asked for, nothing failed, and no object is being written.
     pub fn new(folder: F, alloc: Global) -> DirStore<F>
@@ -102,7 +104,7 @@ impl<F: Folder> DirStore<F> {
           objects = option_map objects_of (F.disk folder);
           sound = have_told (F.disk folder) (F.bytes folder);
           writing = None;
-          history = map_list objects_of (F.moments folder);
+          history = map_list (λ m. objects_of m.disk) (F.moments folder);
           asked = 0;
           faults = 0;
         } }
@@ -120,7 +122,8 @@ impl<F: Folder> DirStore<F> {
     /// The folder, and no more of what was open.
     pub fn into_folder(self) -> F
         ensures objects { self.objects ≡ option_map objects_of (F.disk result) }
-        ensures history { self.history ≡ map_list objects_of (F.moments result) }
+        ensures history { self.history ≡ map_list (λ m. objects_of m.disk) (F.moments result) }
+        ensures power { Survives (F.moments result) }
     {
         let DirStore { folder, .. } = self;
         folder
@@ -603,6 +606,7 @@ fn write_some<F: Folder>(
 ) -> Result<usize, Failed>
     requires some { 0 < length piece.now }
     requires place { IfSome (F.disk folder.old) (λ d. at ≤ length (d.holds (F.writes part.old))) }
+    requires apart { IfSome (F.disk folder.old) (λ d. IsApart d (F.writes part.old)) }
     ensures some { IfOk result (λ n. (0 < n) × (n ≤ length piece.now)) }
     ensures written { IfOk result (λ n. F.disk folder.new
         ≡ option_map (λ d. written d (F.writes part.old) at (take n piece.now)) (F.disk folder.old)) }
@@ -630,6 +634,7 @@ fn write_piece<F: Folder>(
     piece: &[u8],
 ) -> Result<(), Failed>
     requires place { IfSome (F.disk folder.old) (λ d. at ≤ length (d.holds (F.writes part.old))) }
+    requires apart { IfSome (F.disk folder.old) (λ d. IsApart d (F.writes part.old)) }
     requires end { at + length piece.now < 2 ^ 64 }
     ensures written { OnOk result (F.disk folder.new
         ≡ option_map (λ d. written d (F.writes part.old) at piece.now) (F.disk folder.old)) }
@@ -678,6 +683,35 @@ fn extend<F: Folder>(
     }
 }
 
+// Whether no object stands at a path.
+fn is_free<F: Folder>(folder: &mut F, path: &str) -> bool
+    ensures free { result ≡ true → IfSome (F.disk folder.old) (λ d. file_at d path.now ≡ None) }
+    ensures same { F.disk folder.new ≡ F.disk folder.old }
+    ensures moments { F.moments folder.new ≡ F.moments folder.old }
+{
+    match folder.stat(path) {
+        Ok(_) => false,
+        Err(error) => tells_absence(&error),
+    }
+}
+
+// Waits until the disk has what a draft holds, if an object stands in its place: that one is lost only once the disk has
+// the new one. A new object takes nothing's place.
+fn settle<F: Folder>(folder: &mut F, part: &F::Part, path: &str) -> Result<(), Failed>
+    ensures settled { OnOk result (IfSome (F.disk folder.new) (λ d.
+        IsSome (file_at d path.now) → F.kept folder.new (F.writes part.now) ≡ true)) }
+    ensures same { F.disk folder.new ≡ F.disk folder.old }
+    ensures moments { Passes (Stands (F.disk folder.old)) (F.moments folder.old) (F.moments folder.new) }
+{
+    if is_free(folder, path) {
+        return Ok(());
+    }
+    match folder.sync(part) {
+        Ok(()) => Ok(()),
+        Err(_) => Err(Failed),
+    }
+}
+
 // Puts an object that is written to its end in its place.
 fn put<F: Folder>(folder: &mut F, unfinished: Unfinished<F::Part>) -> Result<(), Failed>
     requires path { is_object (string_bytes unfinished.path) ≡ false }
@@ -685,13 +719,17 @@ fn put<F: Folder>(folder: &mut F, unfinished: Unfinished<F::Part>) -> Result<(),
         IsDraft d unfinished.name (string_bytes unfinished.path) (F.writes unfinished.file) unfinished.len) }
     ensures put { OnOk result (F.disk folder.new
         ≡ option_map (λ d. renamed d (string_bytes unfinished.path) unfinished.name) (F.disk folder.old)) }
-    ensures moments { OnOk result (Passes (Stands (F.disk folder.new)) (F.moments folder.old) (F.moments folder.new)) }
+    ensures turned { OnOk result (TurnsAt (F.disk folder.old) (F.disk folder.new) (F.moments folder.old) (F.moments folder.new)) }
     ensures spared { OnErr result (Keeps (F.disk folder.old) (F.disk folder.new) (F.moments folder.old) (F.moments folder.new)) }
 {
     let Ok(path) = str::from_utf8(unfinished.name.as_bytes()) else {
         discard(folder, unfinished);
         return Err(Failed);
     };
+    if settle(folder, &unfinished.file, path).is_err() {
+        discard(folder, unfinished);
+        return Err(Failed);
+    }
     match folder.rename(unfinished.path.as_str(), path) {
         Ok(()) => Ok(()),
         Err(_) => {

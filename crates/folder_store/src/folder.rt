@@ -29,7 +29,9 @@ pub struct Standing {
 /// The files below a folder, as the system's calls see and change them, while nothing else writes there. Each method is
 /// mostly one call.
 pub trait Folder {
-    ghost use Rattle.folder_store.specs.Disks.{Disk, file_at, bytes_at, HoldBytes, StandsAs, Stands, Touches, IsLast, IsNew, with_bytes, made, written, renamed, removed};
+    ghost use Rattle.std.specs.Prelude.{Bool, true, false};
+    ghost use Rattle.folder_store.specs.Disks.{Disk, Moment, file_at, bytes_at, is_object, HoldBytes, StandsAs, Stands, Touches, IsApart, IsLast, IsNew, IsSettled, with_bytes, made, written, renamed, removed};
+    ghost use Rattle.folder_store.specs.Power.{Lasts};
     ghost use Rattle.folder_store.specs.Below.{IsLeaf, Lists};
 
     /// A file that is open for reading.
@@ -44,11 +46,18 @@ pub trait Folder {
     /// The files, where they are told.
     ghost disk: { Self → Option Disk };
 
+    /// Of which files the disk has by now what they hold.
+    ghost kept: { Self → ℕ → Bool };
+
     /// What stood so far, moment by moment, where it is told. A kill leaves the last of them, or some later one.
-    ghost moments: { Self → List Disk };
+    ghost moments: { Self → List Moment };
 
     /// What stands is the last moment.
-    ghost ends: { (s : Self) → IfSome (disk s) (IsLast (moments s)) };
+    ghost ends: { (s : Self) → IfSome (disk s) (λ d. IsLast (moments s) (record { disk = d; kept = kept s })) };
+
+    /// An object that the disk has stays there: no call may take it away, write to it, or put a file in its place that the
+    /// disk doesn't have.
+    ghost lasts: { (s : Self) → Lasts (moments s) };
 
     /// Which file a reader has open, if it is one.
     ghost opened: { Self.File → Option ℕ };
@@ -116,7 +125,8 @@ pub trait Folder {
 
     /// Writes some bytes from a place on, which isn't past the end (`pwrite`). Where it fails the file may hold anything.
     fn write_at(&mut self, part: &mut Self::Part, at: u64, piece: &[u8]) -> io::Result<usize>
-        requires { IfSome (disk self.old) (λ d. at ≤ length (d.holds (writes part.old))) }
+        requires place { IfSome (disk self.old) (λ d. at ≤ length (d.holds (writes part.old))) }
+        requires apart { IfSome (disk self.old) (λ d. IsApart d (writes part.old)) }
         ensures within { IfOk result (λ n. n ≤ length piece.now) }
         ensures written { IfOk result (λ n. disk self.new
             ≡ option_map (λ d. written d (writes part.old) at (take n piece.now)) (disk self.old)) }
@@ -126,9 +136,17 @@ pub trait Folder {
         ensures part { writes part.new ≡ writes part.old }
         ensures moments { Passes (Touches (disk self.old) (writes part.old)) (moments self.old) (moments self.new) };
 
+    /// Waits until the disk has what a file holds (`fdatasync`).
+    fn sync(&mut self, part: &Self::Part) -> io::Result<()>
+        ensures kept { OnOk result (IfSome (disk self.old) (λ _. kept self.new (writes part.now) ≡ true)) }
+        ensures same { disk self.new ≡ disk self.old }
+        ensures moments { Passes (Stands (disk self.old)) (moments self.old) (moments self.new) };
+
     /// Moves a file to a path, in place of another file there (`rename`).
     fn rename(&mut self, from: &str, to: &str) -> io::Result<()>
+        requires part { is_object from.now ≡ false }
         requires file { IfSome (disk self.old) (λ d. IsSome (file_at d from.now)) }
+        requires settled { IfSome (disk self.old) (λ d. IsSettled d (kept self.old) from.now to.now) }
         requires apart { IfSome (disk self.old) (λ d. file_at d from.now ≢ file_at d to.now) }
         ensures renamed { OnOk result (disk self.new ≡ option_map (λ d. renamed d from.now to.now) (disk self.old)) }
         ensures same { OnErr result (disk self.new ≡ disk self.old) }
@@ -136,6 +154,7 @@ pub trait Folder {
 
     /// Takes a path away from its file (`unlink`).
     fn remove(&mut self, path: &str) -> io::Result<()>
+        requires { is_object path.now ≡ false }
         ensures removed { OnOk result (disk self.new ≡ option_map (λ d. removed d path.now) (disk self.old)) }
         ensures same { OnErr result (disk self.new ≡ disk self.old) }
         ensures moments { Passes (Stands (disk self.new)) (moments self.old) (moments self.new) };

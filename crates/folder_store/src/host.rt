@@ -41,7 +41,7 @@ fn standing(found: &Metadata) -> Standing
 }
 
 impl<R: Files<File = File> + AllocGlobal + Clone + Drop> Folder for HostFolder<R> {
-    ghost use Rattle.std.specs.Prelude.{[], None};
+    ghost use Rattle.std.specs.Prelude.{[], None, false};
 
     type File = File;
 
@@ -53,7 +53,11 @@ impl<R: Files<File = File> + AllocGlobal + Clone + Drop> Folder for HostFolder<R
 
     ghost moments = { λ _. [] };
 
+    ghost kept = { λ _ _. false };
+
     ghost ends = { λ _. tt };
+
+    ghost lasts = { λ _. tt };
 
     ghost bytes = { λ _. tt };
 
@@ -96,6 +100,10 @@ impl<R: Files<File = File> + AllocGlobal + Clone + Drop> Folder for HostFolder<R
 
     fn write_at(&mut self, part: &mut File, at: u64, piece: &[u8]) -> io::Result<usize> {
         part.write_at(piece, at)
+    }
+
+    fn sync(&mut self, part: &File) -> io::Result<()> {
+        part.sync_data()
     }
 
     fn rename(&mut self, from: &str, to: &str) -> io::Result<()> {

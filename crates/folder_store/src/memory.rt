@@ -4,7 +4,8 @@ ghost use Rattle.std.specs.IoError.{error_kind};
 ghost use Rattle.std.specs.List.{list_any, filter_map};
 ghost use Rattle.std.specs.Option.{option_map};
 ghost use Rattle.folder_store.specs.Absences.{says_absent};
-ghost use Rattle.folder_store.specs.Changes.{disk_of, given_lower, told_path, told_bytes, gives_number, gives_below};
+ghost use Rattle.folder_store.specs.Changes.{disk_of, moment_of, given_lower, told_path, told_bytes, gives_number, gives_below, SpareKept};
+ghost use Rattle.folder_store.specs.Power.{KeepsKept};
 ghost use Rattle.folder_store.specs.Disks.{file_at, IsNew};
 ghost use Rattle.folder_store.specs.Below.{IsLeaf};
 ghost use Rattle.vol_base.specs.Outside.{Gives, is_under, overwritten};
@@ -19,6 +20,7 @@ use std::io::{self, ErrorKind};
 pub enum Change {
     Made(String, usize),
     Wrote(usize, Content),
+    Synced(usize),
     Moved(String, String, usize),
     Removed(String),
 }
@@ -29,8 +31,8 @@ pub struct MemoryFile {
     pub number: usize,
 }
 
-/// The changes so far, the newest first; the numbers of the calls that fail and of those that a signal breaks off; and how
-/// much a call reads or writes at most.
+/// The changes so far, the newest first; the numbers of the calls that fail, and of those that a signal breaks off if they read
+/// or write; and how much a call reads or writes at most.
 #[derive(Drop)]
 pub struct MemoryFolder {
     pub alloc: Global,
@@ -39,6 +41,7 @@ pub struct MemoryFolder {
     pub failing: Vec<u64>,
     pub broken_off: Vec<u64>,
     pub piece: usize,
+    pub ghost lasting: { SpareKept changes.items },
 }
 
 impl MemoryFolder {
@@ -60,7 +63,7 @@ impl MemoryFolder {
 }
 
 // One more call.
-fn tick(calls: &mut u64, failing: &[u64], broken_off: &[u64]) -> io::Result<()>
+fn tick(calls: &mut u64, failing: &[u64]) -> io::Result<()>
     ensures { IfErr result (λ e. says_absent (error_kind e) ≡ false) }
 {
     let number = *calls;
@@ -68,10 +71,16 @@ fn tick(calls: &mut u64, failing: &[u64], broken_off: &[u64]) -> io::Result<()>
     if failing.contains(&number) {
         return Err(io::Error::from(ErrorKind::PermissionDenied));
     }
-    if broken_off.contains(&number) {
+    Ok(())
+}
+
+// One more call that a signal may break off.
+fn tick_long(calls: &mut u64, failing: &[u64], broken_off: &[u64]) -> io::Result<()> {
+    if broken_off.contains(calls) {
+        *calls = calls.saturating_add(1);
         return Err(io::Error::from(ErrorKind::Interrupted));
     }
-    Ok(())
+    tick(calls, failing)
 }
 
 // What a change says of a path: nothing, or which file is there from then on, if any is.
@@ -232,11 +241,12 @@ fn laid_over(alloc: Global, bytes: &[u8], at: usize, piece: &[u8]) -> Result<Vec
 }
 
 // Notes a change.
-fn note(changes: &mut Vec<Change>, change: Change) -> io::Result<()>
-    ensures ok { OnOk result (changes.new.items ≡ change ∷ changes.old.items) }
-    ensures err { OnErr result (changes.new.items ≡ changes.old.items) }
+fn note(folder: &mut MemoryFolder, change: Change) -> io::Result<()>
+    requires { KeepsKept (moment_of folder.old.changes.items) (moment_of (change ∷ folder.old.changes.items)) }
+    ensures ok { OnOk result (folder.new.changes.items ≡ change ∷ folder.old.changes.items) }
+    ensures err { OnErr result (folder.new.changes.items ≡ folder.old.changes.items) }
 {
-    match changes.insert(0, change) {
+    match folder.changes.insert(0, change) {
         Ok(()) => Ok(()),
         Err(_) => Err(io::Error::from(ErrorKind::OutOfMemory)),
     }
@@ -250,7 +260,7 @@ pub struct MemoryNames {
 
 impl Folder for MemoryFolder {
     ghost use Rattle.std.specs.Prelude.{[], Some, map as map_list};
-    ghost use Rattle.folder_store.specs.Changes.{all_hold, moments_of, moments_end};
+    ghost use Rattle.folder_store.specs.Changes.{all_hold, kept_of, moments_of, moments_end, moments_last};
 
     type File = MemoryFile;
 
@@ -262,7 +272,11 @@ impl Folder for MemoryFolder {
 
     ghost moments = { λ m. moments_of m.changes.items };
 
+    ghost kept = { λ m. kept_of m.changes.items };
+
     ghost ends = { λ m. moments_end m.changes.items };
+
+    ghost lasts = { λ m. moments_last m.changes.items m.lasting };
 
     ghost bytes = { λ m. all_hold m.changes.items };
 
@@ -273,7 +287,7 @@ impl Folder for MemoryFolder {
     ghost to_come = { λ n. map_list string_bytes n.paths.items };
 
     fn stat(&mut self, path: &str) -> io::Result<Standing> {
-        tick(&mut self.calls, &self.failing, &self.broken_off)?;
+        tick(&mut self.calls, &self.failing)?;
         let is_folder = is_folder(&self.changes, path.as_bytes());
         match lookup(&self.changes, path.as_bytes()) {
             Some(_) if is_folder => Err(io::Error::from(ErrorKind::PermissionDenied)),
@@ -298,7 +312,7 @@ impl Folder for MemoryFolder {
     }
 
     fn open(&mut self, path: &str) -> io::Result<MemoryFile> {
-        tick(&mut self.calls, &self.failing, &self.broken_off)?;
+        tick(&mut self.calls, &self.failing)?;
         match lookup(&self.changes, path.as_bytes()) {
             Some(number) => Ok(MemoryFile { number }),
             None => Err(io::Error::from(ErrorKind::NotFound)),
@@ -306,7 +320,7 @@ impl Folder for MemoryFolder {
     }
 
     fn stat_file(&mut self, file: &MemoryFile) -> io::Result<Standing> {
-        tick(&mut self.calls, &self.failing, &self.broken_off)?;
+        tick(&mut self.calls, &self.failing)?;
         Ok(Standing {
             kind: Kind::File,
             len: bytes_of(&self.changes, file.number).len() as u64,
@@ -316,12 +330,12 @@ impl Folder for MemoryFolder {
     }
 
     fn read_at(&mut self, file: &MemoryFile, at: u64, out: &mut [u8]) -> io::Result<usize> {
-        tick(&mut self.calls, &self.failing, &self.broken_off)?;
+        tick_long(&mut self.calls, &self.failing, &self.broken_off)?;
         Ok(read_some(bytes_of(&self.changes, file.number), at, self.piece, out))
     }
 
     fn make(&mut self, path: &str) -> io::Result<MemoryFile> {
-        tick(&mut self.calls, &self.failing, &self.broken_off)?;
+        tick(&mut self.calls, &self.failing)?;
         if lookup(&self.changes, path.as_bytes()).is_some() {
             return Err(io::Error::from(ErrorKind::AlreadyExists));
         }
@@ -330,16 +344,16 @@ impl Folder for MemoryFolder {
             return Err(io::Error::from(ErrorKind::PermissionDenied));
         }
         let path = String::from_str(self.alloc, path)?;
-        note(&mut self.changes, Change::Made(path, number))?;
+        note(self, Change::Made(path, number))?;
         Ok(MemoryFile { number })
     }
 
     fn make_folders(&mut self, _path: &str) -> io::Result<()> {
-        tick(&mut self.calls, &self.failing, &self.broken_off)
+        tick(&mut self.calls, &self.failing)
     }
 
     fn write_at(&mut self, part: &mut MemoryFile, at: u64, piece: &[u8]) -> io::Result<usize> {
-        let torn = tick(&mut self.calls, &self.failing, &self.broken_off);
+        let torn = tick_long(&mut self.calls, &self.failing, &self.broken_off);
         match torn {
             Err(error) if error.kind() == ErrorKind::Interrupted => return Err(error),
             _ => {}
@@ -351,32 +365,34 @@ impl Folder for MemoryFolder {
             at as usize,
             &piece[..n],
         )?;
-        note(
-            &mut self.changes,
-            Change::Wrote(part.number, Content::new(new)),
-        )?;
+        note(self, Change::Wrote(part.number, Content::new(new)))?;
         torn?;
         Ok(n)
     }
 
+    fn sync(&mut self, part: &MemoryFile) -> io::Result<()> {
+        tick(&mut self.calls, &self.failing)?;
+        note(self, Change::Synced(part.number))
+    }
+
     fn rename(&mut self, from: &str, to: &str) -> io::Result<()> {
-        tick(&mut self.calls, &self.failing, &self.broken_off)?;
+        tick(&mut self.calls, &self.failing)?;
         let Some(number) = lookup(&self.changes, from.as_bytes()) else {
             return Err(io::Error::from(ErrorKind::NotFound));
         };
         let from = String::from_str(self.alloc, from)?;
         let to = String::from_str(self.alloc, to)?;
-        note(&mut self.changes, Change::Moved(from, to, number))
+        note(self, Change::Moved(from, to, number))
     }
 
     fn remove(&mut self, path: &str) -> io::Result<()> {
-        tick(&mut self.calls, &self.failing, &self.broken_off)?;
+        tick(&mut self.calls, &self.failing)?;
         let path = String::from_str(self.alloc, path)?;
-        note(&mut self.changes, Change::Removed(path))
+        note(self, Change::Removed(path))
     }
 
     fn list(&mut self, path: &str) -> io::Result<MemoryNames> {
-        tick(&mut self.calls, &self.failing, &self.broken_off)?;
+        tick(&mut self.calls, &self.failing)?;
         match paths_below(self.alloc, &self.changes, path.as_bytes()) {
             Ok(paths) => Ok(MemoryNames { paths }),
             Err(_) => Err(io::Error::from(ErrorKind::OutOfMemory)),
@@ -384,7 +400,7 @@ impl Folder for MemoryFolder {
     }
 
     fn next(&mut self, names: &mut MemoryNames) -> io::Result<Option<String>> {
-        tick(&mut self.calls, &self.failing, &self.broken_off)?;
+        tick(&mut self.calls, &self.failing)?;
         if names.paths.is_empty() {
             return Ok(None);
         }

@@ -3,6 +3,7 @@ ghost use Rattle.std.specs.Prelude.{◌≡◌, None, Some, map, string_bytes};
 ghost use Rattle.std.specs.Option.{option_map};
 ghost use Rattle.command_line.specs.Words.{KeepsLimits, line};
 ghost use Rattle.folder_store.specs.Disks.{objects_of};
+ghost use Rattle.folder_store.specs.Power.{Survives};
 ghost use Rattle.vol_tool.specs.Runs.{Answers, Causes, Headline, Keeps, Succeeds};
 ghost use Rattle.vol_tool.specs.Seen.{Seen, view};
 
@@ -200,9 +201,10 @@ where
 }
 
 /// Runs a command over the files of a folder, as the calls of the system see and change them, and hands the folder
-/// back: the headline of `run`, said of the folder's files where it tells them. The program itself calls `run` over
-/// such a store. **So it is a theorem on real files, for whoever believes that the system's calls do what `Folder`
-/// says of them, and that `HostFolder` makes them.**
+/// back: the headline of `run`, said of the folder's files where it tells them; and of each object that the disk had at
+/// some moment a loss of power leaves the whole, as it was then or later. The program itself calls `run` over such a
+/// store. **So it is a theorem on real files, for whoever believes that the system's calls do what `Folder` says of
+/// them, and that `HostFolder` makes them.**
 pub fn run_in<R, L: Folder + Drop, F: Feed, O: Outlet, E: Outlet, D: Door, G: Gate + Sync>(
     rt: &R,
     alloc: Global,
@@ -221,6 +223,7 @@ where
         Headline (line (map string_bytes words.now)) result.0
         (at folder feed.old out.old err.old door.old)
         (at result.1 feed.new out.new err.new door.new) }
+    ensures power { Survives (L.moments result.1) }
 {
     let mut store = DirStore::new(folder, alloc);
     let status = run(rt, alloc, words, &mut store, feed, out, err, door, gate);

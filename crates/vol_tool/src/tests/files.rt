@@ -98,7 +98,7 @@ const ROWS: [Row; 6] = [
     },
 ];
 
-// How a call fails: by an error, or since a signal broke it off.
+// How a call fails: by an error, or since a signal broke it off, if it reads or writes: that is tried again.
 #[derive(Clone, Copy)]
 enum Failure {
     Error,
@@ -190,7 +190,8 @@ fn check_failing<R: Threads + Wait + Abort + Sync>(
         row.printed.starts_with(out.written()),
         "{words}, call {number}"
     );
-    if status == 0 {
+    if status == 0 || matches!(failure, Failure::Signal) {
+        assert_eq!(rt; status, 0, "{words}, call {number}");
         assert!(rt;
             found.written() == row.after.as_slice(),
             "{words}, call {number}"

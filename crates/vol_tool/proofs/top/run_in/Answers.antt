@@ -4,7 +4,6 @@ use Rattle.folder_store.specs.Shown.{Shown}
 use Rattle.vol_tool.proofs.FileSteps.{same_headline}
 use Rattle.vol_tool.proofs.top.run_in.Goals as goal
 
-pub returns : goal.returns
-returns g c = record {
-  headline = same_headline (line (map string_bytes c.args.words.now)) _ _ _ _ _ (sym (ap (λ (s : Shown). s.objects) c.new-store.ensures)) (sym c.into_folder.ensures.objects) refl c.run-status.ensures.headline;
-}
+pub returns-clause-headline : goal.returns-clause-headline
+returns-clause-headline g c =
+    same_headline (line (map string_bytes c.args.words.now)) _ _ _ _ _ (sym (ap (λ (s : Shown). s.objects) c.new-store.ensures)) (sym c.into_folder.ensures.objects) refl c.run-status.ensures.headline

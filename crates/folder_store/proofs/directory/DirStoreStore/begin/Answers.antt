@@ -1,7 +1,7 @@
 use Rattle.std.proofs.Common.{map as map_list, ◌∙◌, ap, string_bytes, sym, subst, IfSome}
 use Rattle.std.specs.Option.{option_map}
 use Rattle.vol_base.specs.Outside.{Turns}
-use Rattle.folder_store.proofs.MomentSteps.{turns_kept, keeps_joined}
+use Rattle.folder_store.proofs.MomentSteps.{objects_at, turns_kept, keeps_joined}
 use Rattle.folder_store.specs.Disks.{objects_of}
 use Rattle.folder_store.specs.Shown.{Shown, IsDraft}
 use Rattle.folder_store.proofs.ObjectSteps.{spares_told}
@@ -28,10 +28,10 @@ invariant_of-self g c =
 
 pub returns-in-Ok-clause-history : goal.returns-in-Ok-clause-history
 returns-in-Ok-clause-history g c =
-    subst (λ (s : Shown). Turns s.objects (option_map objects_of (g.F.Folder.disk c.start.new.folder)) s.history (map_list objects_of (g.F.Folder.moments c.start.new.folder))) c.self.view_is
+    subst (λ (s : Shown). Turns s.objects (option_map objects_of (g.F.Folder.disk c.start.new.folder)) s.history (map_list objects_at (g.F.Folder.moments c.start.new.folder))) c.self.view_is
     (turns_kept (g.F.Folder.disk c.self.inside.folder) (g.F.Folder.disk c.start.new.folder) (g.F.Folder.moments c.self.inside.folder) (g.F.Folder.moments c.start.new.folder) (keeps_joined (g.F.Folder.disk c.self.inside.folder) (g.F.Folder.disk c.drop_draft.new.folder) (g.F.Folder.disk c.start.new.folder) (g.F.Folder.moments c.self.inside.folder) (g.F.Folder.moments c.drop_draft.new.folder) (g.F.Folder.moments c.start.new.folder) c.drop_draft.ensures.spared c.in-Ok.ensures.spared))
 
 pub returns-in-Err-clause-history : goal.returns-in-Err-clause-history
 returns-in-Err-clause-history g c =
-    subst (λ (s : Shown). Turns s.objects (option_map objects_of (g.F.Folder.disk c.start.new.folder)) s.history (map_list objects_of (g.F.Folder.moments c.start.new.folder))) c.self.view_is
+    subst (λ (s : Shown). Turns s.objects (option_map objects_of (g.F.Folder.disk c.start.new.folder)) s.history (map_list objects_at (g.F.Folder.moments c.start.new.folder))) c.self.view_is
     (turns_kept (g.F.Folder.disk c.self.inside.folder) (g.F.Folder.disk c.start.new.folder) (g.F.Folder.moments c.self.inside.folder) (g.F.Folder.moments c.start.new.folder) (keeps_joined (g.F.Folder.disk c.self.inside.folder) (g.F.Folder.disk c.drop_draft.new.folder) (g.F.Folder.disk c.start.new.folder) (g.F.Folder.moments c.self.inside.folder) (g.F.Folder.moments c.drop_draft.new.folder) (g.F.Folder.moments c.start.new.folder) c.drop_draft.ensures.spared c.in-Err.ensures.spared))

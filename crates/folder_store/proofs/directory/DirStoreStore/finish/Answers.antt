@@ -1,7 +1,7 @@
 use Rattle.std.proofs.Common.{map as map_list, rules, ◌≡◌, ◌∙◌, ap, subst, string_bytes, Some, IfSome}
 use Rattle.std.specs.Option.{option_map}
 use Rattle.vol_base.specs.Outside.{finished, Turns}
-use Rattle.folder_store.proofs.MomentSteps.{turns_kept, turns_at_once}
+use Rattle.folder_store.proofs.MomentSteps.{objects_at, turns_kept, turns_at}
 use Rattle.folder_store.specs.Disks.{objects_of}
 use Rattle.folder_store.specs.Shown.{Shown, draft_of}
 use Rattle.folder_store.proofs.ObjectSteps.{spares_told}
@@ -23,10 +23,10 @@ returns-in-Err-clause-refused g c =
 
 pub returns-in-Ok-clause-history : goal.returns-in-Ok-clause-history
 returns-in-Ok-clause-history g c =
-    subst (λ (s : Shown). Turns s.objects (option_map objects_of (g.F.Folder.disk c.put.new.folder)) s.history (map_list objects_of (g.F.Folder.moments c.put.new.folder))) c.self.view_is
-    (turns_at_once (g.F.Folder.disk c.self.inside.folder) (g.F.Folder.disk c.put.new.folder) (g.F.Folder.moments c.self.inside.folder) (g.F.Folder.moments c.put.new.folder) c.in-Ok.ensures.moments)
+    subst (λ (s : Shown). Turns s.objects (option_map objects_of (g.F.Folder.disk c.put.new.folder)) s.history (map_list objects_at (g.F.Folder.moments c.put.new.folder))) c.self.view_is
+    (turns_at (g.F.Folder.disk c.self.inside.folder) (g.F.Folder.disk c.put.new.folder) (g.F.Folder.moments c.self.inside.folder) (g.F.Folder.moments c.put.new.folder) c.in-Ok.ensures.turned)
 
 pub returns-in-Err-clause-history : goal.returns-in-Err-clause-history
 returns-in-Err-clause-history g c =
-    subst (λ (s : Shown). Turns s.objects (option_map objects_of (g.F.Folder.disk c.put.new.folder)) s.history (map_list objects_of (g.F.Folder.moments c.put.new.folder))) c.self.view_is
+    subst (λ (s : Shown). Turns s.objects (option_map objects_of (g.F.Folder.disk c.put.new.folder)) s.history (map_list objects_at (g.F.Folder.moments c.put.new.folder))) c.self.view_is
     (turns_kept (g.F.Folder.disk c.self.inside.folder) (g.F.Folder.disk c.put.new.folder) (g.F.Folder.moments c.self.inside.folder) (g.F.Folder.moments c.put.new.folder) c.in-Err.ensures.spared)

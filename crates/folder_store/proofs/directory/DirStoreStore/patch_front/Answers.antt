@@ -1,7 +1,7 @@
 use Rattle.std.proofs.Common.{map as map_list, rules, ◌≡◌, ◌∙◌, ◌+◌, ◌≤◌, ap, length, subst, sym, string_bytes, Some, IfSome, false}
 use Rattle.std.specs.Option.{option_map}
 use Rattle.vol_base.specs.Outside.{patched, Turns}
-use Rattle.folder_store.proofs.MomentSteps.{turns_kept}
+use Rattle.folder_store.proofs.MomentSteps.{objects_at, turns_kept}
 use Rattle.folder_store.specs.Disks.{objects_of, is_object}
 use Rattle.folder_store.specs.Shown.{Shown, draft_of, draft_in, shown_in}
 use Rattle.folder_store.proofs.ObjectSteps.{spares_told}
@@ -41,10 +41,10 @@ invariant_of-self-in-Ok g c =
 
 pub returns-in-Ok-clause-history : goal.returns-in-Ok-clause-history
 returns-in-Ok-clause-history g c =
-    subst (λ (s : Shown). Turns s.objects (option_map objects_of (g.F.Folder.disk c.overwrite.new.folder)) s.history (map_list objects_of (g.F.Folder.moments c.overwrite.new.folder))) c.self.view_is
+    subst (λ (s : Shown). Turns s.objects (option_map objects_of (g.F.Folder.disk c.overwrite.new.folder)) s.history (map_list objects_at (g.F.Folder.moments c.overwrite.new.folder))) c.self.view_is
     (turns_kept (g.F.Folder.disk c.self.inside.folder) (g.F.Folder.disk c.overwrite.new.folder) (g.F.Folder.moments c.self.inside.folder) (g.F.Folder.moments c.overwrite.new.folder) c.in-Ok.ensures.spared)
 
 pub returns-in-Err-clause-history : goal.returns-in-Err-clause-history
 returns-in-Err-clause-history g c =
-    subst (λ (s : Shown). Turns s.objects (option_map objects_of (g.F.Folder.disk c.overwrite.new.folder)) s.history (map_list objects_of (g.F.Folder.moments c.overwrite.new.folder))) c.self.view_is
+    subst (λ (s : Shown). Turns s.objects (option_map objects_of (g.F.Folder.disk c.overwrite.new.folder)) s.history (map_list objects_at (g.F.Folder.moments c.overwrite.new.folder))) c.self.view_is
     (turns_kept (g.F.Folder.disk c.self.inside.folder) (g.F.Folder.disk c.overwrite.new.folder) (g.F.Folder.moments c.self.inside.folder) (g.F.Folder.moments c.overwrite.new.folder) c.in-Err.ensures.spared)
