@@ -1,5 +1,5 @@
 //! The room that serving a connection takes.
-ghost use Rattle.std.specs.Prelude.{◌≡◌, ◌≤◌, IfOk, false, length};
+ghost use Rattle.std.specs.Prelude.{◌≡◌, ◌≤◌, IfOk, None, OnErr, false, length};
 
 use crate::plan::reserve_spans;
 use crate::write::Writer;
@@ -55,7 +55,8 @@ fn open_desk(alloc: Global) -> Result<Desk, OutOfMemory>
 
 /// The desk that is kept, or a new one.
 pub(crate) fn take_desk(alloc: Global, kept: &mut Option<Desk>) -> Result<Desk, OutOfMemory>
-    ensures { IfOk result (λ desk. desk.writer.failing ≡ false) }
+    ensures calm { IfOk result (λ desk. desk.writer.failing ≡ false) }
+    ensures none { OnErr result (kept.old ≡ None) }
 {
     match kept.take() {
         Some(mut desk) => {

@@ -1,5 +1,5 @@
 //! A connection, served.
-ghost use Rattle.std.specs.Prelude.{◌≡◌, ◌≤◌, ◌⊎◌, ◌-◌, ℕ, List, true, false, length, IfErr, IfOk, OnOk};
+ghost use Rattle.std.specs.Prelude.{◌≡◌, ◌≤◌, ◌⊎◌, ◌-◌, ◌≢◌, ℕ, List, true, false, length, Err, IfErr, IfOk, IsSome, OnOk};
 ghost use Rattle.vol_base.specs.Outside.{Ended, Objects, OnlyReads};
 ghost use Rattle.range_server.specs.Bodies.{HasServeCause, WhereTold, failures};
 ghost use Rattle.range_server.specs.Replies.{AreReplies, Gained, Served, ServedIn, Stopped};
@@ -21,9 +21,10 @@ pub struct Service {
 }
 
 /// Serves the requests of a peer for the objects of a data set, until their stream ends or a reply closes the
-/// connection, and tells how it ended. The desk of an earlier connection is used again, where one is kept, and kept. At `Whole` what was sent is the replies to what was left of the link's stream, in
-/// whatever pieces it comes. `Failed` comes only where the store failed: then it is whole first replies, and the one that
-/// says so.
+/// connection, and tells how it ended. The desk of an earlier connection is used again, where one is kept, and kept; else
+/// the one that is made is kept, unless there was no memory. At `Whole` what was sent is the replies to what was left of
+/// the link's stream, in whatever pieces it comes. `Failed` comes only where the store failed: then it is whole first
+/// replies, and the one that says so.
 ///
 /// # Errors
 /// `LinkFault` and `StoreFault` only where the link or the store failed, and `OutOfMemory`. What was sent is then a
@@ -50,6 +51,8 @@ pub fn serve_to_end<L: Link, S: Source>(
         (S.draft store.new) }
     ensures cause { HasServeCause (L.faults link.old) (L.faults link.new) (S.faults store.old)
         (S.faults store.new) result.ended }
+    ensures desk { IsSome kept.old → IsSome kept.new }
+    ensures made { result.ended ≢ Err ServeFault.OutOfMemory → IsSome kept.new }
 {
     let mut desk = match take_desk(alloc, kept) {
         Ok(desk) => desk,
@@ -91,6 +94,8 @@ pub fn serve_conn<L: Link, S: Source>(
         (S.draft store.new) }
     ensures cause { HasServeCause (L.faults link.old) (L.faults link.new) (S.faults store.old)
         (S.faults store.new) result }
+    ensures desk { IsSome kept.old → IsSome kept.new }
+    ensures made { result ≢ Err ServeFault.OutOfMemory → IsSome kept.new }
 {
     let served = serve_to_end(alloc, link, store, dataset, kept);
     match served.ended {
