@@ -25,7 +25,7 @@ use std::sync::Wait;
 use std::thread::Threads;
 use view_writer::find_wide;
 use vol_base::{Feed, Gate, Name, Outlet, Source, Store};
-use vol_spec::Scale;
+use vol_spec::{Scale, StoredScale};
 use write_plan::read_writes;
 
 // The scale of a key, where it is there, keeps the writing limit and has one chunk size. The limit is judged first, for
@@ -79,30 +79,28 @@ fn update_scale<R: Threads + Wait + Sync, S: Store, F: Feed, G: Gate + Sync>(
     crew: &Crew<R, G>,
     store: &mut S,
     feed: &mut F,
-    dataset: &Name,
-    scale: &Scale,
+    stored: &StoredScale,
 ) -> Result<Written, UpdateRefusal>
-    requires dataset { length dataset.now ≤ 200 }
-    requires writable { IsWritable scale.now }
-    requires one { HasOneSize scale.now }
-    ensures judges { Judges result (Ok scale.now) }
+    requires writable { IsWritable stored.now.scale }
+    requires one { HasOneSize stored.now.scale }
+    ensures judges { Judges result (Ok stored.now.scale) }
     ensures answers { (key : List ℕ) → IfSome (S.objects store.old) (λ m.
         IfSome (F.left feed.old) (λ bytes. AnswersScale result m (S.objects store.new)
-        (writes_of bytes scale.now) dataset.now key scale.now)) }
+        (writes_of bytes stored.now.scale) stored.now.dataset key stored.now.scale)) }
     ensures feed { KeepsFeed result (F.left feed.old) (F.left feed.new) }
     ensures took { TakesStream (F.left feed.old) (F.left feed.new) }
     ensures store { IfErr result (λ refusal. LeavesStore refusal (S.objects store.old) (S.objects store.new)
         (S.draft store.old) (S.draft store.new)) }
     ensures draft { OnOk result (Drops (S.draft store.old) (S.draft store.new)) }
     ensures begun { Drops (S.draft store.old) (S.draft store.new) ⊎ IfSome (S.objects store.old) (λ m.
-        IfSome (F.left feed.old) (λ bytes. BeginsUpdate m (S.objects store.new) (writes_of bytes scale.now)
-        dataset.now scale.now (S.draft store.new))) }
-    ensures unsharded { scale.now.sharding ≡ None → Drops (S.draft store.old) (S.draft store.new) }
+        IfSome (F.left feed.old) (λ bytes. BeginsUpdate m (S.objects store.new) (writes_of bytes stored.now.scale)
+        stored.now.dataset stored.now.scale (S.draft store.new))) }
+    ensures unsharded { stored.now.scale.sharding ≡ None → Drops (S.draft store.old) (S.draft store.new) }
     ensures cause { HasCauseOf UpdateRefusal.StoreFault (S.faults store.old) (S.faults store.new) result }
     ensures feed_cause { HasCauseOf UpdateRefusal.FeedFault (F.faults feed.old) (F.faults feed.new) result }
 {
-    let writes = read_writes(crew.alloc, feed, scale)?;
-    match update(crew, store, dataset, scale, writes) {
+    let writes = read_writes(crew.alloc, feed, &stored.scale)?;
+    match update(crew, store, &stored.dataset, &stored.scale, writes) {
         Ok(written) => Ok(written),
         Err(fault) => Err(refuse(fault)),
     }
@@ -136,7 +134,10 @@ fn update_stored<R: Threads + Wait + Sync, S: Store, F: Feed, G: Gate + Sync>(
     ensures feed_cause { HasCauseOf UpdateRefusal.FeedFault (F.faults feed.old) (F.faults feed.new) result }
 {
     match read_writable(crew.alloc, store, dataset, key) {
-        Ok(scale) => update_scale(crew, store, feed, dataset, &scale),
+        Ok(scale) => {
+            let stored = StoredScale::of(dataset, &scale);
+            update_scale(crew, store, feed, &stored)
+        }
         Err(refusal) => Err(refusal),
     }
 }

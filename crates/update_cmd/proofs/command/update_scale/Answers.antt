@@ -7,16 +7,16 @@ use Rattle.update_cmd.proofs.command.update_scale.Goals as goal
 
 pub returns-in-Ok-clause-answers : goal.returns-in-Ok-clause-answers
 returns-in-Ok-clause-answers g c key =
-    made_told c.in-Ok.written (g.S.Source.objects c.args.store.now) (g.S.Source.objects c.update.new.store) (g.F.Feed.left c.args.feed.now) c.args.dataset.now key c.args.scale.now c.in_ok-writes.writes
+    made_told c.in-Ok.written (g.S.Source.objects c.args.store.now) (g.S.Source.objects c.update.new.store) (g.F.Feed.left c.args.feed.now) c.args.stored.now.dataset key c.args.stored.now.scale c.in_ok-writes.writes
     c.in_ok-writes.ensures.exact (c.requires.writable, c.requires.one) c.in_ok-writes.ensures.bytes (g.met.S.Source.bytes c.args.store.now) c.in-Ok.ensures.updates
 
 pub returns-in-Err-clause-answers : goal.returns-in-Err-clause-answers
 returns-in-Err-clause-answers g c key =
-    refused_told c.in-Err.fault c.refuse.result (g.S.Source.objects c.args.store.now) (g.S.Source.objects c.update.new.store) (g.F.Feed.left c.args.feed.now) c.args.dataset.now key c.args.scale.now c.in_ok-writes.writes c.refuse.ensures
+    refused_told c.in-Err.fault c.refuse.result (g.S.Source.objects c.args.store.now) (g.S.Source.objects c.update.new.store) (g.F.Feed.left c.args.feed.now) c.args.stored.now.dataset key c.args.stored.now.scale c.in_ok-writes.writes c.refuse.ensures
     c.in_ok-writes.ensures.exact (c.requires.writable, c.requires.one) c.in-Err.ensures.updates
 
 pub returns-in-Err-clause-judges : goal.returns-in-Err-clause-judges
-returns-in-Err-clause-judges g c = refused_judges c.in-Err.fault c.refuse.result c.args.scale.now c.refuse.ensures (c.requires.writable, c.requires.one)
+returns-in-Err-clause-judges g c = refused_judges c.in-Err.fault c.refuse.result c.args.stored.now.scale c.refuse.ensures (c.requires.writable, c.requires.one)
 
 pub returns-in-Err-clause-feed : goal.returns-in-Err-clause-feed
 returns-in-Err-clause-feed g c = refused_feed c.in-Err.fault c.refuse.result (g.F.Feed.left c.args.feed.now) _ c.refuse.ensures
@@ -27,12 +27,12 @@ returns-in-Err-clause-store g c =
 
 pub returns-in_err-writes-clause-answers : goal.returns-in_err-writes-clause-answers
 returns-in_err-writes-clause-answers g c key =
-    unstreamed_told c.from_residual.result c.in_err-writes.field-0.0 (g.S.Source.objects c.args.store.now) (g.F.Feed.left c.args.feed.now) c.args.dataset.now key c.args.scale.now
+    unstreamed_told c.from_residual.result c.in_err-writes.field-0.0 (g.S.Source.objects c.args.store.now) (g.F.Feed.left c.args.feed.now) c.args.stored.now.dataset key c.args.stored.now.scale
     (err_is c.from_residual.result (unstreamed c.in_err-writes.field-0.0) c.from_residual.ensures.1) c.in_err-writes.ensures.exact
 
 pub returns-in_err-writes-clause-judges : goal.returns-in_err-writes-clause-judges
 returns-in_err-writes-clause-judges g c =
-    unstreamed_judges c.from_residual.result c.in_err-writes.field-0.0 c.args.scale.now (err_is c.from_residual.result (unstreamed c.in_err-writes.field-0.0) c.from_residual.ensures.1) (c.requires.writable, c.requires.one)
+    unstreamed_judges c.from_residual.result c.in_err-writes.field-0.0 c.args.stored.now.scale (err_is c.from_residual.result (unstreamed c.in_err-writes.field-0.0) c.from_residual.ensures.1) (c.requires.writable, c.requires.one)
 
 pub returns-in_err-writes-clause-took : goal.returns-in_err-writes-clause-took
 returns-in_err-writes-clause-took g c = takes_read (g.F.Feed.left c.args.feed.now) (g.F.Feed.left c.read_writes.new.feed) c.read_writes.ensures.took
@@ -45,10 +45,10 @@ returns-in-Err-clause-took g c = takes_read (g.F.Feed.left c.args.feed.now) (g.F
 
 pub returns-in-Ok-clause-begun : goal.returns-in-Ok-clause-begun
 returns-in-Ok-clause-begun g c =
-    begun_fed (g.S.Source.objects c.args.store.now) (g.S.Source.objects c.update.new.store) (g.F.Feed.left c.args.feed.now) c.args.dataset.now c.args.scale.now c.in_ok-writes.writes (g.S.Source.draft c.args.store.now)
+    begun_fed (g.S.Source.objects c.args.store.now) (g.S.Source.objects c.update.new.store) (g.F.Feed.left c.args.feed.now) c.args.stored.now.dataset c.args.stored.now.scale c.in_ok-writes.writes (g.S.Source.draft c.args.store.now)
     (g.S.Source.draft c.update.new.store) c.in_ok-writes.ensures.exact c.update.ensures.begun
 
 pub returns-in-Err-clause-begun : goal.returns-in-Err-clause-begun
 returns-in-Err-clause-begun g c =
-    begun_fed (g.S.Source.objects c.args.store.now) (g.S.Source.objects c.update.new.store) (g.F.Feed.left c.args.feed.now) c.args.dataset.now c.args.scale.now c.in_ok-writes.writes (g.S.Source.draft c.args.store.now)
+    begun_fed (g.S.Source.objects c.args.store.now) (g.S.Source.objects c.update.new.store) (g.F.Feed.left c.args.feed.now) c.args.stored.now.dataset c.args.stored.now.scale c.in_ok-writes.writes (g.S.Source.draft c.args.store.now)
     (g.S.Source.draft c.update.new.store) c.in_ok-writes.ensures.exact c.update.ensures.begun
