@@ -18,7 +18,7 @@ use chunk_grid::whole;
 use command_base::{Status, finish, read_scale, report};
 use std::alloc::Global;
 use vol_base::{Box3, Name, Outlet, Source};
-use vol_spec::Scale;
+use vol_spec::{Scale, StoredScale};
 
 // The box that is judged: all of the scale where none is given.
 fn pick_part(scale: &Scale, part: &Option<Box3>) -> Box3
@@ -75,23 +75,22 @@ fn refuse(scale: &Scale, part: &Box3, fault: VerifyFault) -> VerifyRefusal
 fn judge_scale<S: Source>(
     alloc: Global,
     store: &mut S,
-    dataset: &Name,
-    scale: &Scale,
+    stored: &StoredScale,
     part: &Option<Box3>,
 ) -> Result<Report, VerifyRefusal>
-    requires dataset { length dataset.now ≤ 200 }
     ensures judges { IfSome (S.objects store.old) (λ m.
-        JudgesScale result m dataset.now scale.now (part_in scale.now part.now)) }
+        JudgesScale result m stored.now.dataset stored.now.scale (part_in stored.now.scale part.now)) }
     ensures asked { IsAsked result part.now }
     ensures unread { IfErr result (λ refusal. refuses (verify_status refusal) ≡ true →
         S.asked store.new ≡ S.asked store.old) }
-    ensures asks { AsksFor S.Source (λ m. part_cost m dataset.now scale.now (part_in scale.now part.now))
+    ensures asks { AsksFor S.Source (λ m.
+        part_cost m stored.now.dataset stored.now.scale (part_in stored.now.scale part.now))
         VerifyRefusal.StoreFault store.old store.new result }
 {
-    let chosen = pick_part(scale, part);
-    match verify(alloc, store, dataset, scale, &chosen) {
+    let chosen = pick_part(&stored.scale, part);
+    match verify(alloc, store, &stored.dataset, &stored.scale, &chosen) {
         Ok(report) => Ok(report),
-        Err(fault) => Err(refuse(scale, &chosen, fault)),
+        Err(fault) => Err(refuse(&stored.scale, &chosen, fault)),
     }
 }
 
@@ -113,7 +112,10 @@ fn judge_stored<S: Source>(
     ensures reads { ReadsFrom S.Source VerifyRefusal.StoreFault store.old store.new result }
 {
     match read_scale(alloc, store, dataset, key) {
-        Ok(scale) => judge_scale(alloc, store, dataset, &scale, part),
+        Ok(scale) => {
+            let stored = StoredScale::of(dataset, &scale);
+            judge_scale(alloc, store, &stored, part)
+        }
         Err(refusal) => Err(VerifyRefusal::from(refusal)),
     }
 }
