@@ -1,5 +1,5 @@
 -- What the command `update` answers, by what putting writes over a scale answers.
-use Rattle.std.proofs.Common.{◌≡◌, ◌⊎◌, ◌∙◌, ◌^◌, ◌≤◌, [], ◌∷◌, length, map, Option, Some, None, IfSome, Result, Ok, Err, refl, sym, subst, ap, inl, inr, ⊎_elim, arith}
+use Rattle.std.proofs.Common.{◌≡◌, ◌⊎◌, ◌∙◌, ◌+◌, ◌^◌, ◌≤◌, [], ◌∷◌, length, map, Option, Some, None, IfSome, Result, Ok, Err, refl, sym, subst, ap, inl, inr, ⊎_elim, arith}
 use Rattle.std.specs.Prelude.{All, IfErr, IsOkAnd, ℕ}
 use Rattle.std.specs.List.{range_with_len}
 use Rattle.std.proofs.lemmas.List.Elements.{All-cons, All-nil}
@@ -40,7 +40,7 @@ use Rattle.write_plan.specs.Readers.{Answers}
 use Rattle.write_plan.specs.Stream.{writes_of}
 use Rattle.write_plan.specs.declared.fault.PlanFault.{PlanFault}
 use Rattle.write_plan.specs.declared.fault.PlanFault.TheVariants.{FeedFault as StreamFeed, BadMagic, TooManyWrites, EmptyBox, OutsideBox, WritesTooLarge, Truncated, TrailingBytes, OutOfMemory as StreamMemory}
-use Rattle.update_cmd.specs.Answering.{AllReadUpdated, AnswersAll, AnswersScale, CanBeUpdated, DropsUnsharded, HasUpdated, IsRight, Judges, KeepsFeed, LeavesStore, ReadsWritable, UpdateFront, UpdatedBack}
+use Rattle.update_cmd.specs.Answering.{AllReadUpdated, AnswersAll, AnswersScale, AsksForDocument, CanBeUpdated, DropsUnsharded, HasUpdated, IsRight, Judges, KeepsFeed, LeavesStore, ReadsWritable, UpdateFront, UpdatedBack}
 use Rattle.update_cmd.specs.Refusals.{not_updated, unstreamed, update_line, update_status}
 use Rattle.update_cmd.specs.Updating.{HasTooMany, PutsJudgedFront, update_fault}
 use Rattle.update_cmd.specs.Putting.{KeepsStore, UpdatesScale}
@@ -160,6 +160,20 @@ unstreamed_judges r found s is can = subst (λ x. Judges x (Ok s)) (sym is) (by 
     by (Truncated write) = can
     by TrailingBytes = can
 
+pub unstreamed_document : (r : Result Written UpdateRefusal) (found : PlanFault) → r ≡ Err (unstreamed found) → (before after : ℕ) → AsksForDocument r before after
+unstreamed_document r found is before after = subst (λ x. AsksForDocument x before after) (sym is) (by found)
+  where
+    by : (found : PlanFault) → AsksForDocument (Err (unstreamed found)) before after
+    by StreamFeed = tt
+    by StreamMemory = tt
+    by BadMagic = tt
+    by (TooManyWrites count) = tt
+    by (EmptyBox write) = tt
+    by (OutsideBox write) = tt
+    by (WritesTooLarge write) = tt
+    by (Truncated write) = tt
+    by TrailingBytes = tt
+
 -- a scale that is there, keeps the writing limit and has one chunk size
 key_one : (r : Result Written UpdateRefusal) (told : Result Scale NoScaleType) (m : Objects) (now : Option Objects) (list : Listing) (dataset key : Name) (s : Scale) → told ≡ Ok s → IsWritableAlone s → AnswersScale r m now (list s) dataset key s → AnswersAll r told m now list dataset key
 key_one (Ok written) told m now list dataset key s is can h = ok_is told s (λ s. IsWritableAlone s × AnswersScale (Ok written) m now (list s) dataset key s) is (can, h)
@@ -233,6 +247,30 @@ unread_feed (refused.TooManyCells cells) left = tt
 unread_feed (refused.BadShard shard minishard found) left = tt
 unread_feed (refused.Damaged cell found) left = tt
 unread_feed refused.FeedFault left = tt
+
+-- what is asked for where the scale isn't read,
+pub unread_document : (refusal : UpdateRefusal) (before after : ℕ) → after ≤ before + (2 ^ 20 + 1) → AsksForDocument (Err refusal) before after
+unread_document (refused.NoScale why) before after asked = asked
+unread_document (refused.TooManyVoxels voxels) before after asked = asked
+unread_document refused.SeveralSizes before after asked = asked
+unread_document refused.StoreFault before after asked = tt
+unread_document refused.NoMemory before after asked = tt
+unread_document (refused.Stream found) before after asked = tt
+unread_document (refused.TooManyCells cells) before after asked = tt
+unread_document (refused.BadShard shard minishard found) before after asked = tt
+unread_document (refused.Damaged cell found) before after asked = tt
+unread_document refused.FeedFault before after asked = tt
+
+-- where it isn't updated,
+pub refused_document : (found : UpdateFault) (refusal : UpdateRefusal) → refusal ≡ not_updated found → (before after : ℕ) → AsksForDocument (Err refusal) before after
+refused_document found refusal refuses before after = subst (λ r. AsksForDocument (Err r) before after) (sym refuses) (by found)
+  where
+    by : (found : UpdateFault) → AsksForDocument (Err (not_updated found)) before after
+    by (fault.TooManyCells cells) = tt
+    by (fault.BadShard shard minishard found) = tt
+    by (fault.Damaged cell found) = tt
+    by fault.StoreFault = tt
+    by fault.OutOfMemory = tt
 
 pub unread_leaves : (refusal : UpdateRefusal) (o now : Option Objects) (d after : Option Draft) → OnlyReads o now d after → LeavesStore refusal o now d after
 unread_leaves (refused.NoScale why) o now d after kept = kept

@@ -1,5 +1,5 @@
 -- What `update` answers over the objects that a store tells and the stream that a feed tells (this project's profile).
-use Rattle.std.specs.Prelude.{◌≡◌, ◌⊎◌, ◌≤◌, ◌^◌, [], Option, Some, None, Result, Ok, Err, IfErr, IfOk, IfSome, IsOkAnd, IsSomeAnd}
+use Rattle.std.specs.Prelude.{◌≡◌, ◌⊎◌, ◌+◌, ◌≤◌, ◌^◌, [], ℕ, Option, Some, None, Result, Ok, Err, IfErr, IfOk, IfSome, IsOkAnd, IsSomeAnd}
 use Rattle.std.specs.Option.{option_map}
 use Rattle.vol_base.specs.Outside.{Draft, Objects, OnlyReads}
 use Rattle.vol_base.specs.declared.boxes.Box3.{Box3}
@@ -122,6 +122,15 @@ KeepsFeed (Err (refused.NoScale why)) old new = new ≡ old
 KeepsFeed (Err (refused.TooManyVoxels voxels)) old new = new ≡ old
 KeepsFeed (Err refused.SeveralSizes) old new = new ≡ old
 KeepsFeed (Err other) old new = Unit {0}
+
+-- how much is asked of the store: no more than an info document has, with a byte behind it, where the scale, the limit or several chunk sizes are
+-- refused
+abbrev pub AsksForDocument : Result Written UpdateRefusal → ℕ → ℕ → Type 0
+AsksForDocument (Ok written) before after = Unit {0}
+AsksForDocument (Err (refused.NoScale why)) before after = after ≤ before + (2 ^ 20 + 1)
+AsksForDocument (Err (refused.TooManyVoxels voxels)) before after = after ≤ before + (2 ^ 20 + 1)
+AsksForDocument (Err refused.SeveralSizes) before after = after ≤ before + (2 ^ 20 + 1)
+AsksForDocument (Err other) before after = Unit {0}
 
 -- what is left of the store: it is only read but where the objects of an update were begun
 abbrev pub LeavesStore : UpdateRefusal → Option Objects → Option Objects → Option Draft → Option Draft → Type 0

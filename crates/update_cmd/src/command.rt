@@ -1,5 +1,5 @@
 //! The command `update`.
-ghost use Rattle.std.specs.Prelude.{◌≡◌, ◌≢◌, ◌⊎◌, ◌≤◌, ℕ, List, Err, Ok, None, Some, [], false, length, IfErr, IfOk, IfSome, OnOk};
+ghost use Rattle.std.specs.Prelude.{◌≡◌, ◌≢◌, ◌⊎◌, ◌+◌, ◌≤◌, ◌^◌, ℕ, List, Err, Ok, None, Some, [], false, length, IfErr, IfOk, IfSome, OnOk};
 ghost use Rattle.std.specs.Option.{option_map};
 ghost use Rattle.vol_base.specs.Calls.{ReadsFrom};
 ghost use Rattle.vol_base.specs.Causes.{HasCauseOf, Rose};
@@ -11,7 +11,7 @@ ghost use Rattle.command_base.specs.Ending.{EndsWell, IsCaused};
 ghost use Rattle.command_base.specs.Outlets.{outlets_of};
 ghost use Rattle.command_base.specs.Scales.{HasOneSize, stored_scale};
 ghost use Rattle.command_base.specs.Statuses.{prints, puts};
-ghost use Rattle.update_cmd.specs.Answering.{AnswersAll, AnswersScale, BeginsUpdate, CanBeUpdated, DropsOrPuts, DropsUnsharded, Judges, KeepsFeed, LeavesStore, ReadsWritable, Updated, UpdatedBack};
+ghost use Rattle.update_cmd.specs.Answering.{AnswersAll, AnswersScale, AsksForDocument, BeginsUpdate, CanBeUpdated, DropsOrPuts, DropsUnsharded, Judges, KeepsFeed, LeavesStore, ReadsWritable, Updated, UpdatedBack};
 ghost use Rattle.update_cmd.specs.Refusals.{not_updated};
 ghost use Rattle.write_cmd.specs.Storing.{TakesStream};
 
@@ -43,6 +43,7 @@ fn read_writable<S: Source>(
     ensures writable { IfOk result IsWritable }
     ensures one { IfOk result HasOneSize }
     ensures unfed { result ≢ Err UpdateRefusal.FeedFault }
+    ensures asked { S.asked store.new ≤ S.asked store.old + (2 ^ 20 + 1) }
     ensures reads { ReadsFrom S.Source UpdateRefusal.StoreFault store.old store.new result }
 {
     let scale = read_scale(alloc, store, dataset, key)?;
@@ -87,6 +88,7 @@ fn update_scale<R: Threads + Wait + Sync, S: Store, F: Feed, G: Gate + Sync>(
     ensures answers { (key : List ℕ) → IfSome (S.objects store.old) (λ m.
         IfSome (F.left feed.old) (λ bytes. AnswersScale result m (S.objects store.new)
         (writes_of bytes stored.now.scale) stored.now.dataset key stored.now.scale)) }
+    ensures document { (before after : ℕ) → AsksForDocument result before after }
     ensures feed { KeepsFeed result (F.left feed.old) (F.left feed.new) }
     ensures took { TakesStream (F.left feed.old) (F.left feed.new) }
     ensures store { IfErr result (λ refusal. LeavesStore refusal (S.objects store.old) (S.objects store.new)
@@ -121,6 +123,7 @@ fn update_stored<R: Threads + Wait + Sync, S: Store, F: Feed, G: Gate + Sync>(
     ensures answers { IfSome (S.objects store.old) (λ m.
         IfSome (F.left feed.old) (λ bytes. AnswersAll result (stored_scale m dataset.now key.now) m
         (S.objects store.new) (writes_of bytes) dataset.now key.now)) }
+    ensures document { AsksForDocument result (S.asked store.old) (S.asked store.new) }
     ensures feed { KeepsFeed result (F.left feed.old) (F.left feed.new) }
     ensures took { TakesStream (F.left feed.old) (F.left feed.new) }
     ensures store { IfErr result (λ refusal. LeavesStore refusal (S.objects store.old) (S.objects store.new)
@@ -170,6 +173,7 @@ where
         UpdatedBack m (S.objects store.new) (writes_of bytes) dataset.now key.now)) }
     ensures end { result ≡ Status.Ok → F.left feed.new ≡ option_map (λ _. []) (F.left feed.old) }
     ensures unread { result ≡ Status.InfoRefused → F.left feed.new ≡ F.left feed.old }
+    ensures document { result ≡ Status.InfoRefused → S.asked store.new ≤ S.asked store.old + (2 ^ 20 + 1) }
     ensures took { TakesStream (F.left feed.old) (F.left feed.new) }
     ensures unprinted { prints result ≡ false → out.new ≡ out.old }
     ensures draft { result ≡ Status.Ok → Drops (S.draft store.old) (S.draft store.new) }

@@ -1,7 +1,7 @@
 use Rattle.command_base.proofs.Choices.{err_is}
 use Rattle.update_cmd.specs.Refusals.{unstreamed}
 use Rattle.update_cmd.proofs.BegunSteps.{begun_fed}
-use Rattle.update_cmd.proofs.AnswerSteps.{made_told, refused_feed, refused_judges, refused_leaves, refused_told, unstreamed_judges, unstreamed_told}
+use Rattle.update_cmd.proofs.AnswerSteps.{made_told, refused_document, refused_feed, refused_judges, refused_leaves, refused_told, unstreamed_document, unstreamed_judges, unstreamed_told}
 use Rattle.write_cmd.proofs.WriteSteps.{takes_read}
 use Rattle.update_cmd.proofs.command.update_scale.Goals as goal
 
@@ -20,6 +20,13 @@ returns-in-Err-clause-judges g c = refused_judges c.in-Err.fault c.refuse.result
 
 pub returns-in-Err-clause-feed : goal.returns-in-Err-clause-feed
 returns-in-Err-clause-feed g c = refused_feed c.in-Err.fault c.refuse.result (g.F.Feed.left c.args.feed.now) _ c.refuse.ensures
+
+pub returns-in-Err-clause-document : goal.returns-in-Err-clause-document
+returns-in-Err-clause-document g c = refused_document c.in-Err.fault c.refuse.result c.refuse.ensures
+
+pub returns-in_err-writes-clause-document : goal.returns-in_err-writes-clause-document
+returns-in_err-writes-clause-document g c =
+    unstreamed_document c.from_residual.result c.in_err-writes.field-0.0 (err_is c.from_residual.result (unstreamed c.in_err-writes.field-0.0) c.from_residual.ensures.1)
 
 pub returns-in-Err-clause-store : goal.returns-in-Err-clause-store
 returns-in-Err-clause-store g c =

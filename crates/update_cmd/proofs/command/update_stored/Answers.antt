@@ -6,7 +6,7 @@ use Rattle.update_cmd.specs.Answering.{AnswersScale, BeginsUpdate, Judges}
 use Rattle.vol_spec.specs.Writable.{IsWritable}
 use Rattle.vol_spec.specs.declared.scale.Scale.{Scale}
 use Rattle.write_plan.specs.Stream.{writes_of}
-use Rattle.update_cmd.proofs.AnswerSteps.{drops_read, drops_unread, key_judges, key_told, leaves_read, unread_feed, unread_judges, unread_leaves, unread_told}
+use Rattle.update_cmd.proofs.AnswerSteps.{drops_read, drops_unread, key_judges, key_told, leaves_read, unread_document, unread_feed, unread_judges, unread_leaves, unread_told}
 use Rattle.update_cmd.proofs.BegunSteps.{begun_stored}
 use Rattle.write_cmd.proofs.WriteSteps.{takes_none}
 use Rattle.update_cmd.proofs.command.update_stored.Goals as goal
@@ -48,6 +48,13 @@ returns-in-Err-clause-answers g c =
 
 pub returns-in-Err-clause-feed : goal.returns-in-Err-clause-feed
 returns-in-Err-clause-feed g c = unread_feed c.in-Err.refusal (g.F.Feed.left c.args.feed.now)
+
+pub returns-in-Ok-clause-document : goal.returns-in-Ok-clause-document
+returns-in-Ok-clause-document g c = c.update_scale.ensures.document (g.S.Source.asked c.args.store.now) (g.S.Source.asked c.update_scale.new.store)
+
+pub returns-in-Err-clause-document : goal.returns-in-Err-clause-document
+returns-in-Err-clause-document g c =
+    unread_document c.in-Err.refusal (g.S.Source.asked c.args.store.now) (g.S.Source.asked c.read_writable.new.store) c.read_writable.ensures.asked
 
 pub returns-in-Err-clause-store : goal.returns-in-Err-clause-store
 returns-in-Err-clause-store g c =
