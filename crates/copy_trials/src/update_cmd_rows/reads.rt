@@ -1,5 +1,6 @@
 //! How many bytes an update asks for.
 
+use super::rows::IN_ORDER;
 use super::{NO_FAULTS, Row, THREE, check_store};
 use memory_rows::{put, store_of};
 use std::alloc::{AllocError, Global};
@@ -80,4 +81,24 @@ fn reads_an_index_once(rt: HostRuntime) -> Result<(), Fail> {
     check_asked(&rt, rt.alloc(), 1)?;
     check_asked(&rt, rt.alloc(), 2)?;
     check_asked(&rt, rt.alloc(), 16)
+}
+
+// The bytes that an update of a row asks for, where it is refused before what the scale holds is looked for.
+fn check_refused<R: Threads + Wait + Abort + Sync>(
+    rt: &R,
+    alloc: Global,
+    row: &Row,
+) -> Result<(), Fail> {
+    let mut store = super::row_store(alloc, row, &[])?;
+    check_store(rt, alloc, &mut store, row, 1, &NO_FAULTS)?;
+    assert_eq!(rt; store.asked(), DOCUMENT, "at {}", row.line);
+    Ok(())
+}
+
+#[test]
+fn asks_for_the_document_alone(rt: HostRuntime) -> Result<(), Fail> {
+    for row in IN_ORDER {
+        check_refused(&rt, rt.alloc(), row)?;
+    }
+    Ok(())
 }

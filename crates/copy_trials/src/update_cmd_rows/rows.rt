@@ -127,7 +127,7 @@ const SIZES: &str =
     "{\"type\":\"image\",\"data_type\":\"uint8\",\"num_channels\":1,\"scales\":[{\"key\":\"s\",\"size\":[4,1,1],\"chunk_sizes\":[[4,1,1],[2,1,1]],\"resolution\":[8,8,40],\"encoding\":\"raw\"}]}";
 
 // In the order in which they are judged: each has the faults of all behind it.
-const IN_ORDER: &[Row] = &[
+pub(super) const IN_ORDER: &[Row] = &[
     Row {
         info: "{",
         status: Status::InfoRefused,
