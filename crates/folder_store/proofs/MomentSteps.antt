@@ -3,8 +3,8 @@ use Rattle.std.proofs.Common.{◌≡◌, ℕ, List, [], ◌∷◌, ◌++◌, map
 use Rattle.std.proofs.lemmas.List.{append-nil, append_assoc, map-append}
 use Rattle.std.specs.Option.{option_map}
 use Rattle.std.specs.List.{AllByRecursion}
-use Rattle.vol_base.specs.Outside.{Objects, Passes, Turns}
-use Rattle.folder_store.specs.Disks.{Disk, Moment, with_bytes, written, objects_of, Stands, Touches}
+use Rattle.vol_base.specs.Outside.{Passes, Turns}
+use Rattle.folder_store.specs.Disks.{Disk, Moment, with_bytes, written, objects_of, objects_at, Stands, Touches}
 use Rattle.folder_store.specs.Shown.{IsDraft, SparesTold, Keeps, TurnsAt}
 use Rattle.folder_store.proofs.ObjectSteps.{spares_twice, spares_told}
 use Rattle.folder_store.proofs.ToldSteps.{same_spares, written_spares}
@@ -76,10 +76,6 @@ touches_after (Some x) p k at piece m e t = (t.0, ap Some (sym (with_twice x k _
 pub passes_after : (o p : Option Disk) (u v w : List Moment) (k m at : ℕ) (piece : List ℕ) → m ≡ k → p ≡ option_map (λ x. written x k at piece) o → Passes (Touches o k) u v → Passes (Touches p m) v w → Passes (Touches o k) u w
 passes_after o p u v w k m at piece same e h t =
     passes_twice (Touches o k) u v w h (passes_weaker (Touches p m) (Touches o k) (λ d x. touches_after o p k at piece d e (subst (λ n. Touches p n d) same x)) v w t)
-
--- the objects of a moment
-abbrev pub objects_at : Moment → Objects
-objects_at m = objects_of m.disk
 
 -- what the objects were at each moment
 pub turns_kept : (old new : Option Disk) (was now : List Moment) → Keeps old new was now → Turns (option_map objects_of old) (option_map objects_of new) (map_list objects_at was) (map_list objects_at now)

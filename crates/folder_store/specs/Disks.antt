@@ -72,6 +72,9 @@ pub record Moment : Type 0 where
   pub disk : Disk
   pub kept : ℕ → Bool
 
+abbrev pub objects_at : Moment → Objects
+objects_at m = objects_of m.disk
+
 -- no object's path leads to this file
 abbrev pub IsApart : Disk → ℕ → Type 0
 IsApart d number = (path : List ℕ) → is_object path ≡ true → file_at d path ≢ Some number

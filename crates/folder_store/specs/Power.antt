@@ -5,7 +5,7 @@ use Rattle.std.specs.List.{AllByRecursion}
 use Rattle.std.specs.FinMap as map
 use Rattle.vol_base.specs.Outside.{Objects}
 use Rattle.folder_store.specs.Below.{Among}
-use Rattle.folder_store.specs.Disks.{Moment, file_at, bytes_at, is_object, objects_of}
+use Rattle.folder_store.specs.Disks.{Moment, file_at, bytes_at, is_object, objects_at}
 
 -- a file stands there, and the disk has what it holds
 abbrev pub is_kept : Moment → List ℕ → Bool
@@ -34,7 +34,7 @@ MayLeave moments left = (path : List ℕ) → is_object path ≡ true → Among 
 -- an object is there, and as it was at this moment
 pub record IsAsAt (left : Objects) (path : List ℕ) (m : Moment) : Type 0 where
   pub stands : IsSome (map.get left path)
-  pub as_it_was : map.get left path ≡ map.get (objects_of m.disk) path
+  pub as_it_was : map.get left path ≡ map.get (objects_at m) path
 
 -- Whenever power is lost, each object that was kept at some moment is as it was at that or a later one
 abbrev pub Survives : List Moment → Type 0

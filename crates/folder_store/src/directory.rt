@@ -67,7 +67,7 @@ pub struct DirStore<F: Folder> {
 impl<F: Folder> Model for DirStore<F> {
     ghost use Rattle.std.specs.Prelude.{◌≡◌, false, IfSome, string_bytes, map as map_list};
     ghost use Rattle.std.specs.Option.{option_map};
-    ghost use Rattle.folder_store.specs.Disks.{objects_of, is_object};
+    ghost use Rattle.folder_store.specs.Disks.{objects_of, objects_at, is_object};
     ghost use Rattle.folder_store.specs.ObjectBytes.{have_told};
     ghost use Rattle.folder_store.specs.Shown.{Shown, shown_code, shown_in, IsOpen, IsDraft};
 
@@ -80,7 +80,7 @@ impl<F: Folder> Model for DirStore<F> {
       sound = have_told (F.Folder.disk s.folder) (F.Folder.bytes s.folder);
       writing =
           option_map (λ w. shown_in (F.Folder.disk s.folder) w.name (F.Folder.writes w.file) w.len) s.writing;
-      history = map_list (λ m. objects_of m.disk) (F.Folder.moments s.folder);
+      history = map_list objects_at (F.Folder.moments s.folder);
       asked = s.asked;
       faults = s.faults;
     } };
@@ -94,7 +94,7 @@ impl<F: Folder> Model for DirStore<F> {
 impl<F: Folder> DirStore<F> {
     ghost use Rattle.std.specs.Prelude.{◌≡◌, None, map as map_list};
     ghost use Rattle.std.specs.Option.{option_map};
-    ghost use Rattle.folder_store.specs.Disks.{objects_of};
+    ghost use Rattle.folder_store.specs.Disks.{objects_of, objects_at};
     ghost use Rattle.folder_store.specs.ObjectBytes.{have_told};
     ghost use Rattle.folder_store.specs.Power.{Survives};
 
@@ -104,7 +104,7 @@ impl<F: Folder> DirStore<F> {
           objects = option_map objects_of (F.disk folder);
           sound = have_told (F.disk folder) (F.bytes folder);
           writing = None;
-          history = map_list (λ m. objects_of m.disk) (F.moments folder);
+          history = map_list objects_at (F.moments folder);
           asked = 0;
           faults = 0;
         } }
@@ -122,7 +122,7 @@ impl<F: Folder> DirStore<F> {
     /// The folder, and no more of what was open.
     pub fn into_folder(self) -> F
         ensures objects { self.objects ≡ option_map objects_of (F.disk result) }
-        ensures history { self.history ≡ map_list (λ m. objects_of m.disk) (F.moments result) }
+        ensures history { self.history ≡ map_list objects_at (F.moments result) }
         ensures power { Survives (F.moments result) }
     {
         let DirStore { folder, .. } = self;

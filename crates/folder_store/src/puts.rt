@@ -3,7 +3,7 @@ ghost use Rattle.std.specs.Prelude.{◌≡◌, ◌≤◌, ℕ, length, take, map
 ghost use Rattle.std.specs.Option.{option_map};
 ghost use Rattle.vol_base.specs.Outside.{Passes, Turns};
 ghost use Rattle.folder_store.specs.Puts.{items_of, put_in, puts, IsFront, Rises};
-ghost use Rattle.folder_store.specs.Disks.{objects_of};
+ghost use Rattle.folder_store.specs.Disks.{objects_of, objects_at};
 ghost use Rattle.folder_store.specs.Power.{Survives};
 
 use crate::directory::DirStore;
@@ -52,7 +52,7 @@ pub fn put_into<F: Folder + Drop>(
 ) -> (Result<(), StoreRefusal>, F)
     ensures put { OnOk result.0 (option_map objects_of (F.disk result.1) ≡ puts (option_map objects_of (F.disk folder)) (items_of items.now)) }
     ensures killed { Passes (IsFront (option_map objects_of (F.disk folder)) (items_of items.now))
-        (map_list (λ m. objects_of m.disk) (F.moments folder)) (map_list (λ m. objects_of m.disk) (F.moments result.1)) }
+        (map_list objects_at (F.moments folder)) (map_list objects_at (F.moments result.1)) }
     ensures power { Survives (F.moments result.1) }
 {
     let mut store = DirStore::new(folder, alloc);

@@ -1,8 +1,8 @@
 use Rattle.std.proofs.Common.{subst, map as map_list}
 use Rattle.std.specs.Option.{option_map}
 use Rattle.vol_base.specs.Outside.{Turns}
-use Rattle.folder_store.specs.Disks.{objects_of}
-use Rattle.folder_store.proofs.MomentSteps.{objects_at, turns_kept}
+use Rattle.folder_store.specs.Disks.{objects_of, objects_at}
+use Rattle.folder_store.proofs.MomentSteps.{turns_kept}
 use Rattle.std.proofs.Common.{◌∙◌, ap}
 use Rattle.folder_store.specs.Shown.{Shown}
 use Rattle.folder_store.proofs.ObjectSteps.{spares_told}

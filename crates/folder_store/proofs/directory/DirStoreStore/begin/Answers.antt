@@ -1,8 +1,8 @@
 use Rattle.std.proofs.Common.{map as map_list, ◌∙◌, ap, string_bytes, sym, subst, IfSome}
 use Rattle.std.specs.Option.{option_map}
 use Rattle.vol_base.specs.Outside.{Turns}
-use Rattle.folder_store.proofs.MomentSteps.{objects_at, turns_kept, keeps_joined}
-use Rattle.folder_store.specs.Disks.{objects_of}
+use Rattle.folder_store.proofs.MomentSteps.{turns_kept, keeps_joined}
+use Rattle.folder_store.specs.Disks.{objects_of, objects_at}
 use Rattle.folder_store.specs.Shown.{Shown, IsDraft}
 use Rattle.folder_store.proofs.ObjectSteps.{spares_told}
 use Rattle.folder_store.proofs.ToldSteps.{joined}

@@ -1,8 +1,8 @@
 use Rattle.std.proofs.Common.{map as map_list, rules, ◌≡◌, ◌∙◌, ap, subst, string_bytes, Some, IfSome}
 use Rattle.std.specs.Option.{option_map}
 use Rattle.vol_base.specs.Outside.{finished, Turns}
-use Rattle.folder_store.proofs.MomentSteps.{objects_at, turns_kept, turns_at}
-use Rattle.folder_store.specs.Disks.{objects_of}
+use Rattle.folder_store.proofs.MomentSteps.{turns_kept, turns_at}
+use Rattle.folder_store.specs.Disks.{objects_of, objects_at}
 use Rattle.folder_store.specs.Shown.{Shown, draft_of}
 use Rattle.folder_store.proofs.ObjectSteps.{spares_told}
 use Rattle.folder_store.proofs.ShownSteps.{second_told, draft_at, finished_any}

@@ -1,8 +1,8 @@
 use Rattle.std.proofs.Common.{map as map_list, rules, ◌≡◌, ◌∙◌, ◌+◌, ◌≤◌, ap, length, subst, sym, string_bytes, Some, IfSome, false}
 use Rattle.std.specs.Option.{option_map}
 use Rattle.vol_base.specs.Outside.{patched, Turns}
-use Rattle.folder_store.proofs.MomentSteps.{objects_at, turns_kept}
-use Rattle.folder_store.specs.Disks.{objects_of, is_object}
+use Rattle.folder_store.proofs.MomentSteps.{turns_kept}
+use Rattle.folder_store.specs.Disks.{objects_of, objects_at, is_object}
 use Rattle.folder_store.specs.Shown.{Shown, draft_of, draft_in, shown_in}
 use Rattle.folder_store.proofs.ObjectSteps.{spares_told}
 use Rattle.folder_store.proofs.ShownSteps.{both_told, first_told, second_told, open_after, draft_at, fits_any, patched_any, patched_draft}
