@@ -150,12 +150,12 @@ if_room from count len k false p h e = absurd (cc e)
 pub room_of : (from count : ℕ) (k : Option Kind) (len : Option ℕ) (place : Option Place) (p : Promise) → promised (Part from count) k len place ≡ Some p → HasRoom p.kind p.len count
 room_of from count None len place p e = absurd (cc e)
 room_of from count (Some k) None place p e = absurd (cc e)
-room_of from count (Some kind.Missing) (Some len) place p e = if_room from count len kind.Missing (nat_le len (2 ^ 30) && true) p tt e
-room_of from count (Some kind.Beyond) (Some len) place p e = if_room from count len kind.Beyond (nat_le len (2 ^ 30) && true) p tt e
-room_of from count (Some kind.Whole) (Some len) place p e = if_room from count len kind.Whole (nat_le len (2 ^ 30) && true) p tt e
+room_of from count (Some kind.Missing) (Some len) place p e = if_room from count len kind.Missing (nat_le len (2 ^ 30)) p tt e
+room_of from count (Some kind.Beyond) (Some len) place p e = if_room from count len kind.Beyond (nat_le len (2 ^ 30)) p tt e
+room_of from count (Some kind.Whole) (Some len) place p e = if_room from count len kind.Whole (nat_le len (2 ^ 30)) p tt e
 room_of from count (Some kind.Part) (Some len) place p e = by_test (is_place from count len place) refl e
   where
-    by_test : (t : Bool) → is_place from count len place ≡ t → (if true && t then Some (record { kind = kind.Part; len = len }) else None) ≡ Some p → HasRoom p.kind p.len count
+    by_test : (t : Bool) → is_place from count len place ≡ t → (if t then Some (record { kind = kind.Part; len = len }) else None) ≡ Some p → HasRoom p.kind p.len count
     by_test true t e = if_room from count len kind.Part true p (place_room from count len place t) e
     by_test false t e = absurd (cc e)
 

@@ -3,11 +3,13 @@ use Rattle.std.proofs.Common.{◌≡◌, ◌∙◌, ℕ, suc, ◌+◌, ◌^◌, 
 use Rattle.std.specs.List.{list_all}
 use Rattle.std.proofs.lemmas.Bool.{eq-eqb, eqb-true, leb-true, leb-false, ne_eqb}
 use Rattle.range_server.specs.Ranges.{number}
-use Rattle.remote_store.specs.Fits.{Place, below, is_allowed, is_identity, is_place, is_placed, length_in, length_of, one_length, only, place_in, promised}
+use Rattle.remote_store.specs.Fits.{Place, below, is_identity, is_place, is_right, length_in, length_of, one_length, only, place_in, promised}
 use Rattle.remote_store.specs.Reading.{cap_place, capped, capped_in}
 use Rattle.remote_store.specs.declared.wanted.Kind.{Kind}
 use Rattle.remote_store.specs.declared.wanted.Kind.TheVariants as kind
-use Rattle.remote_store.specs.declared.wanted.Wanted.TheVariants.{Part}
+use Rattle.remote_store.specs.Answers.{IsAsked}
+use Rattle.remote_store.specs.declared.wanted.Wanted.{Wanted}
+use Rattle.remote_store.specs.declared.wanted.Wanted.TheVariants.{Length, Part}
 use Rattle.remote_store.proofs.NumberReading.{place_is}
 
 false_and : (a b c : Bool) → c ≡ false → false ≡ (a && b && c)
@@ -75,11 +77,12 @@ pub in_is : (o : Option (List ℕ)) → capped_in o ≡ option_map cap_place (pl
 in_is None = refl
 in_is (Some value) = place_is value
 
-placed_is : (from count len : ℕ) → from + count < 2 ^ 64 → len < 2 ^ 64 → (k : Kind) (o : Option (List ℕ)) → is_placed (Part from count) k len (capped_in o) ≡ is_placed (Part from count) k len (place_in o)
-placed_is from count len small short kind.Part o = ap (is_place from count len) (in_is o) ∙ same_place from count len small short (place_in o)
-placed_is from count len small short kind.Missing o = refl
-placed_is from count len small short kind.Beyond o = refl
-placed_is from count len small short kind.Whole o = refl
+right_is : (wanted : Wanted) → IsAsked wanted → (len : ℕ) → len < 2 ^ 64 → (k : Kind) (o : Option (List ℕ)) → is_right wanted k len (capped_in o) ≡ is_right wanted k len (place_in o)
+right_is Length some len short k o = refl
+right_is (Part from count) some len short kind.Part o = ap (is_place from count len) (in_is o) ∙ same_place from count len some.1 short (place_in o)
+right_is (Part from count) some len short kind.Missing o = refl
+right_is (Part from count) some len short kind.Beyond o = refl
+right_is (Part from count) some len short kind.Whole o = refl
 
 -- a length that is told has room in 64 bits
 is_short : (o : Option ℕ) (len : ℕ) → below (2 ^ 64) o ≡ Some len → len < 2 ^ 64
@@ -108,13 +111,13 @@ told_short objects codings lengths len e = by_test (list_all is_identity objects
     by_test true e = one_short codings lengths len e
     by_test false e = absurd (cc e)
 
-pub same_promise : (from count : ℕ) → from + count < 2 ^ 64 → (k : Option Kind) (objects codings lengths : List (List ℕ)) (o : Option (List ℕ))
-    → promised (Part from count) k (length_of objects codings lengths) (capped_in o) ≡ promised (Part from count) k (length_of objects codings lengths) (place_in o)
-same_promise from count small None objects codings lengths o = refl
-same_promise from count small (Some k) objects codings lengths o = by_length (length_of objects codings lengths) refl
+pub same_promise : (wanted : Wanted) → IsAsked wanted → (k : Option Kind) (objects codings lengths : List (List ℕ)) (o : Option (List ℕ))
+    → promised wanted k (length_of objects codings lengths) (capped_in o) ≡ promised wanted k (length_of objects codings lengths) (place_in o)
+same_promise wanted some None objects codings lengths o = refl
+same_promise wanted some (Some k) objects codings lengths o = by_length (length_of objects codings lengths) refl
   where
-    by_length : (len : Option ℕ) → length_of objects codings lengths ≡ len → promised (Part from count) (Some k) len (capped_in o) ≡ promised (Part from count) (Some k) len (place_in o)
+    by_length : (len : Option ℕ) → length_of objects codings lengths ≡ len → promised wanted (Some k) len (capped_in o) ≡ promised wanted (Some k) len (place_in o)
     by_length None e = refl
     by_length (Some len) e =
-        let same = placed_is from count len small (told_short objects codings lengths len e) k o in
-        λ i. if is_allowed (Part from count) k len && same i then Some (record { kind = k; len = len }) else None
+        let same = right_is wanted some len (told_short objects codings lengths len e) k o in
+        λ i. if same i then Some (record { kind = k; len = len }) else None
