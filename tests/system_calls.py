@@ -19,7 +19,7 @@ from disturbed import DEEP_RUNS, FULL_ROW, RUNS, SIZES_RUNS, in_store, want_fron
 from harness import LIMIT, Wrong, find_strace, main, want, want_true, words_in, wrong_with
 from model import DOOR, FEED, OK, OUTPUT, STORE, Sharding, Volume, along
 from peers import PEERS, SERVE, WHOLE, failed_of, fronts_of, is_answered, serve_peers
-from runs import cutout_run
+from runs import cutout_run, write_run
 
 # The calls to files, folders and streams; those to peers; and those that have to do with memory, time, threads and the process alone.
 TO_FILES = set(
@@ -188,7 +188,23 @@ def reads_once(trial, run, count):
     want(sum(int(length) for path, length in calls if not path.endswith("/info")), count, "how many bytes are read")
 
 
+# title, a write of single voxels, and how many calls take its stream: three small reads, then 64 KiB each, and the end
+STREAMED = {
+    "5,000 voxels": (write_run(MANY, [(along(n, n + 1), bytes([n % 251])) for n in range(5000)]), 3 + 4 + 1),
+    "a large box": (write_run(MANY, [(MANY.whole, bytes(5000))]), 3 + 1 + 1),
+}
+
+
+def streams_ahead(trial, run, count):
+    """So many calls take the stream of a run: small boxes are read ahead, and a large one goes straight to its place."""
+    found, lines = trace_run(trial, run, ["-s", "0", "-e", "trace=read"])
+    want(found, (*run.ending, run.after()))
+    want(sum(" read(0, " in line for line in lines), count, "how many calls take the stream")
+
+
 def rows():
+    for title, case in STREAMED.items():
+        yield f"how the stream is taken of {title}", streams_ahead, *case
     for title, case in READ.items():
         yield f"what is read by {title}", reads_once, *case
     yield "a served run", fails_each_served

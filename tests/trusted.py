@@ -24,7 +24,7 @@ HEAD = re.compile(r"((?:(?:abbrev|unfoldable|pub|record|data) )*)([^\s:(){}]+)(?
 
 # the files whose contracts are judged, and those of the traits in which they speak: all but private functions and bodies counts
 CONTRACTS = ("vol_tool/src/top.rt", "vol_serve/src/top.rt", "vol_fetch/src/fetch.rt")
-TRAITS = ("remote_store/src/dial.rt", "vol_base/src/outside.rt", "folder_store/src/folder.rt")
+TRAITS = ("remote_store/src/dial.rt", "vol_base/src/outside.rt", "folder_store/src/folder.rt", "pipes/src/pipe.rt")
 
 # commands, the program's call, a port and a member of a field
 NOT_DEFINED = {"cutout", "write", "update", "generate", "serve", "verify", "vol_serve", "run", "serde_json", "close"}

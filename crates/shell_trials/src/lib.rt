@@ -1,5 +1,5 @@
-//! Rows of folder_store over real files and files in memory, and of vol_shell over real sockets, and over clocks, streams and a
-//! listener of their own. They stand here and not in their crates since `rt ci` proves a crate once more for its tests.
+//! Rows of folder_store over real files and files in memory, of pipes over streams of their own and in memory, and of vol_shell over
+//! real sockets, and over clocks and a listener of their own. They stand here and not in their crates since `rt ci` proves a crate once more for its tests.
 #![tactic(auto)]
 
 #[cfg(test)]

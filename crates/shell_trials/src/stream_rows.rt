@@ -1,7 +1,10 @@
-//! Feeds and outlets over streams that a signal breaks off.
+//! Feeds and outlets over pipes: of the host, whose calls a signal breaks off, and in memory, whose calls are counted.
+use pipes::{HostPipe, MemoryPipe, PipeFeed, PipeIn, PipeOut, PipeOutlet};
+use std::alloc::{AllocError, AllocGlobal, Global};
 use std::io::{self, ErrorKind, Read, Write};
+use std::process::Abort;
+use std::test::Fail;
 use vol_base::{Failed, Feed, Outlet};
-use vol_shell::{StdFeed, StdOutlet};
 
 // A stream that a signal breaks off first, that then takes or gives two bytes, then none, and then fails.
 #[derive(Drop)]
@@ -39,13 +42,114 @@ impl Read for Halting {
 
 #[test]
 fn goes_on_after_a_signal_alone(rt: HostRuntime) {
-    let mut out = StdOutlet::new(Halting { calls: 0 });
+    let mut out = PipeOutlet::new(HostPipe::new(Halting { calls: 0 }));
     assert_eq!(rt; out.write(b"abc"), Ok(2));
     assert_eq!(rt; out.write(b"c"), Err(Failed));
     assert_eq!(rt; out.write(b"c"), Err(Failed));
-    let mut feed = StdFeed::new(Halting { calls: 0 });
+    let mut feed = PipeFeed::new(HostPipe::new(Halting { calls: 0 }), rt.alloc());
     let mut given = [0; 3];
     assert_eq!(rt; feed.read(&mut given), Ok(2));
     assert_eq!(rt; feed.read(&mut given), Ok(0));
     assert_eq!(rt; feed.read(&mut given), Err(Failed));
+}
+
+// The bytes 0, 1 up to 250, and again.
+fn make_bytes(alloc: Global, len: usize) -> Result<Vec<u8>, AllocError> {
+    let mut bytes = Vec::with_capacity(alloc, len)?;
+    for n in 0..len {
+        bytes.push((n % 251) as u8)?;
+    }
+    Ok(bytes)
+}
+
+fn feed_of(alloc: Global, len: usize, piece: usize) -> Result<PipeFeed<MemoryPipe>, AllocError> {
+    let pipe = MemoryPipe::new(alloc, make_bytes(alloc, len)?, piece);
+    Ok(PipeFeed::new(pipe, alloc))
+}
+
+// Reads a feed to its end by reads of so many bytes at most, and checks each byte and how many calls its pipe had.
+fn check_read<R: AllocGlobal + Abort>(
+    rt: &R,
+    len: usize,
+    piece: usize,
+    most: usize,
+    calls: u64,
+) -> Result<(), Fail> {
+    let mut feed = feed_of(rt.alloc(), len, piece)?;
+    let mut out = make_bytes(rt.alloc(), most)?;
+    let mut found = Vec::new(rt.alloc());
+    for _ in 0..u64::MAX {
+        match feed.read(&mut out) {
+            Ok(0) => break,
+            Ok(n) => found.extend_from_slice(&out[..n])?,
+            Err(_) => return Err(Fail::from("a fault")),
+        }
+    }
+    assert!(rt; found == make_bytes(rt.alloc(), len)?);
+    assert_eq!(rt; feed.pipe.calls, calls);
+    Ok(())
+}
+
+#[test]
+fn small_reads_are_read_ahead(rt: HostRuntime) -> Result<(), Fail> {
+    // three of 4 bytes, then 65,536 and 34,452, and the end
+    check_read(&rt, 100_000, 1 << 20, 4, 6)?;
+    // what comes at once is handed on, and no more is waited for
+    check_read(&rt, 30, 3, 10, 11)?;
+    check_read(&rt, 1000, 100, 4095, 11)?;
+    // large ones go straight
+    check_read(&rt, 100_000, 1 << 20, 4096, 26)
+}
+
+#[test]
+fn fails_behind_what_was_read_ahead(rt: HostRuntime) -> Result<(), Fail> {
+    let mut feed = feed_of(rt.alloc(), 40, 10)?;
+    let mut out = [0; 8];
+    feed.pipe.failing.push(2)?;
+    feed.pipe.failing.push(4)?;
+    feed.pipe.broken_off.push(3)?;
+    for due in [
+        Ok(8),
+        Ok(8),
+        Err(Failed),
+        Err(Failed),
+        Ok(8),
+        Ok(2),
+        Ok(8),
+        Ok(2),
+        Ok(2),
+        Ok(2),
+        Ok(0),
+        Ok(0),
+    ] {
+        let given = feed.read(&mut out);
+        assert_eq!(rt; given.is_ok(), due.is_ok());
+    }
+    Ok(())
+}
+
+#[test]
+fn a_large_read_is_given_what_was_read_ahead(rt: HostRuntime) -> Result<(), Fail> {
+    let mut feed = feed_of(rt.alloc(), 20_000, 10_000)?;
+    let mut few = [0; 1];
+    for _ in 0..4u32 {
+        assert_eq!(rt; feed.read(&mut few), Ok(1));
+    }
+    let mut many = make_bytes(rt.alloc(), 12_000)?;
+    assert_eq!(rt; feed.read(&mut many), Ok(9_999));
+    assert!(rt; many[0] == 4 && many[9_998] == (10_002 % 251) as u8);
+    assert_eq!(rt; feed.read(&mut many), Ok(9_997));
+    assert_eq!(rt; feed.read(&mut many), Ok(0));
+    Ok(())
+}
+
+#[test]
+fn a_pipe_in_memory_is_short(rt: HostRuntime) -> Result<(), Fail> {
+    let mut pipe = MemoryPipe::new(rt.alloc(), make_bytes(rt.alloc(), 3)?, 2);
+    let mut out = [7; 4];
+    assert!(rt; matches!(pipe.read(&mut out), Ok(2)));
+    assert!(rt; out == [0, 1, 7, 7]);
+    assert!(rt; matches!(pipe.write(b"abc"), Ok(2)));
+    assert!(rt; pipe.gone.as_slice() == b"ab".as_slice());
+    Ok(())
 }

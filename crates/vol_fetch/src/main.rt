@@ -11,12 +11,12 @@ mod words;
 
 use command_base::{Status, tell};
 use fetch::fetch;
+use pipes::{HostPipe, PipeOutlet};
 use std::env::Env;
 use std::io::ErrorKind;
 use std::process::ExitCode;
 use std::{env, io};
 use tcp::TcpDial;
-use vol_shell::StdOutlet;
 
 // The words after the program's name. It fails as a whole where the system doesn't give each of them as
 // text, or where there is no memory for them.
@@ -28,7 +28,7 @@ fn read_arguments<R: Env + AllocGlobal>(rt: &R) -> io::Result<Vec<String>> {
 /// Fetches the box that the arguments spell, and ends with the number of its status. Arguments that aren't text are no
 /// words.
 fn main(rt: HostRuntime) -> ExitCode {
-    let mut err = StdOutlet::new(rt.stderr());
+    let mut err = PipeOutlet::new(HostPipe::new(rt.stderr()));
     let words = match read_arguments(&rt) {
         Ok(words) => words,
         Err(error) if error.kind() == ErrorKind::OutOfMemory => {
@@ -37,7 +37,7 @@ fn main(rt: HostRuntime) -> ExitCode {
         }
         Err(_) => Vec::new(rt.alloc()),
     };
-    let mut out = StdOutlet::new(rt.stdout());
+    let mut out = PipeOutlet::new(HostPipe::new(rt.stdout()));
     let (status, _store) = fetch(rt.alloc(), &words, TcpDial::new(rt), &mut out, &mut err);
     ExitCode::from(status)
 }

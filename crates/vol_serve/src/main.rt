@@ -13,6 +13,7 @@ mod words;
 use command_base::{Status, tell};
 use folder_store::{DirStore, HostFolder};
 use hall::{Doorway, PlainExit};
+use pipes::{HostPipe, PipeOutlet};
 use std::alloc::{AllocError, Global};
 use std::env::Env;
 use std::io::ErrorKind;
@@ -21,7 +22,7 @@ use std::time::Duration;
 use std::{env, io};
 use top::serve_all;
 use vol_base::FreeGate;
-use vol_shell::{StdOutlet, TcpDoor};
+use vol_shell::TcpDoor;
 
 // The words after the program's name. It fails as a whole where the system doesn't give each of them as
 // text, or where there is no memory for them.
@@ -46,7 +47,7 @@ fn open_stores(rt: HostRuntime, alloc: Global) -> Result<Vec<HostStore>, AllocEr
 
 /// Serves what the arguments spell, and ends with the number of its status. Arguments that aren't text are no words.
 fn main(rt: HostRuntime) -> ExitCode {
-    let mut err = StdOutlet::new(rt.stderr());
+    let mut err = PipeOutlet::new(HostPipe::new(rt.stderr()));
     let words = match read_arguments(&rt) {
         Ok(words) => words,
         Err(error) if error.kind() == ErrorKind::OutOfMemory => {
@@ -66,7 +67,7 @@ fn main(rt: HostRuntime) -> ExitCode {
         Doorway::new(TcpDoor::with_pause(rt, Duration::from_secs(5), Duration::from_secs(600))),
         PlainExit,
         stores,
-        &mut StdOutlet::new(rt.stdout()),
+        &mut PipeOutlet::new(HostPipe::new(rt.stdout())),
         &mut err,
         &FreeGate,
     );

@@ -8,13 +8,14 @@ mod top;
 
 use command_base::{Status, tell};
 use folder_store::{DirStore, HostFolder};
+use pipes::{HostPipe, PipeFeed, PipeOutlet};
 use std::env::Env;
 use std::io::ErrorKind;
 use std::process::ExitCode;
 use std::{env, io};
 use top::run;
 use vol_base::FreeGate;
-use vol_shell::{StdFeed, StdOutlet, TcpDoor};
+use vol_shell::TcpDoor;
 
 // The words after the program's name. It fails as a whole where the system doesn't give each of them as
 // text, or where there is no memory for them.
@@ -26,7 +27,7 @@ fn read_arguments<R: Env + AllocGlobal>(rt: &R) -> io::Result<Vec<String>> {
 /// Runs the command that the arguments spell, and ends with the number of its status. Arguments that
 /// aren't text are no words.
 fn main(rt: HostRuntime) -> ExitCode {
-    let mut err = StdOutlet::new(rt.stderr());
+    let mut err = PipeOutlet::new(HostPipe::new(rt.stderr()));
     let words = match read_arguments(&rt) {
         Ok(words) => words,
         Err(error) if error.kind() == ErrorKind::OutOfMemory => {
@@ -40,8 +41,8 @@ fn main(rt: HostRuntime) -> ExitCode {
         rt.alloc(),
         &words,
         &mut DirStore::new(HostFolder::new(rt), rt.alloc()),
-        &mut StdFeed::new(rt.stdin()),
-        &mut StdOutlet::new(rt.stdout()),
+        &mut PipeFeed::new(HostPipe::new(rt.stdin()), rt.alloc()),
+        &mut PipeOutlet::new(HostPipe::new(rt.stdout())),
         &mut err,
         &mut TcpDoor::new(rt),
         &FreeGate,

@@ -6,6 +6,7 @@ mod levels;
 mod peers;
 mod seats;
 mod sizes;
+mod streams;
 
 use crate::top::run;
 use command_base::Status;
