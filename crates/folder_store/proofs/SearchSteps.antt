@@ -11,7 +11,7 @@ use Rattle.folder_store.specs.declared.directory.Entry.{Entry}
 use Rattle.folder_store.specs.declared.directory.Entry.TheVariants.{Object, Folder, Nothing}
 use Rattle.folder_store.specs.Disks.{Disk, file_at, bytes_at, StandsAs, is_object, objects_of}
 use Rattle.folder_store.specs.Below.{Below, AtOrBelow, Among, IsLeaf, Lists}
-use Rattle.folder_store.specs.Searching.{IsObjectAt, HasBelow, IsPassed, ArePassed, Progress, IsSearched, AreLeft, Judges}
+use Rattle.folder_store.specs.Searching.{IsObjectAt, HasBelow, IsPassed, ArePassed, Progress, IsSearched, AreLeft, JudgesPath}
 use Rattle.folder_store.proofs.BelowSteps.{among_left, among_right, among_cases, all_after, all_front, all_of, all_among, out_of, at_or_lower, any_true, any_false}
 
 none_some : (o : Option ℕ) (n : ℕ) → o ≡ None → o ≡ Some n → ⊥
@@ -32,7 +32,7 @@ no_file_there : (d : Disk) (path : List ℕ) (s : Standing) (o : Option ℕ) →
 no_file_there d path s None h k = refl
 no_file_there d path s (Some n) h k = absurd (file_not_folder s h.0 k)
 
-judge_ok : (d : Disk) (path : List ℕ) (s : Standing) (r : Result Entry Failed) → StandsAs (bytes_at d path) s → (s.kind ≢ FolderKind → IsLeaf d path) → (r ≡ Ok Object → (s.kind ≡ File) × (is_object path ≡ true)) → (r ≡ Ok Folder → s.kind ≡ FolderKind) → (r ≡ Ok Nothing → (s.kind ≡ File) × (is_object path ≡ false)) → IfOk r (Judges d path)
+judge_ok : (d : Disk) (path : List ℕ) (s : Standing) (r : Result Entry Failed) → StandsAs (bytes_at d path) s → (s.kind ≢ FolderKind → IsLeaf d path) → (r ≡ Ok Object → (s.kind ≡ File) × (is_object path ≡ true)) → (r ≡ Ok Folder → s.kind ≡ FolderKind) → (r ≡ Ok Nothing → (s.kind ≡ File) × (is_object path ≡ false)) → IfOk r (JudgesPath d path)
 judge_ok d path s (Err e) stands leaf a b c = tt
 judge_ok d path s (Ok Object) stands leaf a b c =
     let is = a refl in
@@ -47,16 +47,16 @@ if_ok : (r : Result Entry Failed) → IfOk r (λ x. Unit {0})
 if_ok (Ok x) = tt
 if_ok (Err e) = tt
 
-pub judge_told : (disk : Option Disk) (path : List ℕ) (s : Standing) (r : Result Entry Failed) → IfSome disk (λ d. StandsAs (bytes_at d path) s) → (s.kind ≢ FolderKind → IfSome disk (λ d. IsLeaf d path)) → (r ≡ Ok Object → (s.kind ≡ File) × (is_object path ≡ true)) → (r ≡ Ok Folder → s.kind ≡ FolderKind) → (r ≡ Ok Nothing → (s.kind ≡ File) × (is_object path ≡ false)) → IfOk r (λ entry. IfSome disk (λ d. Judges d path entry))
+pub judge_told : (disk : Option Disk) (path : List ℕ) (s : Standing) (r : Result Entry Failed) → IfSome disk (λ d. StandsAs (bytes_at d path) s) → (s.kind ≢ FolderKind → IfSome disk (λ d. IsLeaf d path)) → (r ≡ Ok Object → (s.kind ≡ File) × (is_object path ≡ true)) → (r ≡ Ok Folder → s.kind ≡ FolderKind) → (r ≡ Ok Nothing → (s.kind ≡ File) × (is_object path ≡ false)) → IfOk r (λ entry. IfSome disk (λ d. JudgesPath d path entry))
 judge_told None path s r stands leaf a b c = if_ok r
 judge_told (Some d) path s r stands leaf a b c = judge_ok d path s r stands leaf a b c
 
-pub nothing_told : (disk : Option Disk) (path : List ℕ) → IfSome disk (λ d. file_at d path ≡ None) → IfSome disk (λ d. IsLeaf d path) → IfSome disk (λ d. Judges d path Nothing)
+pub nothing_told : (disk : Option Disk) (path : List ℕ) → IfSome disk (λ d. file_at d path ≡ None) → IfSome disk (λ d. IsLeaf d path) → IfSome disk (λ d. JudgesPath d path Nothing)
 nothing_told None path h l = tt
 nothing_told (Some d) path h l = (λ o. none_some (file_at d path) o.file h o.stands, l)
 
 -- a folder is put on the list
-pub folder_passed : (disk : Option Disk) (path : List ℕ) (old new : List (List ℕ)) → IfSome disk (λ d. Judges d path Folder) → new ≡ old ++ path ∷ [] → IfSome disk (λ d. IsPassed d path old new)
+pub folder_passed : (disk : Option Disk) (path : List ℕ) (old new : List (List ℕ)) → IfSome disk (λ d. JudgesPath d path Folder) → new ≡ old ++ path ∷ [] → IfSome disk (λ d. IsPassed d path old new)
 folder_passed None path old new h e = tt
 folder_passed (Some d) path old new h e = record {
   more = path ∷ [];
@@ -65,7 +65,7 @@ folder_passed (Some d) path old new h e = record {
   all = λ lower o at. elim at [ inl same ↦ absurd (none_some (file_at d path) o.file h (ap (file_at d) (sym same) ∙ o.stands)) | inr low ↦ inl low ];
 }
 
-pub nothing_passed : (disk : Option Disk) (path : List ℕ) (old new : List (List ℕ)) → IfSome disk (λ d. Judges d path Nothing) → new ≡ old → IfSome disk (λ d. IsPassed d path old new)
+pub nothing_passed : (disk : Option Disk) (path : List ℕ) (old new : List (List ℕ)) → IfSome disk (λ d. JudgesPath d path Nothing) → new ≡ old → IfSome disk (λ d. IsPassed d path old new)
 nothing_passed None path old new h e = tt
 nothing_passed (Some d) path old new h e = record {
   more = [];

@@ -48,7 +48,7 @@ pub record AreLeft (d : Disk) (path : List ℕ) (folders : List (List ℕ)) : Ty
   pub all : (lower : List ℕ) → IsObjectAt d lower → Below path lower → IsBelowOne folders lower
 
 -- what stands at a path
-abbrev pub Judges : Disk → List ℕ → Entry → Type 0
-Judges d path Object = IsObjectAt d path
-Judges d path Folder = file_at d path ≡ None
-Judges d path Nothing = (IsObjectAt d path → ⊥) × IsLeaf d path
+abbrev pub JudgesPath : Disk → List ℕ → Entry → Type 0
+JudgesPath d path Object = IsObjectAt d path
+JudgesPath d path Folder = file_at d path ≡ None
+JudgesPath d path Nothing = (IsObjectAt d path → ⊥) × IsLeaf d path

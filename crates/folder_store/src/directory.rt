@@ -9,7 +9,7 @@ ghost use Rattle.vol_base.specs.Outside.{KeepsRest, Passes, Reads, any_under};
 ghost use Rattle.folder_store.specs.Absences.{says_absent};
 ghost use Rattle.folder_store.specs.Below.{Among};
 ghost use Rattle.folder_store.specs.Disks.{file_at, part_end, objects_of, is_object, IsApart, Stands, Touches, with_bytes, written, renamed};
-ghost use Rattle.folder_store.specs.Searching.{ArePassed, HasBelow, IsObjectAt, IsPassed, IsSearched, Judges};
+ghost use Rattle.folder_store.specs.Searching.{ArePassed, HasBelow, IsObjectAt, IsPassed, IsSearched, JudgesPath};
 ghost use Rattle.folder_store.specs.Shown.{IsOpen, IsDraft, IsFresh, Keeps, TurnsAt};
 
 use crate::counts::count_fault;
@@ -812,7 +812,7 @@ fn judge_found(found: &Standing, path: &str) -> Result<Entry, Failed>
 
 // What stands at a path. It isn't opened, since an open would wait at a pipe.
 fn judge_entry<F: Folder>(folder: &mut F, path: &str) -> Result<Entry, Failed>
-    ensures judged { IfOk result (λ entry. IfSome (F.disk folder.old) (λ d. Judges d path.now entry)) }
+    ensures judged { IfOk result (λ entry. IfSome (F.disk folder.old) (λ d. JudgesPath d path.now entry)) }
     ensures same { F.disk folder.new ≡ F.disk folder.old }
     ensures moments { F.moments folder.new ≡ F.moments folder.old }
 {

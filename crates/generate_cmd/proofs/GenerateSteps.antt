@@ -27,7 +27,7 @@ use Rattle.cutout_cmd.specs.Cutouts.{CutsScale, IsBroken, JudgesPart}
 use Rattle.generate_cmd.specs.Generating.{Generates, HasGenerated, IsSmall, IsUnsummed, JudgesWhole, MayPut, Summarizes, Sums, SumsScale}
 use Rattle.write_cmd.specs.Refusals.{write_without}
 use Rattle.command_base.specs.Scales.{ReadsScale, stored_scale}
-use Rattle.write_cmd.specs.Storing.{AllReadBack, AreReady, Counts, FrontPut, HasStored, Judges, Listing, WritesScale}
+use Rattle.write_cmd.specs.Storing.{AllReadBack, AreReady, Counts, FrontPut, HasStored, JudgesWrite, Listing, WritesScale}
 use Rattle.value_sums.specs.Sums.{sum_in, sum_of}
 use Rattle.generate_cmd.specs.declared.generate.Summary.{Summary}
 use Rattle.cutout_cmd.specs.declared.refusal.CutoutRefusal.{CutoutRefusal}
@@ -154,7 +154,7 @@ may_put m now list dataset s small (inl kept) = inl kept
 may_put m now list dataset s small (inr front) = inr (small, front)
 
 -- a list that isn't written
-unwritten : (refusal : WriteRefusal) (m : Objects) (now : Option Objects) (list : Listing) (dataset key : Name) (s : Scale) → IsSmall s → (refusal ≡ FeedFault → ⊥) → Judges (Err refusal) (Ok s) m dataset
+unwritten : (refusal : WriteRefusal) (m : Objects) (now : Option Objects) (list : Listing) (dataset key : Name) (s : Scale) → IsSmall s → (refusal ≡ FeedFault → ⊥) → JudgesWrite (Err refusal) (Ok s) m dataset
     → WritesScale (Err refusal) m now (list s) dataset key s → Generates (Err (Write refusal)) (Ok s) m now list dataset key
 unwritten (NoScale why) m now list dataset key s small fed judges writes = absurd writes
 unwritten (TooManyVoxels voxels) m now list dataset key s small fed judges writes = judges
@@ -167,7 +167,7 @@ unwritten NoMemory m now list dataset key s small fed judges writes = may_put m 
 
 -- the same where objects may be untold, and the list is read from a stream
 pub unwritten_told : (refusal : WriteRefusal) (o now : Option Objects) (read : Result Writes PlanFault) (list : Listing) (dataset key : Name) (s : Scale) → IsSmall s → (refusal ≡ FeedFault → ⊥) → read ≡ list s
-    → IfSome o (λ m. Judges (Err refusal) (Ok s) m dataset) → IfSome o (λ m. WritesScale (Err refusal) m now read dataset key s)
+    → IfSome o (λ m. JudgesWrite (Err refusal) (Ok s) m dataset) → IfSome o (λ m. WritesScale (Err refusal) m now read dataset key s)
     → IfSome o (λ m. Generates (Err (Write refusal)) (Ok s) m now list dataset key)
 unwritten_told refusal None now read list dataset key s small fed same judges writes = tt
 unwritten_told refusal (Some m) now read list dataset key s small fed same judges writes =

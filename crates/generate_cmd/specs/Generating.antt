@@ -128,8 +128,8 @@ pub record HasStoreCause (before now : ℕ) (result : Result Summary GenerateRef
   pub failed : IfErr result (λ refusal. generate_status refusal ≡ StoreStatus → Rose before now)
   pub stands : OnOk result (now ≡ before)
 
--- what is left of a store in which a list is written that is then summed: nothing is being written, or what was before; and after a refusal of a
--- status that puts nothing it is as before
+-- what is left of a store in which a list is written that is then summed: nothing is being written, or what was before; after a refusal of a
+-- status that puts nothing it is as before; and the store's count rose at its status, and stands at success
 pub record GenerateLeaves {T : Type 0} (store : Ghosts T) (before after : T)
     (result : Result Summary GenerateRefusal) : Type 0 where
   pub draft : Drops (store.draft before) (store.draft after)

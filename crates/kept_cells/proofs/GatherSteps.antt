@@ -14,7 +14,7 @@ use Rattle.cell_lists.proofs.ListSteps.{Lists-count}
 use Rattle.cell_lists.specs.Counted.{Counts}
 use Rattle.cell_lists.specs.declared.found.FoundCells.{FoundCells}
 use Rattle.kept_cells.specs.Gathered.{Gathers}
-use Rattle.kept_cells.specs.Touched.{Judges, is_with}
+use Rattle.kept_cells.specs.Touched.{JudgesTouched, is_with}
 use Rattle.kept_cells.specs.declared.fault.KeepRefusal.{KeepRefusal}
 use Rattle.kept_cells.specs.declared.fault.KeepRefusal.TheVariants.{NotRead, OutOfMemory, BadShard, TooManyCells}
 
@@ -25,7 +25,7 @@ few_met s writes found h few = let same = Lists-count s (met s writes) h.all h.l
 
 module _ (dataset : Name) (s : Scale) (writes : Writes) where
   -- in a sharded scale
-  sharded_one : (m : Objects) (sharding : Sharding) (r : Result ⊤ KeepRefusal) (found : FoundCells) → s.sharding ≡ Some sharding → Judges m dataset s sharding writes r found → Gathers r (λ _. Counts s (is_after m dataset s writes) found) m dataset s writes
+  sharded_one : (m : Objects) (sharding : Sharding) (r : Result ⊤ KeepRefusal) (found : FoundCells) → s.sharding ≡ Some sharding → JudgesTouched m dataset s sharding writes r found → Gathers r (λ _. Counts s (is_after m dataset s writes) found) m dataset s writes
   unfolding refusal_in
   sharded_one m sharding (Ok done) found is h = (
     ap (λ o. refusal_by o m dataset s writes) is ∙ h.sound,
@@ -37,7 +37,7 @@ module _ (dataset : Name) (s : Scale) (writes : Writes) where
   sharded_one m sharding (Err (BadShard shard minishard fault)) found is h = ap (λ o. refusal_by o m dataset s writes) is ∙ h
   sharded_one m sharding (Err (TooManyCells cells)) found is h = ap (λ o. refusal_by o m dataset s writes) is ∙ h
 
-  pub sharded_told : (o : Option Objects) (sharding : Sharding) (r : Result ⊤ KeepRefusal) (found : FoundCells) → s.sharding ≡ Some sharding → IfSome o (λ m. Judges m dataset s sharding writes r found)
+  pub sharded_told : (o : Option Objects) (sharding : Sharding) (r : Result ⊤ KeepRefusal) (found : FoundCells) → s.sharding ≡ Some sharding → IfSome o (λ m. JudgesTouched m dataset s sharding writes r found)
       → IfSome o (λ m. Gathers r (λ _. Counts s (is_after m dataset s writes) found) m dataset s writes)
   sharded_told None sharding r found is h = tt
   sharded_told (Some m) sharding r found is h = sharded_one m sharding r found is h

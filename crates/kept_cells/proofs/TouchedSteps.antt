@@ -30,7 +30,7 @@ use Rattle.cell_lists.proofs.ListSteps.{Lists-count, listed_from, never, number_
 use Rattle.cell_lists.specs.Counted.{Counts}
 use Rattle.cell_lists.specs.declared.found.FoundCells.{FoundCells}
 use Rattle.kept_cells.specs.KeptCells.{CountsKept, IsFree, KeepsCells}
-use Rattle.kept_cells.specs.Touched.{CountsAll, CountsFew, CountsMany, CountsWith, Judges, JudgesShard, is_with, refused_at}
+use Rattle.kept_cells.specs.Touched.{CountsAll, CountsFew, CountsMany, CountsWith, JudgesTouched, JudgesShard, is_with, refused_at}
 use Rattle.kept_cells.specs.declared.fault.ShardRefusal.{ShardRefusal}
 use Rattle.kept_cells.specs.declared.fault.ShardRefusal.TheVariants as refusals
 use Rattle.kept_cells.specs.declared.fault.KeepRefusal.{KeepRefusal}
@@ -148,7 +148,7 @@ module _ (s : Scale) (sharding : Sharding) (writes : Writes) where
           first_here (refusal_at m dataset s sharding writes) (length (touched_shards s sharding writes)) k (BadShardOf (get_or (touched_shards s sharding writes) k 0) minishard fault) low was.sound
           (ap (λ r. refusal_of (slice_index (touched_shards s sharding writes) k) r (length (cells_with m dataset s sharding writes (take (k + 1) (touched_shards s sharding writes))))) e)
 
-      refused_next : (refusal : KeepRefusal) (any : FoundCells) → JudgesShard m dataset s sharding writes (get_or (touched_shards s sharding writes) k 0) (Err refusal) old new → Judges m dataset s sharding writes (Err refusal) any
+      refused_next : (refusal : KeepRefusal) (any : FoundCells) → JudgesShard m dataset s sharding writes (get_or (touched_shards s sharding writes) k 0) (Err refusal) old new → JudgesTouched m dataset s sharding writes (Err refusal) any
       refused_next NotRead any h = tt
       refused_next OutOfMemory any h = tt
       refused_next (TooManyCells cells) any h = many_next cells h
@@ -179,7 +179,7 @@ module _ (s : Scale) (sharding : Sharding) (writes : Writes) where
       (subst (λ n. JudgesShard m dataset s sharding writes n (Ok done) old new) at (subst (λ x. JudgesShard m dataset s sharding writes n x old new) is (subst (λ o. IfSome o (λ m. JudgesShard m dataset s sharding writes n r old new)) same judged)))
 
   pub touched_refused : (o now : Option Objects) (dataset : List ℕ) (k n : ℕ) (r : Result ⊤ KeepRefusal) (refusal : KeepRefusal) (old new any : FoundCells) → k < length (touched_shards s sharding writes) → n ≡ get_or (touched_shards s sharding writes) k 0 → r ≡ Err refusal → now ≡ o
-      → WithTold o dataset k old → IfSome now (λ m. JudgesShard m dataset s sharding writes n r old new) → IfSome o (λ m. Judges m dataset s sharding writes (Err refusal) any)
+      → WithTold o dataset k old → IfSome now (λ m. JudgesShard m dataset s sharding writes n r old new) → IfSome o (λ m. JudgesTouched m dataset s sharding writes (Err refusal) any)
   touched_refused None now dataset k n r refusal old new any low at is same was judged = tt
   touched_refused (Some m) now dataset k n r refusal old new any low at is same was judged =
       refused_next m dataset k low old new was refusal any

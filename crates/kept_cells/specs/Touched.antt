@@ -58,11 +58,11 @@ pub record CountsAll (m : Objects) (dataset : Name) (s : Scale) (sharding : Shar
   pub sound : refusal_by (Some sharding) m dataset s writes ≡ None
   pub counted : Counts s (is_with m dataset s sharding writes (touched_shards s sharding writes)) found
 
-abbrev pub Judges : Objects → Name → Scale → Sharding → Writes → Result ⊤ KeepRefusal → FoundCells → Type 0
-Judges m dataset s sharding writes (Ok done) found = CountsAll m dataset s sharding writes found
-Judges m dataset s sharding writes (Err NotRead) found = Unit {0}
-Judges m dataset s sharding writes (Err OutOfMemory) found = Unit {0}
-Judges m dataset s sharding writes (Err (BadShard shard minishard fault)) found =
+abbrev pub JudgesTouched : Objects → Name → Scale → Sharding → Writes → Result ⊤ KeepRefusal → FoundCells → Type 0
+JudgesTouched m dataset s sharding writes (Ok done) found = CountsAll m dataset s sharding writes found
+JudgesTouched m dataset s sharding writes (Err NotRead) found = Unit {0}
+JudgesTouched m dataset s sharding writes (Err OutOfMemory) found = Unit {0}
+JudgesTouched m dataset s sharding writes (Err (BadShard shard minishard fault)) found =
     refusal_by (Some sharding) m dataset s writes ≡ Some (BadShardOf shard minishard fault)
-Judges m dataset s sharding writes (Err (TooManyCells cells)) found =
+JudgesTouched m dataset s sharding writes (Err (TooManyCells cells)) found =
     refusal_by (Some sharding) m dataset s writes ≡ Some (TooManyOf cells)

@@ -7,7 +7,7 @@ ghost use Rattle.cell_lists.specs.Lists.{AreDistinct, Lists};
 ghost use Rattle.update_laws.specs.Judged.{touched_shards};
 ghost use Rattle.update_laws.specs.Overlaid.{is_after};
 ghost use Rattle.kept_cells.specs.Gathered.{Gathers};
-ghost use Rattle.kept_cells.specs.Touched.{Judges};
+ghost use Rattle.kept_cells.specs.Touched.{JudgesTouched};
 
 use crate::KeepRefusal;
 use crate::met::list_met;
@@ -43,7 +43,7 @@ fn judge_shards<S: Source>(
     requires few { found.old.count ≤ 2 ^ 22 }
     requires counted { Counts stored.now.scale (met stored.now.scale plan.now.writes) found.old }
     ensures judged { IfSome (S.objects store.old) (λ m.
-        Judges m stored.now.dataset stored.now.scale sharding.now plan.now.writes result found.new) }
+        JudgesTouched m stored.now.dataset stored.now.scale sharding.now plan.now.writes result found.new) }
     ensures whole { OnOk result (IsWhole stored.now.scale found.new) }
     ensures few { OnOk result (found.new.count ≤ 2 ^ 22) }
     ensures reads { ReadsFrom S.Source KeepRefusal.NotRead store.old store.new result }
@@ -86,7 +86,7 @@ fn keep_sharded<S: Source>(
     requires few { found.old.count ≤ 2 ^ 22 }
     requires counted { Counts stored.now.scale (met stored.now.scale plan.now.writes) found.old }
     ensures judged { IfSome (S.objects store.old) (λ m.
-        Judges m stored.now.dataset stored.now.scale sharding.now plan.now.writes result found.new) }
+        JudgesTouched m stored.now.dataset stored.now.scale sharding.now plan.now.writes result found.new) }
     ensures whole { OnOk result (IsWhole stored.now.scale found.new) }
     ensures few { OnOk result (found.new.count ≤ 2 ^ 22) }
     ensures reads { ReadsFrom S.Source KeepRefusal.NotRead store.old store.new result }

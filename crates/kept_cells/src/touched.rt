@@ -5,7 +5,7 @@ ghost use Rattle.vol_spec.specs.StoredCells.{met};
 ghost use Rattle.update_laws.specs.Judged.{touched_shards};
 ghost use Rattle.cell_lists.specs.Counted.{Counts, IsWhole};
 ghost use Rattle.kept_cells.specs.KeptCells.{CountsOfShard};
-ghost use Rattle.kept_cells.specs.Touched.{Judges, JudgesShard, refused_at};
+ghost use Rattle.kept_cells.specs.Touched.{JudgesTouched, JudgesShard, refused_at};
 
 use crate::shard::keep_shard;
 use crate::{KeepRefusal, ShardRefusal};
@@ -99,7 +99,7 @@ pub fn keep_touched<S: Source>(
     requires few { found.old.count ≤ 2 ^ 22 }
     requires counted { Counts stored.now.scale (met stored.now.scale plan.now.writes) found.old }
     ensures judged { IfSome (S.objects store.old) (λ m.
-        Judges m stored.now.dataset stored.now.scale sharding.now plan.now.writes result found.new) }
+        JudgesTouched m stored.now.dataset stored.now.scale sharding.now plan.now.writes result found.new) }
     ensures whole { OnOk result (IsWhole stored.now.scale found.new) }
     ensures few { OnOk result (found.new.count ≤ 2 ^ 22) }
     ensures reads { ReadsFrom S.Source KeepRefusal.NotRead store.old store.new result }

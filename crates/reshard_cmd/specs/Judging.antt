@@ -10,5 +10,5 @@ use Rattle.make_scale.specs.declared.fault.MakeFault.{MakeFault as ReshardFault}
 abbrev pub DiffersFirst : Scale → Scale → Item → Type 0
 DiffersFirst from to item = DiffersAt (from.size ≡ to.size) (from.offset ≡ to.offset) from to item
 
-abbrev pub Judges : {A : Type 0} → Result A ReshardFault → Scale → Scale → Type 0
-Judges result from to = JudgesAs (DiffersFirst from to) (AreOfOneVolume from to) result from to
+abbrev pub JudgesCopy : {A : Type 0} → Result A ReshardFault → Scale → Scale → Type 0
+JudgesCopy result from to = JudgesAs (DiffersFirst from to) (AreOfOneVolume from to) result from to

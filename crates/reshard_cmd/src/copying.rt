@@ -13,7 +13,7 @@ ghost use Rattle.write_plan.specs.Pairs.{cell_count};
 ghost use Rattle.command_base.specs.Scales.{HasOneSize};
 ghost use Rattle.copier.specs.Held.{IsApart, cells_of, work_of};
 ghost use Rattle.make_scale.specs.Making.{KeepsStore, Puts, Wrote};
-ghost use Rattle.reshard_cmd.specs.Judging.{Judges};
+ghost use Rattle.reshard_cmd.specs.Judging.{JudgesCopy};
 ghost use Rattle.reshard_cmd.specs.Resharding.{copy_list};
 ghost use Rattle.reshard_cmd.specs.Copies.{DropsOrCopies, Reshards, said_copy};
 
@@ -90,7 +90,7 @@ pub fn reshard<R: Threads + Wait + Sync, S: Store, G: Gate + Sync>(
     requires to_dataset { length to_dataset.now ≤ 200 }
     requires writable { IsWritable to.now }
     requires one { HasOneSize to.now }
-    ensures judges { Judges result from.now to.now }
+    ensures judges { JudgesCopy result from.now to.now }
     ensures reshards { IfSome (S.objects store.old) (λ m.
         Reshards result m (S.objects store.new) from_dataset.now from.now to_dataset.now to.now) }
     ensures kept { IfErr result (λ fault. KeepsStore fault (S.objects store.old) (S.objects store.new)

@@ -40,7 +40,7 @@ use Rattle.write_plan.specs.Readers.{Answers}
 use Rattle.write_plan.specs.Stream.{writes_of}
 use Rattle.write_plan.specs.declared.fault.PlanFault.{PlanFault}
 use Rattle.write_plan.specs.declared.fault.PlanFault.TheVariants.{FeedFault as StreamFeed, BadMagic, TooManyWrites, EmptyBox, OutsideBox, WritesTooLarge, Truncated, TrailingBytes, OutOfMemory as StreamMemory}
-use Rattle.update_cmd.specs.Answering.{AllReadUpdated, AnswersAll, AnswersScale, AsksForDocument, CanBeUpdated, DropsUnsharded, HasUpdated, IsRight, Judges, KeepsFeed, LeavesStore, ReadsWritable, UpdateFront, UpdatedBack}
+use Rattle.update_cmd.specs.Answering.{AllReadUpdated, AnswersAll, AnswersScale, AsksForDocument, CanBeUpdated, DropsUnsharded, HasUpdated, IsRight, JudgesUpdate, KeepsFeed, LeavesStore, ReadsWritable, UpdateFront, UpdatedBack}
 use Rattle.update_cmd.specs.Refusals.{not_updated, unstreamed, update_line, update_status}
 use Rattle.update_cmd.specs.Updating.{HasTooMany, PutsJudgedFront, update_fault}
 use Rattle.update_cmd.specs.Putting.{KeepsStore, UpdatesScale}
@@ -108,10 +108,10 @@ refused_leaves found refusal o now d after refuses kept = subst (λ r. LeavesSto
     by fault.StoreFault kept = tt
     by fault.OutOfMemory kept = tt
 
-pub refused_judges : (found : UpdateFault) (refusal : UpdateRefusal) (s : Scale) → refusal ≡ not_updated found → IsWritableAlone s → Judges (Err refusal) (Ok s)
-refused_judges found refusal s refuses can = subst (λ r. Judges (Err r) (Ok s)) (sym refuses) (by found)
+pub refused_judges : (found : UpdateFault) (refusal : UpdateRefusal) (s : Scale) → refusal ≡ not_updated found → IsWritableAlone s → JudgesUpdate (Err refusal) (Ok s)
+refused_judges found refusal s refuses can = subst (λ r. JudgesUpdate (Err r) (Ok s)) (sym refuses) (by found)
   where
-    by : (found : UpdateFault) → Judges (Err (not_updated found)) (Ok s)
+    by : (found : UpdateFault) → JudgesUpdate (Err (not_updated found)) (Ok s)
     by (fault.TooManyCells cells) = can
     by (fault.BadShard shard minishard found) = can
     by (fault.Damaged cell found) = can
@@ -146,10 +146,10 @@ unstreamed_told r found None fed dataset key s is h = tt
 unstreamed_told r found (Some m) None dataset key s is h = tt
 unstreamed_told r found (Some m) (Some stream) dataset key s is h = subst (λ x. AnswersScale x m (Some m) (writes_of stream s) dataset key s) (sym is) (unstreamed_one found m (writes_of stream s) dataset key s h)
 
-pub unstreamed_judges : (r : Result Written UpdateRefusal) (found : PlanFault) (s : Scale) → r ≡ Err (unstreamed found) → IsWritableAlone s → Judges r (Ok s)
-unstreamed_judges r found s is can = subst (λ x. Judges x (Ok s)) (sym is) (by found)
+pub unstreamed_judges : (r : Result Written UpdateRefusal) (found : PlanFault) (s : Scale) → r ≡ Err (unstreamed found) → IsWritableAlone s → JudgesUpdate r (Ok s)
+unstreamed_judges r found s is can = subst (λ x. JudgesUpdate x (Ok s)) (sym is) (by found)
   where
-    by : (found : PlanFault) → Judges (Err (unstreamed found)) (Ok s)
+    by : (found : PlanFault) → JudgesUpdate (Err (unstreamed found)) (Ok s)
     by StreamFeed = can
     by StreamMemory = tt
     by BadMagic = can
@@ -197,9 +197,9 @@ key_told r (Some m) same now None dataset key s kept reads h = tt
 key_told r (Some m) same now (Some stream) dataset key s kept reads h =
     key_one r (stored_scale m dataset key) m now (writes_of stream) dataset key s reads.0 reads.1 (subst (λ x. IfSome x (λ m. AnswersScale r m now (writes_of stream s) dataset key s)) kept h)
 
-pub key_judges : (r : Result Written UpdateRefusal) (o : Option Objects) (dataset key : Name) (s : Scale) → IfSome o (λ m. ReadsWritable (Ok s) (stored_scale m dataset key)) → Judges r (Ok s) → IfSome o (λ m. Judges r (stored_scale m dataset key))
+pub key_judges : (r : Result Written UpdateRefusal) (o : Option Objects) (dataset key : Name) (s : Scale) → IfSome o (λ m. ReadsWritable (Ok s) (stored_scale m dataset key)) → JudgesUpdate r (Ok s) → IfSome o (λ m. JudgesUpdate r (stored_scale m dataset key))
 key_judges r None dataset key s reads h = tt
-key_judges r (Some m) dataset key s reads h = subst (Judges r) (sym reads.0) h
+key_judges r (Some m) dataset key s reads h = subst (JudgesUpdate r) (sym reads.0) h
 
 -- or one that isn't
 unread_one : (refusal : UpdateRefusal) (told : Result Scale NoScaleType) (m : Objects) (now : Option Objects) (list : Listing) (dataset key : Name) → now ≡ Some m → ReadsWritable (Err refusal) told → AnswersAll (Err refusal) told m now list dataset key
@@ -220,7 +220,7 @@ unread_told refusal None now fed dataset key same h = tt
 unread_told refusal (Some m) now None dataset key same h = tt
 unread_told refusal (Some m) now (Some stream) dataset key same h = unread_one refusal (stored_scale m dataset key) m now (writes_of stream) dataset key same h
 
-unread_judges_one : (refusal : UpdateRefusal) (told : Result Scale NoScaleType) → ReadsWritable (Err refusal) told → Judges (Err refusal) told
+unread_judges_one : (refusal : UpdateRefusal) (told : Result Scale NoScaleType) → ReadsWritable (Err refusal) told → JudgesUpdate (Err refusal) told
 unread_judges_one (refused.NoScale why) told h = h
 unread_judges_one (refused.TooManyVoxels voxels) told h = h
 unread_judges_one refused.SeveralSizes told h = h
@@ -232,7 +232,7 @@ unread_judges_one (refused.BadShard shard minishard found) told h = absurd h
 unread_judges_one (refused.Damaged cell found) told h = absurd h
 unread_judges_one refused.FeedFault told h = absurd h
 
-pub unread_judges : (refusal : UpdateRefusal) (o : Option Objects) (dataset key : Name) → IfSome o (λ m. ReadsWritable (Err refusal) (stored_scale m dataset key)) → IfSome o (λ m. Judges (Err refusal) (stored_scale m dataset key))
+pub unread_judges : (refusal : UpdateRefusal) (o : Option Objects) (dataset key : Name) → IfSome o (λ m. ReadsWritable (Err refusal) (stored_scale m dataset key)) → IfSome o (λ m. JudgesUpdate (Err refusal) (stored_scale m dataset key))
 unread_judges refusal None dataset key h = tt
 unread_judges refusal (Some m) dataset key h = unread_judges_one refusal (stored_scale m dataset key) h
 

@@ -96,13 +96,13 @@ AnswersAll result told m now list dataset key = IsOkAnd told (λ s. IsWritableAl
 
 -- what it answers over objects alone, the feed told or not: the scale is judged first, then the writing limit of all views, then that there is one
 -- chunk size, and the feed is read only then
-abbrev pub Judges : Result Written UpdateRefusal → Result Scale NoScale → Type 0
-Judges (Err (refused.NoScale why)) told = told ≡ Err why
-Judges (Err (refused.TooManyVoxels voxels)) told = IsOkAnd told (λ s. IsTooWide s voxels)
-Judges (Err refused.SeveralSizes) told = IsOkAnd told HasSeveralSizes
-Judges (Err refused.StoreFault) told = Unit {0}
-Judges (Err refused.NoMemory) told = Unit {0}
-Judges result told = IsOkAnd told IsWritableAlone
+abbrev pub JudgesUpdate : Result Written UpdateRefusal → Result Scale NoScale → Type 0
+JudgesUpdate (Err (refused.NoScale why)) told = told ≡ Err why
+JudgesUpdate (Err (refused.TooManyVoxels voxels)) told = IsOkAnd told (λ s. IsTooWide s voxels)
+JudgesUpdate (Err refused.SeveralSizes) told = IsOkAnd told HasSeveralSizes
+JudgesUpdate (Err refused.StoreFault) told = Unit {0}
+JudgesUpdate (Err refused.NoMemory) told = Unit {0}
+JudgesUpdate result told = IsOkAnd told IsWritableAlone
 
 -- what reading a scale that keeps the writing limit and has one chunk size answers
 abbrev pub ReadsWritable : Result Scale UpdateRefusal → Result Scale NoScale → Type 0
@@ -159,7 +159,7 @@ DropsOrPuts old now left dataset key before after = Drops before after ⊎ IfSom
 -- and of the store
 pub record IsRight (answer : Result Written UpdateRefusal) (told now : Option Objects)
     (before after : Option Draft) (left_old left_new : Option Bytes) (dataset key : Name) : Type 0 where
-  pub judges : IfSome told (λ m. Judges answer (stored_scale m dataset key))
+  pub judges : IfSome told (λ m. JudgesUpdate answer (stored_scale m dataset key))
   pub answers : IfSome told (λ m. IfSome left_old (λ bytes.
       AnswersAll answer (stored_scale m dataset key) m now (writes_of bytes) dataset key))
   pub feed : KeepsFeed answer left_old left_new

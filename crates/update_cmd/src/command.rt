@@ -11,7 +11,7 @@ ghost use Rattle.command_base.specs.Ending.{EndsWell, IsCaused};
 ghost use Rattle.command_base.specs.Outlets.{outlets_of};
 ghost use Rattle.command_base.specs.Scales.{HasOneSize, stored_scale};
 ghost use Rattle.command_base.specs.Statuses.{prints, puts};
-ghost use Rattle.update_cmd.specs.Answering.{AnswersAll, AnswersScale, AsksForDocument, BeginsUpdate, CanBeUpdated, DropsOrPuts, DropsUnsharded, Judges, KeepsFeed, LeavesStore, ReadsWritable, Updated, UpdatedBack};
+ghost use Rattle.update_cmd.specs.Answering.{AnswersAll, AnswersScale, AsksForDocument, BeginsUpdate, CanBeUpdated, DropsOrPuts, DropsUnsharded, JudgesUpdate, KeepsFeed, LeavesStore, ReadsWritable, Updated, UpdatedBack};
 ghost use Rattle.update_cmd.specs.Refusals.{not_updated};
 ghost use Rattle.write_cmd.specs.Storing.{TakesStream};
 
@@ -84,7 +84,7 @@ fn update_scale<R: Threads + Wait + Sync, S: Store, F: Feed, G: Gate + Sync>(
 ) -> Result<Written, UpdateRefusal>
     requires writable { IsWritable stored.now.scale }
     requires one { HasOneSize stored.now.scale }
-    ensures judges { Judges result (Ok stored.now.scale) }
+    ensures judges { JudgesUpdate result (Ok stored.now.scale) }
     ensures answers { (key : List ℕ) → IfSome (S.objects store.old) (λ m.
         IfSome (F.left feed.old) (λ bytes. AnswersScale result m (S.objects store.new)
         (writes_of bytes stored.now.scale) stored.now.dataset key stored.now.scale)) }
@@ -119,7 +119,7 @@ fn update_stored<R: Threads + Wait + Sync, S: Store, F: Feed, G: Gate + Sync>(
     requires dataset { length dataset.now ≤ 200 }
     requires key { length key.now ≤ 200 }
     ensures judges { IfSome (S.objects store.old) (λ m.
-        Judges result (stored_scale m dataset.now key.now)) }
+        JudgesUpdate result (stored_scale m dataset.now key.now)) }
     ensures answers { IfSome (S.objects store.old) (λ m.
         IfSome (F.left feed.old) (λ bytes. AnswersAll result (stored_scale m dataset.now key.now) m
         (S.objects store.new) (writes_of bytes) dataset.now key.now)) }

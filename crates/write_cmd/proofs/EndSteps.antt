@@ -11,7 +11,7 @@ use Rattle.view_writer.proofs.PairSteps.{each_few}
 use Rattle.view_writer.specs.Views.{first_many, first_wide}
 use Rattle.write_plan.specs.declared.fault.PlanFault.{PlanFault}
 use Rattle.command_base.specs.declared.refusal.NoScale.{NoScale as NoScaleType}
-use Rattle.write_cmd.specs.Storing.{AreReady, Judges, Listing, WritesAll}
+use Rattle.write_cmd.specs.Storing.{AreReady, JudgesWrite, Listing, WritesAll}
 use Rattle.write_cmd.specs.declared.refusal.WriteRefusal.{WriteRefusal}
 use Rattle.write_cmd.specs.declared.refusal.WriteRefusal.TheVariants.{NoScale, TooManyVoxels, NotEmpty, Stream, TooManyCells, StoreFault, FeedFault, NoMemory}
 
@@ -36,7 +36,7 @@ none_many (Err fault) s cells few many = absurd few
 -- so it wants memory
 pub memory_alone : (refusal : WriteRefusal) (told : Result Scale NoScaleType) (m : Objects) (now : Option Objects) (list : Listing) (dataset key : Name)
     → IsOkAnd told (λ s. AreReady m dataset s × IsOkAnd (list s) (λ writes. first_many (all_views s) writes ≡ None)) → (refusal ≡ StoreFault → ⊥) → (refusal ≡ FeedFault → ⊥)
-    → Judges (Err refusal) told m dataset → WritesAll (Err refusal) told m now list dataset key → refusal ≡ NoMemory
+    → JudgesWrite (Err refusal) told m dataset → WritesAll (Err refusal) told m now list dataset key → refusal ≡ NoMemory
 memory_alone refusal (Err why) m now list dataset key can store fed judges writes = absurd can
 memory_alone (NoScale why) (Ok s) m now list dataset key can store fed judges writes = cc judges
 memory_alone (TooManyVoxels voxels) (Ok s) m now list dataset key can store fed judges writes = none_wide s voxels can.0.0 judges

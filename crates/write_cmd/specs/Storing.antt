@@ -126,13 +126,13 @@ WritesAll result told m now list dataset key = IsOkAnd told (λ s.
 
 -- what it answers over objects alone, the feed told or not: the scale is judged first, then the writing limit, then the folder, and the
 -- feed is read only then
-abbrev pub Judges : Result Written WriteRefusal → Result Scale NoScale → Objects → Name → Type 0
-Judges (Err (refused.NoScale why)) told m dataset = told ≡ Err why
-Judges (Err (refused.TooManyVoxels voxels)) told m dataset = IsOkAnd told (λ s. IsTooWide s voxels)
-Judges (Err refused.NotEmpty) told m dataset = IsOkAnd told (AreFull m dataset)
-Judges (Err refused.StoreFault) told m dataset = Unit {0}
-Judges (Err refused.NoMemory) told m dataset = Unit {0}
-Judges result told m dataset = IsOkAnd told (AreReady m dataset)
+abbrev pub JudgesWrite : Result Written WriteRefusal → Result Scale NoScale → Objects → Name → Type 0
+JudgesWrite (Err (refused.NoScale why)) told m dataset = told ≡ Err why
+JudgesWrite (Err (refused.TooManyVoxels voxels)) told m dataset = IsOkAnd told (λ s. IsTooWide s voxels)
+JudgesWrite (Err refused.NotEmpty) told m dataset = IsOkAnd told (AreFull m dataset)
+JudgesWrite (Err refused.StoreFault) told m dataset = Unit {0}
+JudgesWrite (Err refused.NoMemory) told m dataset = Unit {0}
+JudgesWrite result told m dataset = IsOkAnd told (AreReady m dataset)
 
 -- what it leaves where nothing is told: the feed isn't read where the scale, the limit or the folder is refused, and is read to its end by a
 -- write that succeeds; and nothing is put, and what was being written stays, but where the objects of a plan were begun
@@ -160,8 +160,8 @@ KeepsPlan refused.NoMemory old new before now = Unit {0}
 KeepsPlan (refused.TooManyCells cells) old new before now = OnlyReads old new before now
 KeepsPlan other old new before now = ⊥
 
--- what is left of a store that a list of writes is put in: nothing is being written, or what was before; and the store's count rose at its fault,
--- and stands at success
+-- what is left of a store that a list of writes is put in: nothing is being written, or what was before; after a refusal in front of the
+-- first object, all is as it was; and the store's count rose at its fault, and stands at success
 pub record WriteLeaves {T : Type 0} (store : Ghosts T) (before after : T)
     (result : Result Written WriteRefusal) : Type 0 where
   pub draft : Drops (store.draft before) (store.draft after)
@@ -173,7 +173,7 @@ pub record WriteLeaves {T : Type 0} (store : Ghosts T) (before after : T)
 -- feed, and that a refusal of a status that puts nothing changed no object
 pub record IsRight (answer : Result Written WriteRefusal) (told now : Option Objects)
     (left_old left_new : Option Bytes) (dataset key : Name) : Type 0 where
-  pub judges : IfSome told (λ m. Judges answer (stored_scale m dataset key) m dataset)
+  pub judges : IfSome told (λ m. JudgesWrite answer (stored_scale m dataset key) m dataset)
   pub writes : IfSome told (λ m. IfSome left_old (λ bytes.
       WritesAll answer (stored_scale m dataset key) m now (writes_of bytes) dataset key))
   pub feed : KeepsFeed answer left_old left_new

@@ -13,7 +13,7 @@ ghost use Rattle.command_base.specs.Ending.{EndsWell, IsCaused};
 ghost use Rattle.command_base.specs.Outlets.{outlets_of};
 ghost use Rattle.command_base.specs.Scales.{stored_scale};
 ghost use Rattle.command_base.specs.Statuses.{prints, puts};
-ghost use Rattle.write_cmd.specs.Storing.{CanWrite, Judges, JudgesLimit, KeepsFeed, KeepsPlan, PutsWrites, TakesStream, WriteLeaves, WritesAll, WritesScale, WrittenBack, Wrote};
+ghost use Rattle.write_cmd.specs.Storing.{CanWrite, JudgesWrite, JudgesLimit, KeepsFeed, KeepsPlan, PutsWrites, TakesStream, WriteLeaves, WritesAll, WritesScale, WrittenBack, Wrote};
 
 use crate::refusal::WriteRefusal;
 use chunk_grid::find_folder;
@@ -86,7 +86,7 @@ pub fn write_list<R: Threads + Wait + Sync, S: Store, F: Feed, G: Gate + Sync>(
     requires writable { All IsWritable (all_views scale.now) }
     requires empty { IfSome (S.objects store.old) (λ m.
         any_under m (folder_of dataset.now scale.now) ≡ false) }
-    ensures judges { IfSome (S.objects store.old) (λ m. Judges result (Ok scale.now) m dataset.now) }
+    ensures judges { IfSome (S.objects store.old) (λ m. JudgesWrite result (Ok scale.now) m dataset.now) }
     ensures writes { (key : List ℕ) → IfSome (S.objects store.old) (λ m.
         IfSome (F.left feed.old) (λ bytes. WritesScale result m (S.objects store.new)
         (writes_of bytes scale.now) dataset.now key scale.now)) }
@@ -111,7 +111,7 @@ fn write_objects<R: Threads + Wait + Sync, S: Store, F: Feed, G: Gate + Sync>(
     requires dataset { length dataset.now ≤ 200 }
     requires key { length key.now ≤ 200 }
     ensures judges { IfSome (S.objects store.old) (λ m.
-        Judges result (stored_scale m dataset.now key.now) m dataset.now) }
+        JudgesWrite result (stored_scale m dataset.now key.now) m dataset.now) }
     ensures writes { IfSome (S.objects store.old) (λ m.
         IfSome (F.left feed.old) (λ bytes. WritesAll result (stored_scale m dataset.now key.now) m
         (S.objects store.new) (writes_of bytes) dataset.now key.now)) }

@@ -85,9 +85,9 @@ pub record IsJudged (s : Scale) (i before : ℕ) (b : Box3) (len : ℕ) : Type 0
   pub sized : IsSized s before b len
 
 -- the length of a box's values, or its fault
-abbrev pub Judges : Scale → ℕ → ℕ → Box3 → Result ℕ PlanFault → Type 0
-Judges s i before b (Ok len) = IsJudged s i before b len
-Judges s i before b (Err fault) = IsTrue (of_stream fault) × (judged s i before b ≡ Err fault)
+abbrev pub JudgesBox : Scale → ℕ → ℕ → Box3 → Result ℕ PlanFault → Type 0
+JudgesBox s i before b (Ok len) = IsJudged s i before b len
+JudgesBox s i before b (Err fault) = IsTrue (of_stream fault) × (judged s i before b ≡ Err fault)
 
 -- of a write that was read behind so many bytes of values: it is a write of the scale, of bytes, within the room
 pub record IsReadWrite (s : Scale) (before : ℕ) (w : BoxWrite) : Type 0 where

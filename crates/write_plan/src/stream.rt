@@ -8,7 +8,7 @@ ghost use Rattle.vol_base.specs.Bytes.{AreBytes};
 ghost use Rattle.vol_spec.specs.Grid.{Inside};
 ghost use Rattle.write_plan.specs.Stream.{is_empty, is_within, magic, head_number, box_of, writes_of};
 ghost use Rattle.write_plan.specs.Reading.{box_at, write_at, writes_at, count_at, end_at};
-ghost use Rattle.write_plan.specs.Readers.{Took, Reads, Answers, AreReadWrites, IsReadWrite, IsSized, Judges, most_of};
+ghost use Rattle.write_plan.specs.Readers.{Took, Reads, Answers, AreReadWrites, IsReadWrite, IsSized, JudgesBox, most_of};
 ghost use Rattle.write_plan.specs.WriteLists.{IsWriteOf, write_in, writes_in};
 
 use crate::bytes::{read_front, read_values};
@@ -67,7 +67,7 @@ fn lies_inside(scale: &Scale, part: &Box3) -> bool
 #[tactic(auto, unfolding(crate::specs::Reading::judged))]
 fn judge(scale: &Scale, number: u32, before: u64, part: &Box3) -> Result<usize, PlanFault>
     requires { before ≤ 2 ^ 30 }
-    ensures { Judges scale.now number before part.now result }
+    ensures { JudgesBox scale.now number before part.now result }
 {
     if has_empty_axis(part) {
         return Err(PlanFault::EmptyBox { write: number });

@@ -3,7 +3,7 @@ use Rattle.vol_spec.specs.Writable.{IsWritable}
 use Rattle.vol_spec.specs.declared.scale.Scale.{Scale}
 use Rattle.command_base.proofs.StoredSteps.{of_both}
 use Rattle.reshard_cmd.specs.Copies.{DropsOrCopies, Reshards}
-use Rattle.reshard_cmd.specs.Judging.{Judges}
+use Rattle.reshard_cmd.specs.Judging.{JudgesCopy}
 use Rattle.reshard_cmd.proofs.copying.reshard.Goals as goal
 
 pub make_scale-requires-clause-writable : goal.make_scale-requires-clause-writable
@@ -11,7 +11,7 @@ make_scale-requires-clause-writable g c κs within = subst IsWritable (sym c.of-
 
 pub returns-clause-judges : goal.returns-clause-judges
 returns-clause-judges g c =
-    of_both (λ d s e t. Judges c.make_scale.result s t) c.of-from.result.dataset c.args.from_dataset.now c.of-from.result.scale c.args.from.now c.of-to.result.dataset c.args.to_dataset.now c.of-to.result.scale c.args.to.now c.of-from.ensures.dataset
+    of_both (λ d s e t. JudgesCopy c.make_scale.result s t) c.of-from.result.dataset c.args.from_dataset.now c.of-from.result.scale c.args.from.now c.of-to.result.dataset c.args.to_dataset.now c.of-to.result.scale c.args.to.now c.of-from.ensures.dataset
     c.of-from.ensures.scale c.of-to.ensures.dataset c.of-to.ensures.scale c.make_scale.ensures.judges
 
 pub returns-clause-reshards : goal.returns-clause-reshards

@@ -2,7 +2,7 @@ use Rattle.std.proofs.Common.{◌∙◌, ◌⊎◌, IfSome, Ok, ap, subst, sym}
 use Rattle.command_base.proofs.StoredSteps.{of_stored}
 use Rattle.command_base.specs.Scales.{HasOneSize}
 use Rattle.shard_writer.specs.Writing.{Drops}
-use Rattle.update_cmd.specs.Answering.{AnswersScale, BeginsUpdate, Judges}
+use Rattle.update_cmd.specs.Answering.{AnswersScale, BeginsUpdate, JudgesUpdate}
 use Rattle.vol_spec.specs.Writable.{IsWritable}
 use Rattle.vol_spec.specs.declared.scale.Scale.{Scale}
 use Rattle.write_plan.specs.Stream.{writes_of}
@@ -19,7 +19,7 @@ update_scale-requires-clause-one g c κs within = subst HasOneSize (sym c.of-sto
 
 pub returns-in-Ok-clause-judges : goal.returns-in-Ok-clause-judges
 returns-in-Ok-clause-judges g c = key_judges c.update_scale.result (g.S.Source.objects c.args.store.now) c.args.dataset.now c.args.key.now c.in-Ok.scale c.in-Ok.ensures.read
-    (subst (λ s. Judges c.update_scale.result (Ok s)) c.of-stored.ensures.scale c.update_scale.ensures.judges)
+    (subst (λ s. JudgesUpdate c.update_scale.result (Ok s)) c.of-stored.ensures.scale c.update_scale.ensures.judges)
 
 pub returns-in-Ok-clause-answers : goal.returns-in-Ok-clause-answers
 returns-in-Ok-clause-answers g c =
