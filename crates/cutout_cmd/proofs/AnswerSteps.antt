@@ -1,5 +1,6 @@
 -- What a cutout answers.
-use Rattle.std.proofs.Common.{◌≡◌, ◌∙◌, ◌≤◌, ◌++◌, Option, Err, arith, ap, length, length-append, refl, subst, sym, take}
+use Rattle.std.proofs.Common.{◌≡◌, ◌∙◌, ◌≤◌, ◌++◌, Option, None, Some, Result, Ok, Err, IfSome, arith, ap, length, length-append, refl, subst, sym, take}
+use Rattle.std.specs.Bool.{⊤}
 use Rattle.std.specs.Option.{option_map}
 use Rattle.std.proofs.Math.Seq.{take-append_seam}
 use Rattle.vol_base.specs.Gains.{Gains, GainsFront}
@@ -10,7 +11,9 @@ use Rattle.vol_spec.specs.declared.scale.Scale.{Scale}
 use Rattle.cutout.specs.Streaming.{IsFront, Streams}
 use Rattle.cutout.specs.declared.fault.StreamFault.{StreamFault}
 use Rattle.cutout.specs.declared.fault.StreamFault.TheVariants as broken
-use Rattle.cutout_cmd.specs.Cutouts.{broken_by, CutsScale, IsBroken, IsRequest, Writes}
+use Rattle.command_base.specs.Scales.{stored_scale}
+use Rattle.cutout_cmd.specs.Cutouts.{broken_by, Cuts, CutsScale, IsBroken, IsRequest, Writes}
+use Rattle.cutout_cmd.specs.declared.refusal.CutoutRefusal.{CutoutRefusal}
 use Rattle.cutout_cmd.specs.declared.refusal.CutoutRefusal.TheVariants as refused
 
 -- a front that was gained
@@ -58,3 +61,21 @@ broken_out broken.StoreFault inside e = cc e
 broken_out (broken.Damaged cell fault) inside e = cc e
 broken_out broken.OutFault inside e = refl
 broken_out broken.OutOfMemory inside e = cc e
+
+-- what a cutout of the scale that is told answers
+of_scale : (r : Result ⊤ CutoutRefusal) (m : Objects) (dataset : Name) (s : Scale) (part : Box3) (old new : Option Bytes) → CutsScale r m dataset s part old new → Cuts r (Ok s) m dataset part old new
+of_scale (Ok done) m dataset s part old new h = h
+of_scale (Err (refused.NoScale why)) m dataset s part old new h = absurd h
+of_scale (Err (refused.Outside told all)) m dataset s part old new h = h
+of_scale (Err (refused.TooLarge bytes)) m dataset s part old new h = h
+of_scale (Err (refused.Damaged cell fault)) m dataset s part old new h = h
+of_scale (Err refused.OutFault) m dataset s part old new h = h
+of_scale (Err refused.StoreFault) m dataset s part old new h = h
+of_scale (Err refused.NoMemory) m dataset s part old new h = tt
+
+-- the same of the scale of a key
+pub key_cuts : (r : Result ⊤ CutoutRefusal) (o same : Option Objects) (dataset key : Name) (s : Scale) (part : Box3) (old new : Option Bytes) → same ≡ o → IfSome o (λ m. stored_scale m dataset key ≡ Ok s)
+    → IfSome same (λ m. CutsScale r m dataset s part old new) → IfSome o (λ m. Cuts r (stored_scale m dataset key) m dataset part old new)
+key_cuts r None same dataset key s part old new kept is cuts = tt
+key_cuts r (Some m) same dataset key s part old new kept is cuts =
+    subst (λ told. Cuts r told m dataset part old new) (sym is) (of_scale r m dataset s part old new (subst (λ o. IfSome o (λ m. CutsScale r m dataset s part old new)) kept cuts))

@@ -17,6 +17,7 @@ use cutout::{Reader, StreamFault};
 use info_doc::Scale;
 use std::alloc::Global;
 use vol_base::{Box3, Name, Outlet, Source};
+use vol_spec::StoredScale;
 
 /// A cutout has at most so many bytes.
 const MOST_BYTES: u128 = 1 << 30;
@@ -81,15 +82,13 @@ fn cut_scale<S: Source, O: Outlet>(
     alloc: Global,
     store: &mut S,
     out: &mut O,
-    dataset: &Name,
-    scale: &Scale,
+    stored: &StoredScale,
     part: &Box3,
 ) -> Result<(), CutoutRefusal>
-    requires dataset { length dataset.now ≤ 200 }
     ensures cuts { IfSome (S.objects store.old) (λ m.
-        CutsScale result m dataset.now scale.now part.now (O.written out.old) (O.written out.new)) }
+        CutsScale result m stored.now.dataset stored.now.scale part.now (O.written out.old) (O.written out.new)) }
     ensures asked { IfSome (S.objects store.old) (λ m.
-        S.asked store.new ≤ S.asked store.old + parts_cost m dataset.now scale.now part.now) }
+        S.asked store.new ≤ S.asked store.old + parts_cost m stored.now.dataset stored.now.scale part.now) }
     ensures reads { ReadsFrom S.Source CutoutRefusal.StoreFault store.old store.new result }
     ensures out_cause { HasCauseOf CutoutRefusal.OutFault (O.faults out.old) (O.faults out.new) result }
     ensures unwritten { Writes result part.now (O.written out.old) (O.written out.new) }
@@ -98,8 +97,8 @@ fn cut_scale<S: Source, O: Outlet>(
         store.new ≡ store.old) }
     ensures unprinted { IfErr result (λ refusal. refuses (cutout_status refusal) ≡ true → out.new ≡ out.old) }
 {
-    judge_part(scale, part)?;
-    let mut reader = Reader::open(alloc, dataset, scale)?;
+    judge_part(&stored.scale, part)?;
+    let mut reader = Reader::open(alloc, &stored.dataset, &stored.scale)?;
     stream_part(alloc, store, out, &mut reader, part)
 }
 
@@ -128,7 +127,8 @@ fn cut_out<S: Source, O: Outlet>(
     ensures unprinted { IfErr result (λ refusal. refuses (cutout_status refusal) ≡ true → out.new ≡ out.old) }
 {
     let scale = read_scale(alloc, store, dataset, key)?;
-    cut_scale(alloc, store, out, dataset, &scale, part)
+    let stored = StoredScale::of(dataset, &scale);
+    cut_scale(alloc, store, out, &stored, part)
 }
 
 /// The command `cutout`: writes the values of a box of the scale of a key, channel by channel and layer by layer. At
