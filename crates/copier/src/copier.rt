@@ -241,6 +241,7 @@ impl Chunks for Copier {
             IsApart self.new dataset s }
         ensures objects { S.objects store.new ≡ S.objects store.old }
         ensures draft { S.draft store.new ≡ S.draft store.old }
+        ensures history { S.history store.new ≡ S.history store.old }
         ensures cause { HasCauseOf PrepareFault.StoreFault (S.faults store.old) (S.faults store.new) result }
 
         // In this call it asks for the rows of an index once, as long as each cell stands behind the one before it.

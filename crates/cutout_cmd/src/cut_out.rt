@@ -158,6 +158,7 @@ pub fn run_cutout<S: Source, O: Outlet, E: Outlet>(
     ensures unprinted { refuses result ≡ true → out.new ≡ out.old }
     ensures kept { OnlyReads (S.objects store.old) (S.objects store.new) (S.draft store.old)
         (S.draft store.new) }
+    ensures history { S.history store.new ≡ S.history store.old }
     ensures causes { IsCaused result (S.faults store.old) (S.faults store.new) (O.faults out.old)
         (O.faults out.new) (E.faults err.old) (E.faults err.new) }
 {

@@ -1,6 +1,6 @@
 -- What `downsample` answers (this project's profile). Its refusals are those of a copy, with the same statuses and lines.
-use Rattle.std.specs.Prelude.{◌≡◌, ◌⊎◌, length, Option, Some, None, Result, IfSome, IsSomeAnd}
-use Rattle.vol_base.specs.Outside.{Draft, Objects}
+use Rattle.std.specs.Prelude.{◌≡◌, ◌⊎◌, List, length, Option, Some, None, Result, IfSome, IsSomeAnd}
+use Rattle.vol_base.specs.Outside.{Draft, Objects, Passes}
 use Rattle.vol_base.specs.declared.boxes.Box3.{Box3}
 use Rattle.vol_spec.specs.Grid.{Inside, whole}
 use Rattle.vol_spec.specs.Types.{Name}
@@ -10,7 +10,7 @@ use Rattle.coarse_laws.specs.Coarse.{HasReduced, ReadsAsReduced, reduced_in}
 use Rattle.reduce_laws.specs.Halves.{IsHalf}
 use Rattle.reduce_laws.specs.Reduced.{IsNext, reduced_cells}
 use Rattle.reduce_laws.specs.declared.method.Method.{Method}
-use Rattle.shard_writer.specs.Writing.{BeginsNext, Drops}
+use Rattle.shard_writer.specs.Writing.{BeginsNext, Drops, PutsFront}
 use Rattle.shard_writer.specs.declared.written.Written.{Written}
 use Rattle.command_base.specs.Ending.{Ends}
 use Rattle.command_base.specs.Outlets.{Outlets}
@@ -93,6 +93,12 @@ abbrev pub DropsOrDownsamples : Method → Option Objects → Option Objects →
 DropsOrDownsamples method old now dataset key to_key before after = Drops before after ⊎
     IfSome old (λ m. BeginsReduction (stored_scale m dataset key) (stored_scale m dataset to_key) method m now
     dataset after)
+
+-- at each moment that passed both scales were there, and a front of the reduced scale's objects was put, where objects are told
+abbrev pub PassesDownsample : Method → Name → Name → Name → Option Objects → List Objects → List Objects → Type 0
+PassesDownsample method dataset key to_key old was now = Passes
+    (λ x. IfSome old (λ m. OfBoth (stored_scale m dataset key) (stored_scale m dataset to_key)
+    (λ from to. PutsFront (reduced_list method m dataset from to) m (Some x)))) was now
 
 -- both scales are there, the target keeps the writing limit, has one chunk size and is half the source, no grid has too many cells, the target's
 -- folder is empty, and the source has no fault

@@ -8,7 +8,7 @@ ghost use Rattle.command_base.specs.Outlets.{outlets_of};
 ghost use Rattle.command_base.specs.Scales.{stored_scale};
 ghost use Rattle.command_base.specs.Statuses.{prints, puts};
 ghost use Rattle.make_scale.specs.Stored.{DropsUnsharded, MakeLeaves};
-ghost use Rattle.downsample_cmd.specs.Answering.{CanDownsample, Downsampled, DropsOrDownsamples, ReducedBack, ReducesStored};
+ghost use Rattle.downsample_cmd.specs.Answering.{CanDownsample, Downsampled, DropsOrDownsamples, PassesDownsample, ReducedBack, ReducesStored};
 ghost use Rattle.downsample_cmd.specs.Downsampling.{reduced_list};
 
 use crate::downsampling::Reducing;
@@ -68,6 +68,8 @@ pub fn run_downsample<R: Threads + Wait + Sync, S: Store, O: Outlet, E: Outlet, 
         → (Rose (O.faults out.old) (O.faults out.new) → ⊥) → EndsWell result }
     ensures back { result ≡ Status.Ok → IfSome (S.objects store.old) (λ m.
         ReducedBack method m (S.objects store.new) dataset.now key.now to_key.now) }
+    ensures killed { PassesDownsample method dataset.now key.now to_key.now (S.objects store.old)
+        (S.history store.old) (S.history store.new) }
     ensures draft { result ≡ Status.Ok → Drops (S.draft store.old) (S.draft store.new) }
     ensures draft_unprinted { result ≡ Status.OutFault → Drops (S.draft store.old) (S.draft store.new) }
     ensures begun { DropsOrDownsamples method (S.objects store.old) (S.objects store.new) dataset.now key.now

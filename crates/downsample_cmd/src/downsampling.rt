@@ -8,7 +8,7 @@ ghost use Rattle.copier.specs.Held.{cells_of};
 ghost use Rattle.reduce_laws.specs.Reduced.{IsNext};
 ghost use Rattle.reducer.specs.Works.{IsApart, work_of};
 ghost use Rattle.shard_writer.specs.Writing.{Drops};
-ghost use Rattle.shard_writer.specs.Works.{job_objects};
+ghost use Rattle.shard_writer.specs.Works.{PassesFronts, job_objects};
 ghost use Rattle.shard_writer.specs.declared.written.WriteFault.{WriteFault};
 ghost use Rattle.shard_writer.specs.declared.written.Written.{Written};
 ghost use Rattle.write_plan.specs.Pairs.{cell_count};
@@ -123,6 +123,8 @@ pub fn downsample<R: Threads + Wait + Sync, S: Store, G: Gate + Sync>(
         Downsamples result method m (S.objects store.new) dataset.now from.now to.now) }
     ensures kept { IfErr result (λ fault. KeepsStore fault (S.objects store.old) (S.objects store.new)
         (S.draft store.old) (S.draft store.new)) }
+    ensures killed { PassesFronts (λ m. reduced_list method m dataset.now from.now to.now) (S.objects store.old)
+        (S.history store.old) (S.history store.new) }
     ensures draft { OnOk result (Drops (S.draft store.old) (S.draft store.new)) }
     ensures begun { DropsOrReduces method (S.objects store.old) (S.objects store.new) dataset.now from.now
         to.now (S.draft store.old) (S.draft store.new) }

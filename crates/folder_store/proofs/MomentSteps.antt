@@ -1,36 +1,15 @@
 -- Moments that pass, call by call.
 use Rattle.std.proofs.Common.{◌≡◌, ℕ, List, [], ◌∷◌, ◌++◌, map as map_list, Option, Some, None, IfSome, refl, ap, sym, subst, ◌∙◌}
-use Rattle.std.proofs.lemmas.List.{append-nil, append_assoc, map-append}
+use Rattle.std.proofs.lemmas.List.{map-append}
 use Rattle.std.specs.Option.{option_map}
 use Rattle.std.specs.List.{AllByRecursion}
+use Rattle.vol_base.proofs.Moments.{passes_none, passes_twice, passes_weaker}
 use Rattle.vol_base.specs.Outside.{Passes, Turns}
 use Rattle.folder_store.specs.Disks.{Disk, Moment, with_bytes, written, objects_of, objects_at, Stands, Touches}
 use Rattle.folder_store.specs.Shown.{IsDraft, SparesTold, Keeps, TurnsAt}
 use Rattle.folder_store.proofs.ObjectSteps.{spares_twice, spares_told}
 use Rattle.folder_store.proofs.ToldSteps.{same_spares, written_spares}
 use Rattle.folder_store.proofs.WriteSteps.{with_twice}
-
-module _ {X : Type 0} (P : X → Type 0) where
-  all_joined : (xs ys : List X) → AllByRecursion P xs → AllByRecursion P ys → AllByRecursion P (xs ++ ys)
-  all_joined [] ys h k = k
-  all_joined (x ∷ xs) ys h k = (h.0, all_joined xs ys h.1 k)
-
-  all_weaker : (Q : X → Type 0) → ((x : X) → P x → Q x) → (xs : List X) → AllByRecursion P xs → AllByRecursion Q xs
-  all_weaker Q f [] h = tt
-  all_weaker Q f (x ∷ xs) h = (f x h.0, all_weaker Q f xs h.1)
-
-  pub passes_none : (old new : List X) → new ≡ old → Passes P old new
-  passes_none old new e = record { gained = []; is = e ∙ sym (append-nil old); each = tt }
-
-  pub passes_twice : (a b c : List X) → Passes P a b → Passes P b c → Passes P a c
-  passes_twice a b c h k = record {
-    gained = h.gained ++ k.gained;
-    is = k.is ∙ ap (λ xs. xs ++ k.gained) h.is ∙ append_assoc a h.gained k.gained;
-    each = all_joined h.gained k.gained h.each k.each;
-  }
-
-  pub passes_weaker : (Q : X → Type 0) → ((x : X) → P x → Q x) → (a b : List X) → Passes P a b → Passes Q a b
-  passes_weaker Q f a b h = record { gained = h.gained; is = h.is; each = all_weaker Q f h.gained h.each }
 
 all_mapped : {X Y : Type 0} (P : X → Type 0) (Q : Y → Type 0) (f : X → Y) → ((x : X) → P x → Q (f x)) → (xs : List X) → AllByRecursion P xs → AllByRecursion Q (map_list f xs)
 all_mapped P Q f t [] h = tt

@@ -12,7 +12,7 @@ ghost use Rattle.size_laws.specs.Further.{all_views};
 ghost use Rattle.command_base.specs.Scales.{stored_scale};
 ghost use Rattle.command_base.specs.Statuses.{prints, puts};
 ghost use Rattle.cutout_cmd.specs.Cutouts.{IsRequest};
-ghost use Rattle.write_cmd.specs.Storing.{AreReady, WrittenBack};
+ghost use Rattle.write_cmd.specs.Storing.{AreReady, PassesList, PassesPut, WrittenBack};
 ghost use Rattle.generate_cmd.specs.Generating.{CanGenerate, drawn, Generated, GenerateLeaves, Generates, IsRefusal, IsUnsummed, JudgesWhole, SumsScale};
 
 use crate::lines::write_generated_line;
@@ -124,6 +124,8 @@ fn write_and_sum<R: Threads + Wait + Sync, S: Store, G: Gate + Sync>(
     requires count { count ≤ 4096 }
     ensures generates { (key : List ℕ) → IfSome (S.objects store.old) (λ m.
         Generates result (Ok scale.now) m (S.objects store.new) (drawn number count) dataset.now key) }
+    ensures killed { PassesPut (drawn number count scale.now) dataset.now scale.now (S.objects store.old)
+        (S.history store.old) (S.history store.new) }
     ensures refused { IfErr result IsRefusal }
     ensures leaves { GenerateLeaves S.Source store.old store.new result }
 {
@@ -155,6 +157,8 @@ fn generate_objects<R: Threads + Wait + Sync, S: Store, G: Gate + Sync>(
     ensures generates { IfSome (S.objects store.old) (λ m.
         Generates result (stored_scale m dataset.now key.now) m (S.objects store.new)
         (drawn number count) dataset.now key.now) }
+    ensures killed { PassesList (drawn number count) dataset.now key.now (S.objects store.old) (S.history store.old)
+        (S.history store.new) }
     ensures refused { IfErr result IsRefusal }
     ensures leaves { GenerateLeaves S.Source store.old store.new result }
 {
@@ -199,6 +203,8 @@ pub fn run_generate<R: Threads + Wait + Sync, S: Store, O: Outlet, E: Outlet, G:
         → EndsWell result }
     ensures back { result ≡ Status.Ok → IfSome (S.objects store.old) (λ m.
         WrittenBack m (S.objects store.new) (drawn number count) dataset.now key.now) }
+    ensures killed { PassesList (drawn number count) dataset.now key.now (S.objects store.old) (S.history store.old)
+        (S.history store.new) }
     ensures draft { Drops (S.draft store.old) (S.draft store.new) }
     ensures kept { puts result ≡ false → OnlyReads (S.objects store.old) (S.objects store.new)
         (S.draft store.old) (S.draft store.new) }

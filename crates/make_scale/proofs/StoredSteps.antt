@@ -24,10 +24,11 @@ use Rattle.make_scale.specs.Making.{KeepsStore, Makes, Said}
 use Rattle.command_base.proofs.Choices.{ok_and}
 use Rattle.command_base.specs.Statuses.{puts}
 use Rattle.vol_base.specs.Causes.{HasCauseOf}
-use Rattle.vol_base.specs.Outside.{Draft, OnlyReads}
+use Rattle.vol_base.specs.Outside.{Draft, OnlyReads, Passes}
+use Rattle.vol_base.proofs.Moments.{passes_none, passes_weaker}
 use Rattle.vol_base.specs.declared.outside.Source.{Ghosts}
 use Rattle.vol_spec.proofs.Told.{in_told}
-use Rattle.shard_writer.specs.Writing.{BeginsNext, Drops}
+use Rattle.shard_writer.specs.Writing.{BeginsNext, Drops, PutsFront}
 use Rattle.make_scale.specs.Stored.{CanBegin, DropsUnsharded, MakeLeaves, Making, MakesScale, MakesStored, OfBoth, ReadsTarget, told_making, unmade}
 use Rattle.make_scale.specs.Refusals.{refusal_status, unsourced}
 use Rattle.make_scale.specs.declared.fault.MakeFault.{MakeFault}
@@ -223,13 +224,16 @@ module _ {T : Type 0} (store : Ghosts T) (due : Objects → Scale → Scale → 
   abbrev Keeps : Option Objects → Option Draft → Type 0
   Keeps o d = IfErr result (λ refusal. puts (refusal_status refusal) ≡ false → OnlyReads o (store.objects after) d (store.draft after))
 
-  abbrev Begins : Result Scale NoScaleType → Result Scale NoScaleType → Objects → Type 0
-  Begins source target m = OfBoth source target (λ from to. BeginsNext (due m from to) m (store.objects after) (store.draft after))
+  both_found : (Of : Objects → Scale → Scale → Type 0) (source target found reached : Objects → Result Scale NoScaleType) (o : Option Objects) → IfSome o (λ m. (source m ≡ found m) × (target m ≡ reached m)) → IfSome o (λ m. OfBoth (found m) (reached m) (Of m))
+      → IfSome o (λ m. OfBoth (source m) (target m) (Of m))
+  both_found Of source target found reached None told of = tt
+  both_found Of source target found reached (Some m) told of = subst (λ s. OfBoth s (target m) (Of m)) (sym told.0) (subst (λ t. OfBoth (found m) t (Of m)) (sym told.1) of)
 
-  both_found : (source target found reached : Objects → Result Scale NoScaleType) (o : Option Objects) → IfSome o (λ m. (source m ≡ found m) × (target m ≡ reached m)) → IfSome o (λ m. Begins (found m) (reached m) m)
-      → IfSome o (λ m. Begins (source m) (target m) m)
-  both_found source target found reached None told begins = tt
-  both_found source target found reached (Some m) told begins = subst (λ s. Begins s (target m) m) (sym told.0) (subst (λ t. Begins (found m) t m) (sym told.1) begins)
+  abbrev Begins : Objects → Scale → Scale → Type 0
+  Begins m from to = BeginsNext (due m from to) m (store.objects after) (store.draft after)
+
+  abbrev Fronts : (Objects → Result Scale NoScaleType) → (Objects → Result Scale NoScaleType) → Option Objects → Objects → Type 0
+  Fronts source target o x = IfSome o (λ m. OfBoth (source m) (target m) (λ from to. PutsFront (due m from to) m (Some x)))
 
   target_found : (source target found reached : Objects → Result Scale NoScaleType) (before : Option Draft) (o : Option Objects) → IfSome o (λ m. (source m ≡ found m) × (target m ≡ reached m)) → IfSome o (λ m. DropsUnsharded (reached m) before (store.draft after))
       → IfSome o (λ m. DropsUnsharded (target m) before (store.draft after))
@@ -237,28 +241,33 @@ module _ {T : Type 0} (store : Ghosts T) (due : Objects → Scale → Scale → 
   target_found source target found reached before (Some m) told drops = subst (λ t. DropsUnsharded t before (store.draft after)) (sym told.1) drops
 
   -- behind a call that only read, which found the scales
-  pub leaves_read : (source target found reached : Objects → Result Scale NoScaleType) (before read : T) → store.objects read ≡ store.objects before → store.draft read ≡ store.draft before → store.faults read ≡ store.faults before
+  pub leaves_read : (source target found reached : Objects → Result Scale NoScaleType) (before read : T) → store.objects read ≡ store.objects before → store.draft read ≡ store.draft before → store.history read ≡ store.history before → store.faults read ≡ store.faults before
       → IfSome (store.objects before) (λ m. (source m ≡ found m) × (target m ≡ reached m)) → MakeLeaves store found reached due read after result → MakeLeaves store source target due before after result
-  leaves_read source target found reached before read objects draft faults told h = record {
+  leaves_read source target found reached before read objects draft history faults told h = record {
     kept = subst (λ o. Keeps o (store.draft before)) objects (subst (λ d. Keeps (store.objects read) d) draft h.kept);
     draft = subst (λ d. OnOk result (Drops d (store.draft after))) draft h.draft;
     begun =
-        ⊎_elim inl (λ begins. inr (both_found source target found reached (store.objects before) told begins))
-        (subst (λ o. Drops (store.draft before) (store.draft after) ⊎ IfSome o (λ m. Begins (found m) (reached m) m)) objects (subst (λ d. Drops d (store.draft after) ⊎ IfSome (store.objects read) (λ m. Begins (found m) (reached m) m)) draft h.begun));
+        ⊎_elim inl (λ begins. inr (both_found Begins source target found reached (store.objects before) told begins))
+        (subst (λ o. Drops (store.draft before) (store.draft after) ⊎ IfSome o (λ m. OfBoth (found m) (reached m) (Begins m))) objects (subst (λ d. Drops d (store.draft after) ⊎ IfSome (store.objects read) (λ m. OfBoth (found m) (reached m) (Begins m))) draft h.begun));
     unsharded =
         target_found source target found reached (store.draft before) (store.objects before) told
         (subst (λ o. IfSome o (λ m. DropsUnsharded (reached m) (store.draft before) (store.draft after))) objects (subst (λ d. IfSome (store.objects read) (λ m. DropsUnsharded (reached m) d (store.draft after))) draft h.unsharded));
+    killed =
+        passes_weaker (Fronts found reached (store.objects read)) (Fronts source target (store.objects before))
+        (λ x front. both_found (λ m from to. PutsFront (due m from to) m (Some x)) source target found reached (store.objects before) told (subst (λ o. Fronts found reached o x) objects front)) (store.history before) (store.history after)
+        (subst (λ was. Passes (Fronts found reached (store.objects read)) was (store.history after)) history h.killed);
     cause = subst (λ n. HasCauseOf (refused.Unmade StoreFault) n (store.faults after) result) faults h.cause;
   }
 
   -- and where nothing was begun
   pub leaves_kept : (source target : Objects → Result Scale NoScaleType) (before : T) → OnlyReads (store.objects before) (store.objects after) (store.draft before) (store.draft after)
-      → HasCauseOf (refused.Unmade StoreFault) (store.faults before) (store.faults after) result → MakeLeaves store source target due before after result
-  leaves_kept source target before reads cause = record {
+      → store.history after ≡ store.history before → HasCauseOf (refused.Unmade StoreFault) (store.faults before) (store.faults after) result → MakeLeaves store source target due before after result
+  leaves_kept source target before reads history cause = record {
     kept = if_refused result (λ refusal. puts (refusal_status refusal) ≡ false → OnlyReads (store.objects before) (store.objects after) (store.draft before) (store.draft after)) (λ refusal none. reads);
     draft = if_done result (Drops (store.draft before) (store.draft after)) (inr reads.same_draft);
     begun = inl (inr reads.same_draft);
     unsharded = in_told (store.objects before) _ (λ m told. draft_kept (target m) (store.draft before) (store.draft after) reads.same_draft);
+    killed = passes_none (Fronts source target (store.objects before)) (store.history before) (store.history after) history;
     cause = cause;
   }
 

@@ -1,7 +1,7 @@
 -- What making a stored scale of another one answers (this project's profile).
 use Rattle.std.specs.Prelude.{◌≡◌, ◌⊎◌, true, false, Option, Some, None, Result, Ok as Done, Err, IfErr, IfOk, IfSome, IsOkAnd, OnOk}
 use Rattle.vol_base.specs.Causes.{HasCauseOf}
-use Rattle.vol_base.specs.Outside.{Objects, OnlyReads, any_under, Draft}
+use Rattle.vol_base.specs.Outside.{Objects, OnlyReads, Passes, any_under, Draft}
 use Rattle.vol_base.specs.declared.outside.Source.{Ghosts}
 use Rattle.vol_base.specs.declared.faults.Fault.{Fault}
 use Rattle.vol_spec.specs.CellNames.{folder_of}
@@ -20,7 +20,7 @@ use Rattle.make_scale.specs.declared.refusal.MakeRefusal.TheVariants as refused
 use Rattle.make_scale.specs.declared.fault.MakeFault.TheVariants as fault
 use Rattle.make_scale.specs.declared.fault.MakeFault.{MakeFault}
 use Rattle.make_scale.specs.Making.{Said}
-use Rattle.shard_writer.specs.Writing.{BeginsNext, Drops}
+use Rattle.shard_writer.specs.Writing.{BeginsNext, Drops, PutsFront}
 
 -- what is said of a target that is made of a source: in which item it isn't as it is to be, and that it is in each; what stands once it is
 -- made, with the numbers that are told; that a cell of the source has this fault, the first on the way; and what stands after a front of
@@ -105,8 +105,8 @@ abbrev pub DropsUnsharded : Result Scale NoScale → Option Draft → Option Dra
 DropsUnsharded target before after = IfOk target (λ to. to.sharding ≡ None → Drops before after)
 
 -- what is left of a store in which a target is made of a source: after a refusal of a status that puts nothing it is as before; nothing is being
--- written, or what was before, at success and where the target isn't sharded, else maybe the next of the objects that are due; and the
--- store's count rose at its fault, and stands at success
+-- written, or what was before, at success and where the target isn't sharded, else maybe the next of the objects that are due; at each
+-- moment that passed a front of these was put in; and the store's count rose at its fault, and stands at success
 pub record MakeLeaves {T : Type 0} (store : Ghosts T) (source target : Objects → Result Scale NoScale)
     (due : Objects → Scale → Scale → Listed) (before after : T) (result : Result Written MakeRefusal) : Type 0 where
   pub kept : IfErr result (λ refusal. puts (refusal_status refusal) ≡ false →
@@ -117,4 +117,6 @@ pub record MakeLeaves {T : Type 0} (store : Ghosts T) (source target : Objects �
       BeginsNext (due m from to) m (store.objects after) (store.draft after)))
   pub unsharded : IfSome (store.objects before) (λ m.
       DropsUnsharded (target m) (store.draft before) (store.draft after))
+  pub killed : Passes (λ x. IfSome (store.objects before) (λ m. OfBoth (source m) (target m) (λ from to.
+      PutsFront (due m from to) m (Some x)))) (store.history before) (store.history after)
   pub cause : HasCauseOf (refused.Unmade fault.StoreFault) (store.faults before) (store.faults after) result

@@ -5,6 +5,7 @@ ghost use Rattle.vol_base.specs.Outside.{any_under};
 ghost use Rattle.vol_spec.specs.CellNames.{folder_of};
 ghost use Rattle.vol_spec.specs.Writable.{IsWritable};
 ghost use Rattle.shard_writer.specs.Writing.{BeginsNext, Drops};
+ghost use Rattle.shard_writer.specs.Works.{PassesFronts};
 ghost use Rattle.write_plan.specs.Pairs.{cell_count};
 ghost use Rattle.make_scale.specs.Judging.{JudgesAs};
 ghost use Rattle.make_scale.specs.Making.{KeepsStore, Makes, Puts};
@@ -36,6 +37,9 @@ fn write_made<R: Threads + Wait + Sync, S: Store, G: Gate + Sync, M: Making>(
     ensures puts { IfSome (S.objects store.old) (λ m.
         Puts (M.says making.now m (S.objects store.new)
         from.now.dataset from.now.scale to.now.dataset to.now.scale) result) }
+    ensures killed { PassesFronts
+        (λ m. M.due making.now m from.now.dataset from.now.scale to.now.dataset to.now.scale) (S.objects store.old)
+        (S.history store.old) (S.history store.new) }
     ensures draft { OnOk result (Drops (S.draft store.old) (S.draft store.new)) }
     ensures begun { Drops (S.draft store.old) (S.draft store.new) ⊎ IfSome (S.objects store.old) (λ m.
         BeginsNext (M.due making.now m from.now.dataset from.now.scale to.now.dataset to.now.scale) m
@@ -82,6 +86,9 @@ pub fn make_scale<R: Threads + Wait + Sync, S: Store, G: Gate + Sync, M: Making>
         result m (S.objects store.new) to.now.dataset to.now.scale) }
     ensures kept { IfErr result (λ fault. KeepsStore fault (S.objects store.old) (S.objects store.new)
         (S.draft store.old) (S.draft store.new)) }
+    ensures killed { PassesFronts
+        (λ m. M.due making.now m from.now.dataset from.now.scale to.now.dataset to.now.scale) (S.objects store.old)
+        (S.history store.old) (S.history store.new) }
     ensures draft { OnOk result (Drops (S.draft store.old) (S.draft store.new)) }
     ensures begun { Drops (S.draft store.old) (S.draft store.new) ⊎ IfSome (S.objects store.old) (λ m.
         BeginsNext (M.due making.now m from.now.dataset from.now.scale to.now.dataset to.now.scale) m

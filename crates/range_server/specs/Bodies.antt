@@ -80,12 +80,13 @@ pub record HasServeCause {T : Type 0} (link link_now store store_now : ℕ)
   pub link_stands : ¬ (IsErrOf result LinkFault) → link_now ≡ link
   pub store_rose : IsErrOf result StoreFault → Rose store store_now
 
--- what serving from a source to a link leaves of both, beside what is sent: the link's stream, the objects and the object being written stay, and a
--- fault comes only where a count rose
+-- what serving from a source to a link leaves of both, beside what is sent: the link's stream, the objects, the object being written and the
+-- record of moments stay, and a fault comes only where a count rose
 pub record ServesFrom {K T A : Type 0} (link : Links K) (source : Ghosts T) (peer peer_now : K) (before after : T)
     (result : Result A ServeFault) : Type 0 where
   pub stream : link.stream peer_now ≡ link.stream peer
   pub kept : OnlyReads (source.objects before) (source.objects after) (source.draft before) (source.draft after)
+  pub history : source.history after ≡ source.history before
   pub cause : HasServeCause (link.faults peer) (link.faults peer_now) (source.faults before)
       (source.faults after) result
 

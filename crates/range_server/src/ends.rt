@@ -46,6 +46,7 @@ fn serve_end<D: Door, S: Source>(
     ensures bound { D.bound door.new ≡ D.bound door.old }
     ensures kept { OnlyReads (S.objects store.old) (S.objects store.new) (S.draft store.old)
         (S.draft store.new) }
+    ensures history { S.history store.new ≡ S.history store.old }
     ensures store_later { S.faults store.old ≤ S.faults store.new }
     ensures cause { HasCauseOf DoorFault (D.faults door.old) (D.faults door.new) result }
 {
@@ -88,6 +89,7 @@ pub fn serve_ends<D: Door, S: Source>(
     ensures bound { D.bound door.new ≡ D.bound door.old }
     ensures kept { OnlyReads (S.objects store.old) (S.objects store.new) (S.draft store.old)
         (S.draft store.new) }
+    ensures history { S.history store.new ≡ S.history store.old }
     ensures store_later { S.faults store.old ≤ S.faults store.new }
     ensures cause { HasCauseOf DoorFault (D.faults door.old) (D.faults door.new) result }
 {

@@ -235,6 +235,7 @@ pub fn plan_reply<S: Source>(
         Rose (S.faults store.old) (S.faults store.new)) }
     ensures kept { OnlyReads (S.objects store.old) (S.objects store.new) (S.draft store.old)
         (S.draft store.new) }
+    ensures history { S.history store.new ≡ S.history store.old }
     ensures later { S.faults store.old ≤ S.faults store.new }
 {
     let mut spans = reserve_spans(alloc, 2730)?;

@@ -49,6 +49,7 @@ pub fn serve_to_end<L: Link, S: Source>(
     ensures stream { L.stream link.new ≡ L.stream link.old }
     ensures kept { OnlyReads (S.objects store.old) (S.objects store.new) (S.draft store.old)
         (S.draft store.new) }
+    ensures history { S.history store.new ≡ S.history store.old }
     ensures cause { HasServeCause (L.faults link.old) (L.faults link.new) (S.faults store.old)
         (S.faults store.new) result.ended }
     ensures desk { IsSome kept.old → IsSome kept.new }
@@ -92,6 +93,7 @@ pub fn serve_conn<L: Link, S: Source>(
     ensures stream { L.stream link.new ≡ L.stream link.old }
     ensures kept { OnlyReads (S.objects store.old) (S.objects store.new) (S.draft store.old)
         (S.draft store.new) }
+    ensures history { S.history store.new ≡ S.history store.old }
     ensures cause { HasServeCause (L.faults link.old) (L.faults link.new) (S.faults store.old)
         (S.faults store.new) result }
     ensures desk { IsSome kept.old → IsSome kept.new }

@@ -1,6 +1,6 @@
 -- What `reshard` answers (this project's profile).
-use Rattle.std.specs.Prelude.{◌≡◌, ◌⊎◌, length, Option, Some, Result, Ok as Done, IfSome, IsSomeAnd}
-use Rattle.vol_base.specs.Outside.{Draft, Objects}
+use Rattle.std.specs.Prelude.{◌≡◌, ◌⊎◌, List, length, Option, Some, Result, Ok as Done, IfSome, IsSomeAnd}
+use Rattle.vol_base.specs.Outside.{Draft, Objects, Passes}
 use Rattle.vol_base.specs.declared.boxes.Box3.{Box3}
 use Rattle.vol_spec.specs.Copies.{AreOfOneVolume, copied_cells}
 use Rattle.vol_spec.specs.Grid.{Inside}
@@ -8,7 +8,7 @@ use Rattle.vol_spec.specs.Types.{Bytes, Name}
 use Rattle.vol_spec.specs.declared.scale.Scale.{Scale}
 use Rattle.chunk_laws.specs.Told.{HasNoFault}
 use Rattle.copy_laws.specs.Copied.{copied_in, KeepsValues, ReadsAsSource}
-use Rattle.shard_writer.specs.Writing.{BeginsNext, Drops}
+use Rattle.shard_writer.specs.Writing.{BeginsNext, Drops, PutsFront}
 use Rattle.shard_writer.specs.declared.written.Written.{Written}
 use Rattle.command_base.specs.Ending.{Ends}
 use Rattle.told_writer.specs.Lines.{count_line}
@@ -98,6 +98,12 @@ abbrev pub DropsOrReshards : Option Objects → Option Objects → Name → Name
 DropsOrReshards old now from_dataset from_key to_dataset to_key before after = Drops before after ⊎
     IfSome old (λ m. BeginsCopy (stored_scale m from_dataset from_key) (stored_scale m to_dataset to_key) m
     now from_dataset to_dataset after)
+
+-- at each moment that passed both scales were there, and a front of the copy's objects was put, where objects are told
+abbrev pub PassesReshard : Name → Name → Name → Name → Option Objects → List Objects → List Objects → Type 0
+PassesReshard from_dataset from_key to_dataset to_key old was now = Passes
+    (λ x. IfSome old (λ m. OfBoth (stored_scale m from_dataset from_key) (stored_scale m to_dataset to_key)
+    (λ from to. PutsFront (copy_list m from_dataset from to_dataset to) m (Some x)))) was now
 
 -- which data set's name a refusal tells, the target's only where its scale isn't there
 abbrev pub named_in : MakeRefusal → Name → Name → Name

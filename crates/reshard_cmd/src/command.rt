@@ -8,7 +8,7 @@ ghost use Rattle.command_base.specs.Outlets.{outlets_of};
 ghost use Rattle.command_base.specs.Scales.{stored_scale};
 ghost use Rattle.command_base.specs.Statuses.{prints, puts};
 ghost use Rattle.make_scale.specs.Stored.{DropsUnsharded, MakeLeaves};
-ghost use Rattle.reshard_cmd.specs.Copying.{CanReshard, CopiedBack, CopiesStored, DropsOrReshards, named_in, Resharded};
+ghost use Rattle.reshard_cmd.specs.Copying.{CanReshard, CopiedBack, CopiesStored, DropsOrReshards, named_in, PassesReshard, Resharded};
 ghost use Rattle.reshard_cmd.specs.Resharding.{copy_list};
 
 use crate::copying::Copying;
@@ -86,6 +86,8 @@ pub fn run_reshard<R: Threads + Wait + Sync, S: Store, O: Outlet, E: Outlet, G: 
         → (Rose (O.faults out.old) (O.faults out.new) → ⊥) → EndsWell result }
     ensures back { result ≡ Status.Ok → IfSome (S.objects store.old) (λ m.
         CopiedBack m (S.objects store.new) dataset.now key.now to_dataset.now to_key.now) }
+    ensures killed { PassesReshard dataset.now key.now to_dataset.now to_key.now (S.objects store.old)
+        (S.history store.old) (S.history store.new) }
     ensures draft { result ≡ Status.Ok → Drops (S.draft store.old) (S.draft store.new) }
     ensures draft_unprinted { result ≡ Status.OutFault → Drops (S.draft store.old) (S.draft store.new) }
     ensures begun { DropsOrReshards (S.objects store.old) (S.objects store.new) dataset.now key.now

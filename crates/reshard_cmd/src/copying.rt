@@ -6,7 +6,7 @@ ghost use Rattle.vol_spec.specs.CellNames.{folder_of};
 ghost use Rattle.vol_spec.specs.Copies.{AreOfOneVolume};
 ghost use Rattle.vol_spec.specs.Writable.{IsWritable};
 ghost use Rattle.shard_writer.specs.Writing.{Drops};
-ghost use Rattle.shard_writer.specs.Works.{job_objects};
+ghost use Rattle.shard_writer.specs.Works.{PassesFronts, job_objects};
 ghost use Rattle.shard_writer.specs.declared.written.WriteFault.{WriteFault};
 ghost use Rattle.shard_writer.specs.declared.written.Written.{Written};
 ghost use Rattle.write_plan.specs.Pairs.{cell_count};
@@ -95,6 +95,8 @@ pub fn reshard<R: Threads + Wait + Sync, S: Store, G: Gate + Sync>(
         Reshards result m (S.objects store.new) from_dataset.now from.now to_dataset.now to.now) }
     ensures kept { IfErr result (λ fault. KeepsStore fault (S.objects store.old) (S.objects store.new)
         (S.draft store.old) (S.draft store.new)) }
+    ensures killed { PassesFronts (λ m. copy_list m from_dataset.now from.now to_dataset.now to.now)
+        (S.objects store.old) (S.history store.old) (S.history store.new) }
     ensures draft { OnOk result (Drops (S.draft store.old) (S.draft store.new)) }
     ensures begun { DropsOrCopies (S.objects store.old) (S.objects store.new) from_dataset.now from.now
         to_dataset.now to.now (S.draft store.old) (S.draft store.new) }

@@ -66,6 +66,7 @@ fn serve<S: Source, O: Outlet, D: Door>(
         (doorway D.bound D.accepted D.served door.old) (doorway D.bound D.accepted D.served door.new) }
     ensures kept { OnlyReads (S.objects store.old) (S.objects store.new) (S.draft store.old)
         (S.draft store.new) }
+    ensures history { S.history store.new ≡ S.history store.old }
     ensures store_later { S.faults store.old ≤ S.faults store.new }
     ensures out_cause { HasCauseOf ServeRefusal.OutFault (O.faults out.old) (O.faults out.new) result }
     ensures door_cause { HasCauseOf ServeRefusal.DoorFault (D.faults door.old) (D.faults door.new) result }
@@ -111,6 +112,7 @@ pub fn run_serve<S: Source, O: Outlet, E: Outlet, D: Door>(
         → (result ≡ Status.Ok) ⊎ (result ≡ Status.NoMemory) }
     ensures kept { OnlyReads (S.objects store.old) (S.objects store.new) (S.draft store.old)
         (S.draft store.new) }
+    ensures history { S.history store.new ≡ S.history store.old }
     ensures store_later { S.faults store.old ≤ S.faults store.new }
     ensures out_later { O.faults out.old ≤ O.faults out.new }
     ensures err_later { E.faults err.old ≤ E.faults err.new }

@@ -2,7 +2,7 @@
 ghost use Rattle.std.specs.Prelude.{◌≡◌, ◌+◌, ◌*◌, ◌<◌, ◌≤◌, ◌^◌, ◌∷◌, IsSome, None, OnOk, OnErr, length, slice_index, take, drop};
 ghost use Rattle.std.specs.Option.{option_map};
 ghost use Rattle.vol_base.specs.Causes.{HasCauseOf};
-ghost use Rattle.vol_base.specs.Outside.{appended};
+ghost use Rattle.vol_base.specs.Outside.{Turns, appended};
 ghost use Rattle.minishard.specs.Numbers.{with_number};
 ghost use Rattle.vol_spec.specs.IndexBytes.{AreRows, ends, ids, index_bytes, numbers, sizes, starts, stored};
 ghost use Rattle.shard_parts.specs.Numbers.{column_of};
@@ -131,6 +131,7 @@ fn append_numbers<S: Store>(
         (S.draft store.old)) }
     ensures refused { OnErr result (S.draft store.new ≡ None) }
     ensures objects { S.objects store.new ≡ S.objects store.old }
+    ensures history { Turns (S.objects store.old) (S.objects store.new) (S.history store.old) (S.history store.new) }
     ensures cause { HasCauseOf StoreRefusal.Failed (S.faults store.old) (S.faults store.new) result }
 {
     let out = &mut piece[..8 * count];
@@ -152,6 +153,7 @@ fn append_column<S: Store>(
         ≡ option_map (λ d. appended d (numbers (column_of column rows.now))) (S.draft store.old)) }
     ensures refused { OnErr result (S.draft store.new ≡ None) }
     ensures objects { S.objects store.new ≡ S.objects store.old }
+    ensures history { Turns (S.objects store.old) (S.objects store.new) (S.history store.old) (S.history store.new) }
     ensures cause { HasCauseOf StoreRefusal.Failed (S.faults store.old) (S.faults store.new) result }
 {
     let most = piece.len() / 8;
@@ -177,6 +179,7 @@ pub(crate) fn append_index<S: Store>(
         ≡ option_map (λ d. appended d (index_bytes (stored rows.now))) (S.draft store.old)) }
     ensures refused { OnErr result (S.draft store.new ≡ None) }
     ensures objects { S.objects store.new ≡ S.objects store.old }
+    ensures history { Turns (S.objects store.old) (S.objects store.new) (S.history store.old) (S.history store.new) }
     ensures cause { HasCauseOf StoreRefusal.Failed (S.faults store.old) (S.faults store.new) result }
 {
     append_column(store, rows, Column::Ids, piece)?;

@@ -2,7 +2,7 @@
 ghost use Rattle.std.specs.Prelude.{◌≡◌, ◌+◌, ◌*◌, ◌<◌, ◌≤◌, ◌^◌, [], if◌then◌else◌, IsSome, IsTrue, IfOk, IfSome, OnOk, OnErr, Some, None, length, replicate, vec_capacity};
 ghost use Rattle.std.specs.Option.{option_map};
 ghost use Rattle.vol_base.specs.Causes.{HasCauseOf};
-ghost use Rattle.vol_base.specs.Outside.{appended, finished, patched};
+ghost use Rattle.vol_base.specs.Outside.{Turns, appended, finished, patched};
 ghost use Rattle.vol_spec.specs.Entries.{entry_bytes};
 ghost use Rattle.vol_spec.specs.IndexBytes.{AreRows, index_bytes, stored};
 ghost use Rattle.vol_spec.specs.Shards.{shard_bytes};
@@ -28,6 +28,7 @@ fn append_some<S: Store>(store: &mut S, count: usize, piece: &[u8]) -> Result<()
         ≡ option_map (λ d. appended d (replicate count 0)) (S.draft store.old)) }
     ensures refused { OnErr result (S.draft store.new ≡ None) }
     ensures objects { S.objects store.new ≡ S.objects store.old }
+    ensures history { Turns (S.objects store.old) (S.objects store.new) (S.history store.old) (S.history store.new) }
     ensures cause { HasCauseOf StoreRefusal.Failed (S.faults store.old) (S.faults store.new) result }
 {
     store.append(&piece[..count])
@@ -41,6 +42,7 @@ fn append_zeros<S: Store>(store: &mut S, count: usize, piece: &mut [u8]) -> Resu
         ≡ option_map (λ d. appended d (replicate count 0)) (S.draft store.old)) }
     ensures refused { OnErr result (S.draft store.new ≡ None) }
     ensures objects { S.objects store.new ≡ S.objects store.old }
+    ensures history { Turns (S.objects store.old) (S.objects store.new) (S.history store.old) (S.history store.new) }
     ensures cause { HasCauseOf StoreRefusal.Failed (S.faults store.old) (S.faults store.new) result }
 {
     clear(piece);
@@ -73,6 +75,7 @@ fn begin_shard<S: Store>(
         (draft_of (S.objects store.old) name.now (shard_bytes bits []))) }
     ensures refused { OnErr result (S.draft store.new ≡ None) }
     ensures objects { S.objects store.new ≡ S.objects store.old }
+    ensures history { Turns (S.objects store.old) (S.objects store.new) (S.history store.old) (S.history store.new) }
     ensures cause { HasCauseOf StoreRefusal.Failed (S.faults store.old) (S.faults store.new) result }
 {
     store.begin(name)?;
@@ -98,6 +101,7 @@ pub fn begin_if<S: Store>(
         then Some (draft_of (S.objects store.old) name.now (shard_bytes bits [])) else S.draft store.old)) }
     ensures refused { OnErr result (S.draft store.new ≡ None) }
     ensures objects { S.objects store.new ≡ S.objects store.old }
+    ensures history { Turns (S.objects store.old) (S.objects store.new) (S.history store.old) (S.history store.new) }
     ensures cause { HasCauseOf StoreRefusal.Failed (S.faults store.old) (S.faults store.new) result }
 {
     if fresh {
@@ -126,6 +130,7 @@ fn end_minishard<S: Store>(
         (entry_bytes (record { start = at; end = at + 24 * length rows.now }))) (S.draft store.old)) }
     ensures refused { OnErr result (S.draft store.new ≡ None) }
     ensures objects { S.objects store.new ≡ S.objects store.old }
+    ensures history { Turns (S.objects store.old) (S.objects store.new) (S.history store.old) (S.history store.new) }
     ensures cause { HasCauseOf StoreRefusal.Failed (S.faults store.old) (S.faults store.new) result }
 {
     append_index(store, rows, piece)?;
@@ -166,6 +171,7 @@ pub fn end_if<S: Store>(
     ensures at { IfOk result (λ next. next ≡ (if ends then at + 24 * length rows.old.items else at)) }
     ensures refused { OnErr result (S.draft store.new ≡ None) }
     ensures objects { S.objects store.new ≡ S.objects store.old }
+    ensures history { Turns (S.objects store.old) (S.objects store.new) (S.history store.old) (S.history store.new) }
     ensures cause { HasCauseOf StoreRefusal.Failed (S.faults store.old) (S.faults store.new) result }
 {
     if !ends {
@@ -189,6 +195,7 @@ pub fn finish_if<S: Store>(store: &mut S, ends: bool) -> Result<(), StoreRefusal
     ensures draft { OnOk result (S.draft store.new ≡ (if ends then None else S.draft store.old)) }
     ensures refused { OnErr result (S.draft store.new ≡ None) }
     ensures kept { OnErr result (S.objects store.new ≡ S.objects store.old) }
+    ensures history { Turns (S.objects store.old) (S.objects store.new) (S.history store.old) (S.history store.new) }
     ensures cause { HasCauseOf StoreRefusal.Failed (S.faults store.old) (S.faults store.new) result }
 {
     if ends { store.finish() } else { Ok(()) }

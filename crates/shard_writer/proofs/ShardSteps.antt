@@ -3,8 +3,9 @@ use Rattle.std.proofs.Common.{◌≡◌, ◌∙◌, ℕ, ◌+◌, ◌^◌, ◌<�
 use Rattle.std.specs.Prelude.{◌==◌, IsErrAnd}
 use Rattle.std.specs.Bool.{OnFalse}
 use Rattle.std.specs.Option.{option_map}
-use Rattle.vol_base.specs.Outside.{Draft, Objects, appended}
+use Rattle.vol_base.specs.Outside.{Draft, Objects, Turns, appended}
 use Rattle.vol_base.specs.declared.outside.StoreRefusal.{StoreRefusal}
+use Rattle.vol_base.proofs.Moments.{passes_twice, turns_pass}
 use Rattle.vol_spec.specs.ShardNames.{shard_name}
 use Rattle.vol_spec.specs.Shards.{shard_bytes}
 use Rattle.vol_spec.specs.StoredCells.{put_in}
@@ -24,7 +25,7 @@ use Rattle.shard_writer.specs.Serving.{PreparesOn, first_fault}
 use Rattle.shard_writer.specs.ShardRuns.{chunk_of, jobs_in, shards_between}
 use Rattle.shard_writer.specs.States.{Appends, AreStored, begun_if, front_of, IsOpen, with_len}
 use Rattle.shard_writer.specs.Writing.{BeginsNext, Drops, joint_len}
-use Rattle.shard_writer.specs.Works.{NeverDamaged, WritesAll, WritesJobs, first_of_jobs, job_len, raw_in, stored_by, told_chunk}
+use Rattle.shard_writer.specs.Works.{NeverDamaged, PassesFronts, PutsSome, WritesAll, WritesJobs, first_of_jobs, job_len, job_objects, raw_in, stored_by, told_chunk}
 use Rattle.shard_writer.specs.declared.steps.Ahead.{Ahead}
 use Rattle.shard_writer.specs.declared.written.WriteFault.{WriteFault}
 use Rattle.shard_writer.specs.declared.written.Written.{Written}
@@ -132,6 +133,41 @@ open_now {dataset = dataset} {s = s} {sharding = sharding} {work = work} {o = o}
     told (appends.len ∙ ap (λ (x : Work). length (chunk_ready x ready k)) same)
     (appends.more ∙ ap (λ (x : Work). option_map (λ d. appended d (chunk_ready x ready k)) started) same) more_is
 
+-- what stands is the objects with a front put in,
+front_here : {dataset : Name} {s : Scale} {sharding : Sharding} {work : Work} {o now : Option Objects} {lens : ℕ → ℕ} {begun k at objects bytes : ℕ} {rows : List Row} {draft : Option Draft}
+    → AreStored dataset s sharding work o now lens begun k at objects bytes rows draft
+    → (new : Option Objects) → work.scale ≡ s → s.sharding ≡ Some sharding → AreJobs work.scale work.cells → new ≡ now → PutsSome dataset work o new
+front_here {dataset = dataset} {s = s} {sharding = sharding} {work = work} {o = o} {now = now} {lens = lens} {begun = begun} {k = k} stored new same sharded jobs is =
+    sharded_front o new dataset work s sharding same sharded jobs
+    (front_all o now new dataset s sharding (jobs_in work) (stored_by work) lens (length work.cells) begun stored.between.b k (ordered_of work s sharding same sharded jobs) stored.between.place stored.put is)
+
+-- and so it is at each moment of a call that leads from it to what stands afterwards
+pub passed_here : {dataset : Name} {s : Scale} {sharding : Sharding} {work : Work} {o now : Option Objects} {lens : ℕ → ℕ} {begun k at objects bytes : ℕ} {rows : List Row} {draft : Option Draft}
+    → AreStored dataset s sharding work o now lens begun k at objects bytes rows draft
+    → (new : Option Objects) (before was after : List Objects) → work.scale ≡ s → s.sharding ≡ Some sharding → AreJobs work.scale work.cells
+    → PassesFronts (job_objects dataset work) o before was → PutsSome dataset work o new → Turns now new was after
+    → PassesFronts (job_objects dataset work) o before after
+passed_here {dataset = dataset} {work = work} {o = o} {now = now} stored new before was after same sharded jobs passed puts turns =
+    passes_twice (λ x. PutsSome dataset work o (Some x)) before was after passed
+    (turns_pass (λ x. PutsSome dataset work o (Some x)) now new was after
+    (λ x is. front_here stored (Some x) same sharded jobs (sym is)) (λ x is. subst (PutsSome dataset work o) is puts) turns)
+
+-- where it stays,
+pub stays_here : {dataset : Name} {s : Scale} {sharding : Sharding} {work : Work} {o now : Option Objects} {lens : ℕ → ℕ} {begun k at objects bytes : ℕ} {rows : List Row} {draft : Option Draft}
+    → AreStored dataset s sharding work o now lens begun k at objects bytes rows draft
+    → (new : Option Objects) (before was after : List Objects) → work.scale ≡ s → s.sharding ≡ Some sharding → AreJobs work.scale work.cells
+    → PassesFronts (job_objects dataset work) o before was → new ≡ now → Turns now new was after
+    → PassesFronts (job_objects dataset work) o before after
+stays_here stored new before was after same sharded jobs passed is turns = passed_here stored new before was after same sharded jobs passed (front_here stored new same sharded jobs is) turns
+
+-- and where the next job is next
+pub next_here : {dataset : Name} {s : Scale} {sharding : Sharding} {work : Work} {o now new : Option Objects} {lens next_lens : ℕ → ℕ} {begun next_begun k next_k at next_at objects next_objects bytes next_bytes : ℕ} {rows next_rows : List Row} {draft next_draft : Option Draft}
+    → AreStored dataset s sharding work o now lens begun k at objects bytes rows draft → AreStored dataset s sharding work o new next_lens next_begun next_k next_at next_objects next_bytes next_rows next_draft
+    → (before was after : List Objects) → work.scale ≡ s → s.sharding ≡ Some sharding → AreJobs work.scale work.cells
+    → PassesFronts (job_objects dataset work) o before was → Turns now new was after
+    → PassesFronts (job_objects dataset work) o before after
+next_here {new = new} stored next before was after same sharded jobs passed turns = passed_here stored new before was after same sharded jobs passed (front_here next new same sharded jobs refl) turns
+
 -- a writer gives up
 stops : {dataset : Name} {s : Scale} {sharding : Sharding} {work : Work} {o now : Option Objects} {lens : ℕ → ℕ} {begun k at objects bytes : ℕ} {rows : List Row} {draft : Option Draft}
     → AreStored dataset s sharding work o now lens begun k at objects bytes rows draft
@@ -143,8 +179,7 @@ stops : {dataset : Name} {s : Scale} {sharding : Sharding} {work : Work} {o now 
 stops {dataset = dataset} {s = s} {sharding = sharding} {work = work} {o = o} {now = now} {lens = lens} {begun = begun} {k = k} stored sure new first last done fault same sharded jobs ahead sound is answer never dropped leaves =
     let le = begun_le stored in
     gives_up dataset work sure o new first last fault
-    (sharded_front o new dataset work s sharding same sharded jobs
-    (front_all o now new dataset s sharding (jobs_in work) (stored_by work) lens (length work.cells) begun stored.between.b k (ordered_of work s sharding same sharded jobs) stored.between.place stored.put is))
+    (front_here stored new same sharded jobs is)
     (spared_behind o now new dataset s sharding work lens begun done same (omega arith) stored.put stored.names sound is)
     answer never dropped (sharded_begun o new dataset work s sharding first last same sharded jobs leaves)
 

@@ -1,9 +1,9 @@
 -- What a writer of jobs puts into a store (this project's).
-use Rattle.std.specs.Prelude.{Bool, ◌≡◌, ◌≢◌, ◌⊎◌, ℕ, ◌-◌, ◌^◌, ◌≤◌, ◌<◌, length, map, replicate, Option, Some, None, IfOk, IfSome, OnOk, OnErr, Result, Ok, Err}
+use Rattle.std.specs.Prelude.{Bool, ◌≡◌, ◌≢◌, ◌⊎◌, ℕ, ◌-◌, ◌^◌, ◌≤◌, ◌<◌, List, length, map, replicate, Option, Some, None, IfOk, IfSome, OnOk, OnErr, Result, Ok, Err}
 use Rattle.std.specs.FinMap as fin
 use Rattle.std.specs.List.{range_with_len}
 use Rattle.std.specs.Option.{option_map}
-use Rattle.vol_base.specs.Outside.{Draft, Objects}
+use Rattle.vol_base.specs.Outside.{Draft, Objects, Passes}
 use Rattle.vol_base.specs.declared.faults.Fault.{Fault}
 use Rattle.vol_spec.specs.Encodings.{encoded, raw_size}
 use Rattle.vol_spec.specs.StoredBytes.{object_of}
@@ -75,6 +75,10 @@ PutsJobs dataset work old new = IfSome old (λ m. new ≡ Some (put_in m (job_ob
 -- a front of them was
 abbrev pub PutsSome : Name → Work → Option Objects → Option Objects → Type 0
 PutsSome dataset work old new = IfSome old (λ m. PutsFront (job_objects dataset work m) m new)
+
+-- at each moment that passed a front of some objects was put in, where objects are told
+abbrev pub PassesFronts : (Objects → Listed) → Option Objects → List Objects → List Objects → Type 0
+PassesFronts list old was now = Passes (λ moment. IfSome old (λ m. PutsFront (list m) m (Some moment))) was now
 
 -- the name of the object that a job's chunk is in
 abbrev pub name_in : Name → Work → ℕ → Name

@@ -2,7 +2,7 @@
 ghost use Rattle.std.specs.Prelude.{◌≡◌, ◌≤◌, ◌^◌, None, IfSome, OnOk, length};
 ghost use Rattle.vol_base.specs.Causes.{HasCauseOf};
 ghost use Rattle.shard_writer.specs.Writing.{Drops};
-ghost use Rattle.shard_writer.specs.Works.{DropsOrBegins, NeverDamaged};
+ghost use Rattle.shard_writer.specs.Works.{DropsOrBegins, NeverDamaged, PassesFronts, job_objects};
 ghost use Rattle.told_writer.specs.Told.{Wrote};
 ghost use Rattle.vol_spec.specs.Writable.{IsWritable};
 
@@ -29,6 +29,8 @@ pub fn write_told<R: Threads + Wait + Sync, S: Store, C: Chunks + Sync, G: Gate 
     requires apart { IfSome (S.objects store.old) (λ _. C.apart chunks.old dataset.now scale.now) }
     ensures wrote { IfSome (S.objects store.old) (λ m.
         Wrote dataset.now (C.work chunks.old) m (S.objects store.new) result) }
+    ensures killed { PassesFronts (job_objects dataset.now (C.work chunks.old)) (S.objects store.old)
+        (S.history store.old) (S.history store.new) }
     ensures sound { C.sure chunks.old → NeverDamaged result }
     ensures draft { OnOk result (Drops (S.draft store.old) (S.draft store.new)) }
     ensures dropped { C.sure chunks.old → Drops (S.draft store.old) (S.draft store.new) }

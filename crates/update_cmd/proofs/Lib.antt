@@ -1,4 +1,5 @@
 pub mod AnswerSteps
 mod BegunSteps
+mod MomentSteps
 mod UpdateSteps
 pub mod UpdatingSteps

@@ -1,14 +1,14 @@
 -- What `update` answers over the objects that a store tells and the stream that a feed tells (this project's profile).
-use Rattle.std.specs.Prelude.{◌≡◌, ◌⊎◌, ◌+◌, ◌≤◌, ◌^◌, [], ℕ, Option, Some, None, Result, Ok, Err, IfErr, IfOk, IfSome, IsOkAnd, IsSomeAnd}
+use Rattle.std.specs.Prelude.{◌≡◌, ◌⊎◌, ◌+◌, ◌≤◌, ◌^◌, [], ℕ, List, Option, Some, None, Result, Ok, Err, IfErr, IfOk, IfSome, IsOkAnd, IsSomeAnd}
 use Rattle.std.specs.Option.{option_map}
-use Rattle.vol_base.specs.Outside.{Draft, Objects, OnlyReads}
+use Rattle.vol_base.specs.Outside.{Draft, Objects, OnlyReads, Passes}
 use Rattle.vol_base.specs.declared.boxes.Box3.{Box3}
 use Rattle.vol_spec.specs.Cut.{first_fault}
 use Rattle.vol_spec.specs.Grid.{Inside}
 use Rattle.vol_spec.specs.Types.{Bytes, Name, Writes}
 use Rattle.vol_spec.specs.Writable.{IsWritable}
 use Rattle.vol_spec.specs.declared.scale.Scale.{Scale}
-use Rattle.shard_writer.specs.Writing.{BeginsNext, Drops}
+use Rattle.shard_writer.specs.Writing.{BeginsNext, Drops, PutsFront}
 use Rattle.shard_writer.specs.declared.written.Written.{Written}
 use Rattle.update_laws.specs.Judged.{refusal_in}
 use Rattle.update_laws.specs.Judged.Refusal.{BadShard as BadShardOf}
@@ -55,6 +55,18 @@ UpdatedBack m now list dataset key = IsOkAnd (stored_scale m dataset key) (λ s.
 abbrev pub UpdateFront : Objects → Option Objects → Result Writes PlanFault → Name → Scale → Type 0
 UpdateFront m now list dataset s = IsWritableAlone s × IsOkAnd list (λ writes. (pairs s writes ≤ 2 ^ 22) ×
     PutsJudgedFront m now dataset s writes)
+
+-- at each moment that passed a front of the objects of a list of writes over a scale was put, where objects are told,
+abbrev pub PassesOver : Result Writes PlanFault → Name → Scale → Option Objects → List Objects → List Objects →
+    Type 0
+PassesOver list dataset s old was now = Passes
+    (λ x. IfSome old (λ m. IsOkAnd list (λ writes. PutsFront (update_list m dataset s writes) m (Some x)))) was now
+
+-- and the scale of a key was there
+abbrev pub PassesUpdate : Listing → Name → Name → Option Objects → List Objects → List Objects → Type 0
+PassesUpdate list dataset key old was now = Passes
+    (λ x. IfSome old (λ m. IsOkAnd (stored_scale m dataset key) (λ s. IsOkAnd (list s) (λ writes.
+    PutsFront (update_list m dataset s writes) m (Some x))))) was now
 
 -- what updating a scale that keeps the writing limit and has one chunk size answers, and what stands after it
 abbrev pub AnswersScale : Result Written UpdateRefusal → Objects → Option Objects → Result Writes PlanFault →

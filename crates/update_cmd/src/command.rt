@@ -11,7 +11,7 @@ ghost use Rattle.command_base.specs.Ending.{EndsWell, IsCaused};
 ghost use Rattle.command_base.specs.Outlets.{outlets_of};
 ghost use Rattle.command_base.specs.Scales.{HasOneSize, stored_scale};
 ghost use Rattle.command_base.specs.Statuses.{prints, puts};
-ghost use Rattle.update_cmd.specs.Answering.{AnswersAll, AnswersScale, AsksForDocument, BeginsUpdate, CanBeUpdated, DropsOrPuts, DropsUnsharded, JudgesUpdate, KeepsFeed, LeavesStore, ReadsWritable, Updated, UpdatedBack};
+ghost use Rattle.update_cmd.specs.Answering.{AnswersAll, AnswersScale, AsksForDocument, BeginsUpdate, CanBeUpdated, DropsOrPuts, DropsUnsharded, JudgesUpdate, KeepsFeed, LeavesStore, PassesOver, PassesUpdate, ReadsWritable, Updated, UpdatedBack};
 ghost use Rattle.update_cmd.specs.Refusals.{not_updated};
 ghost use Rattle.write_cmd.specs.Storing.{TakesStream};
 
@@ -93,6 +93,8 @@ fn update_scale<R: Threads + Wait + Sync, S: Store, F: Feed, G: Gate + Sync>(
     ensures took { TakesStream (F.left feed.old) (F.left feed.new) }
     ensures store { IfErr result (λ refusal. LeavesStore refusal (S.objects store.old) (S.objects store.new)
         (S.draft store.old) (S.draft store.new)) }
+    ensures killed { IfSome (F.left feed.old) (λ bytes. PassesOver (writes_of bytes stored.now.scale)
+        stored.now.dataset stored.now.scale (S.objects store.old) (S.history store.old) (S.history store.new)) }
     ensures draft { OnOk result (Drops (S.draft store.old) (S.draft store.new)) }
     ensures begun { Drops (S.draft store.old) (S.draft store.new) ⊎ IfSome (S.objects store.old) (λ m.
         IfSome (F.left feed.old) (λ bytes. BeginsUpdate m (S.objects store.new) (writes_of bytes stored.now.scale)
@@ -128,6 +130,8 @@ fn update_stored<R: Threads + Wait + Sync, S: Store, F: Feed, G: Gate + Sync>(
     ensures took { TakesStream (F.left feed.old) (F.left feed.new) }
     ensures store { IfErr result (λ refusal. LeavesStore refusal (S.objects store.old) (S.objects store.new)
         (S.draft store.old) (S.draft store.new)) }
+    ensures killed { IfSome (F.left feed.old) (λ bytes. PassesUpdate (writes_of bytes) dataset.now key.now
+        (S.objects store.old) (S.history store.old) (S.history store.new)) }
     ensures draft { OnOk result (Drops (S.draft store.old) (S.draft store.new)) }
     ensures begun { DropsOrPuts (S.objects store.old) (S.objects store.new) (F.left feed.old) dataset.now
         key.now (S.draft store.old) (S.draft store.new) }
@@ -176,6 +180,8 @@ where
     ensures document { result ≡ Status.InfoRefused → S.asked store.new ≤ S.asked store.old + (2 ^ 20 + 1) }
     ensures took { TakesStream (F.left feed.old) (F.left feed.new) }
     ensures unprinted { prints result ≡ false → out.new ≡ out.old }
+    ensures killed { IfSome (F.left feed.old) (λ bytes. PassesUpdate (writes_of bytes) dataset.now key.now
+        (S.objects store.old) (S.history store.old) (S.history store.new)) }
     ensures draft { result ≡ Status.Ok → Drops (S.draft store.old) (S.draft store.new) }
     ensures draft_unprinted { result ≡ Status.OutFault → Drops (S.draft store.old) (S.draft store.new) }
     ensures begun { DropsOrPuts (S.objects store.old) (S.objects store.new) (F.left feed.old) dataset.now

@@ -4,8 +4,10 @@ ghost use Rattle.vol_base.specs.Bytes.{AreBytes};
 ghost use Rattle.vol_base.specs.Causes.{HasCauseOf};
 ghost use Rattle.vol_spec.specs.Writable.{IsWritable};
 ghost use Rattle.shard_writer.specs.Writing.{Drops};
+ghost use Rattle.shard_writer.specs.Works.{PassesFronts};
 ghost use Rattle.copier.specs.Held.{cells_of};
 ghost use Rattle.update_cmd.specs.Putting.{DropsOrUpdates, HasUpdateJobs, IsLate, Updates};
+ghost use Rattle.update_cmd.specs.Updating.{update_list};
 
 use crate::UpdateFault;
 use command_base::Crew;
@@ -35,6 +37,9 @@ pub(crate) fn put_updates<R: Threads + Wait + Sync, S: Store, G: Gate + Sync>(
     ensures updates { IfSome (S.objects store.old) (λ m.
         Updates result m (S.objects store.new) stored.now.dataset stored.now.scale updater.old.writes) }
     ensures late { IfErr result IsLate }
+    ensures killed { PassesFronts
+        (λ m. update_list m stored.now.dataset stored.now.scale updater.old.writes) (S.objects store.old)
+        (S.history store.old) (S.history store.new) }
     ensures draft { OnOk result (Drops (S.draft store.old) (S.draft store.new)) }
     ensures begun { DropsOrUpdates (S.objects store.old) (S.objects store.new) stored.now.dataset
         stored.now.scale updater.old.writes (S.draft store.old) (S.draft store.new) }

@@ -6,10 +6,12 @@ ghost use Rattle.vol_spec.specs.Writable.{IsWritable};
 ghost use Rattle.command_base.specs.Scales.{HasOneSize};
 ghost use Rattle.cell_lists.specs.Lists.{AreDistinct, Lists};
 ghost use Rattle.shard_writer.specs.Writing.{Drops};
+ghost use Rattle.shard_writer.specs.Works.{PassesFronts};
 ghost use Rattle.update_laws.specs.Overlaid.{is_after};
 ghost use Rattle.write_plan.specs.Plans.{pairs};
 ghost use Rattle.write_plan.specs.WriteLists.{IsWriteOf};
 ghost use Rattle.update_cmd.specs.Putting.{DropsOrUpdates, IsLate, KeepsStore, Updates, UpdatesPlanned, UpdatesScale, not_planned, refused};
+ghost use Rattle.update_cmd.specs.Updating.{update_list};
 
 use crate::UpdateFault;
 use crate::putting::put_updates;
@@ -41,6 +43,8 @@ fn put_cells<R: Threads + Wait + Sync, S: Store, G: Gate + Sync>(
     ensures updates { IfSome (S.objects store.old) (λ m.
         Updates result m (S.objects store.new) stored.now.dataset stored.now.scale plan.writes) }
     ensures late { IfErr result IsLate }
+    ensures killed { PassesFronts (λ m. update_list m stored.now.dataset stored.now.scale plan.writes)
+        (S.objects store.old) (S.history store.old) (S.history store.new) }
     ensures draft { OnOk result (Drops (S.draft store.old) (S.draft store.new)) }
     ensures begun { DropsOrUpdates (S.objects store.old) (S.objects store.new) stored.now.dataset
         stored.now.scale plan.writes (S.draft store.old) (S.draft store.new) }
@@ -88,6 +92,8 @@ fn update_planned<R: Threads + Wait + Sync, S: Store, G: Gate + Sync>(
         UpdatesPlanned result m (S.objects store.new) stored.now.dataset stored.now.scale plan.writes) }
     ensures kept { IfErr result (λ fault. KeepsStore fault (S.objects store.old) (S.objects store.new)
         (S.draft store.old) (S.draft store.new)) }
+    ensures killed { PassesFronts (λ m. update_list m stored.now.dataset stored.now.scale plan.writes)
+        (S.objects store.old) (S.history store.old) (S.history store.new) }
     ensures draft { OnOk result (Drops (S.draft store.old) (S.draft store.new)) }
     ensures begun { DropsOrUpdates (S.objects store.old) (S.objects store.new) stored.now.dataset
         stored.now.scale plan.writes (S.draft store.old) (S.draft store.new) }
@@ -137,6 +143,8 @@ pub fn update<R: Threads + Wait + Sync, S: Store, G: Gate + Sync>(
         UpdatesScale result m (S.objects store.new) dataset.now scale.now writes) }
     ensures kept { IfErr result (λ fault. KeepsStore fault (S.objects store.old) (S.objects store.new)
         (S.draft store.old) (S.draft store.new)) }
+    ensures killed { PassesFronts (λ m. update_list m dataset.now scale.now writes) (S.objects store.old)
+        (S.history store.old) (S.history store.new) }
     ensures draft { OnOk result (Drops (S.draft store.old) (S.draft store.new)) }
     ensures begun { DropsOrUpdates (S.objects store.old) (S.objects store.new) dataset.now scale.now
         writes (S.draft store.old) (S.draft store.new) }

@@ -8,12 +8,14 @@ use Rattle.std.proofs.lemmas.List.Elements.{All-take, All-weaker}
 use Rattle.std.proofs.lemmas.List.Sums.{sum_by-append, sum_by-cons, sum_by_more}
 use Rattle.std.proofs.Math.Seq.{take-append-add}
 use Rattle.vol_base.specs.Outside.{Objects}
+use Rattle.vol_base.proofs.Moments.{passes_weaker}
 use Rattle.vol_spec.proofs.PutSteps.{put_in-append}
 use Rattle.vol_spec.specs.StoredCells.{met_cells, put_in}
 use Rattle.vol_spec.specs.Types.{Listed, Name, Writes}
 use Rattle.vol_spec.specs.Views.{view}
 use Rattle.vol_spec.specs.declared.scale.Scale.{Scale}
 use Rattle.shard_writer.specs.Writing.{PutsFront, joint_len}
+use Rattle.shard_writer.specs.Works.{PassesFronts}
 use Rattle.shard_writer.specs.declared.written.Written.{Written}
 use Rattle.write_plan.specs.Plans.{pairs}
 use Rattle.write_plan.specs.WriteLists.{BoxWrite, IsWriteOf}
@@ -146,11 +148,20 @@ module _ (dataset : Name) (s v : Scale) (writes : Writes) (k j : ℕ) (l : k < l
       (front_before (stored_all dataset (take (j + 1) (all_views s)) writes) (stored_all dataset (drop (j + 1) (all_views s)) writes) m now
       (subst (λ xs. PutsFront xs m now) (sym list_more) (front_next (stored_all dataset (take j (all_views s)) writes) (of_view dataset v writes) m now here)))
 
+  -- and so it is at each moment
+  pub next_passed : (o mid : Option Objects) (a : Written) (was now : List Objects) → IsDone j o mid dataset s writes a → PassesFronts (λ m. of_view dataset v writes) mid was now → PassesFronts (λ m. stored_all dataset (all_views s) writes) o was now
+  next_passed o mid a was now before =
+      passes_weaker (λ x. IsFront mid (Some x) (of_view dataset v writes)) (λ x. IsFront o (Some x) (stored_all dataset (all_views s) writes)) (λ x h. next_failed o mid (Some x) a before h) was now
+
 pub first_failed : (o now : Option Objects) (dataset : Name) (s : Scale) (writes : Writes) → IsFront o now (of_view dataset s writes) → IsFront o now (stored_all dataset (all_views s) writes)
 first_failed None now dataset s writes own = tt
 first_failed (Some m) now dataset s writes own =
     subst (λ xs. PutsFront xs m now) (stored_split dataset (all_views s) writes 1)
     (front_before (stored_all dataset (take 1 (all_views s)) writes) (stored_all dataset (drop 1 (all_views s)) writes) m now (subst (λ xs. PutsFront xs m now) (sym (first_list dataset s writes)) own))
+
+pub first_passed : (o : Option Objects) (dataset : Name) (s : Scale) (writes : Writes) (was now : List Objects) → PassesFronts (λ m. of_view dataset s writes) o was now → PassesFronts (λ m. stored_all dataset (all_views s) writes) o was now
+first_passed o dataset s writes was now =
+    passes_weaker (λ x. IsFront o (Some x) (of_view dataset s writes)) (λ x. IsFront o (Some x) (stored_all dataset (all_views s) writes)) (λ x h. first_failed o (Some x) dataset s writes h) was now
 
 -- behind the last one
 pub all_done : (written : Written) (o now : Option Objects) (dataset : Name) (s : Scale) (writes : Writes) (j : ℕ) → length s.more < j → IsDone j o now dataset s writes written

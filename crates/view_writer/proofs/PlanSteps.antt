@@ -4,6 +4,7 @@ use Rattle.std.specs.Prelude.{◌||◌, cond, filter}
 use Rattle.std.specs.List.{list_any}
 use Rattle.std.proofs.lemmas.List.Sums.{sum_by-cons}
 use Rattle.vol_base.specs.Outside.{Objects}
+use Rattle.vol_base.proofs.Moments.{passes_weaker}
 use Rattle.vol_spec.specs.LastWrite.{zeros}
 use Rattle.vol_spec.specs.Grid.{cells_on, meets, numbers_on}
 use Rattle.vol_spec.specs.StoredCells.{chunks_of, met_cells, put_in}
@@ -12,7 +13,7 @@ use Rattle.vol_spec.specs.Types.{Listed, Name, Writes}
 use Rattle.vol_spec.specs.declared.scale.Scale.{Scale}
 use Rattle.shard_writer.proofs.PlannedSteps.{planned_len, planned_objects}
 use Rattle.shard_writer.specs.Writing.{joint_len, PutsFront}
-use Rattle.shard_writer.specs.Works.{job_objects, KnowsLens, PutsJobs, PutsSome, told_objects}
+use Rattle.shard_writer.specs.Works.{job_objects, KnowsLens, PassesFronts, PutsJobs, PutsSome, told_objects}
 use Rattle.shard_writer.specs.declared.written.Written.{Written}
 use Rattle.write_plan.specs.Plans.{pairs, Planned, planned_cells, work_of}
 use Rattle.view_writer.specs.Views.{IsFront, IsPut, of_view}
@@ -73,6 +74,12 @@ put_done written (Some m) now plan dataset s e objects cells bytes put = record 
 pub front_done : (o now : Option Objects) (plan : Planned) (dataset : Name) (s : Scale) → plan.scale ≡ s → PutsSome dataset (work_of plan) o now → IsFront o now (of_view dataset s plan.writes)
 front_done None now plan dataset s e front = tt
 front_done (Some m) now plan dataset s e front = subst (λ xs. PutsFront xs m now) (plan_objects plan m dataset s e) front
+
+-- and so it is at each moment
+pub plan_passed : (o : Option Objects) (plan : Planned) (dataset : Name) (s : Scale) (was now : List Objects) → plan.scale ≡ s → PassesFronts (job_objects dataset (work_of plan)) o was now
+    → PassesFronts (λ m. of_view dataset s plan.writes) o was now
+plan_passed o plan dataset s was now e =
+    passes_weaker (λ x. PutsSome dataset (work_of plan) o (Some x)) (λ x. IsFront o (Some x) (of_view dataset s plan.writes)) (λ x h. front_done o (Some x) plan dataset s e h) was now
 
 -- nothing was put
 pub front_none : (o : Option Objects) (list : Listed) → IsFront o o list

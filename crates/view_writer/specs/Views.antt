@@ -1,7 +1,7 @@
 -- What writing all views of a scale puts into a store, and the limits of views (this project's).
 use Rattle.std.specs.Prelude.{◌≡◌, ◌^◌, ◌<◌, ℕ, List, All, length, map, nat_lt, Option, Some, None, IfSome, if◌then◌else◌}
 use Rattle.std.specs.List.{sum_by}
-use Rattle.vol_base.specs.Outside.{Objects}
+use Rattle.vol_base.specs.Outside.{Objects, Passes}
 use Rattle.vol_spec.specs.BoxValues.{first_some}
 use Rattle.vol_spec.specs.LastWrite.{zeros}
 use Rattle.vol_spec.specs.StoredCells.{chunks_of, met_cells, put_in}
@@ -10,6 +10,7 @@ use Rattle.vol_spec.specs.Types.{Listed, Name, Writes}
 use Rattle.vol_spec.specs.Writable.{IsWritable, padded}
 use Rattle.vol_spec.specs.declared.scale.Scale.{Scale}
 use Rattle.size_laws.specs.Further.{all_views}
+use Rattle.size_laws.specs.Sizes.{stored_all}
 use Rattle.write_plan.specs.Plans.{pairs}
 use Rattle.shard_writer.specs.Writing.{PutsFront, joint_len}
 use Rattle.shard_writer.specs.declared.written.Written.{Written}
@@ -60,3 +61,9 @@ IsPut old now list cells written = IfSome old (λ m. ArePut m now list cells wri
 -- a front of them was put, where a store tells
 abbrev pub IsFront : Option Objects → Option Objects → Listed → Type 0
 IsFront old now list = IfSome old (λ m. PutsFront list m now)
+
+-- at each moment that passed the pairs are few enough in each view, and a front of the objects of all views was put
+abbrev pub PassesViews : Name → Scale → Writes → Option Objects → List Objects → List Objects → Type 0
+PassesViews dataset s writes old was now = Passes
+    (λ x. (first_many (all_views s) writes ≡ None) × IsFront old (Some x) (stored_all dataset (all_views s) writes))
+    was now

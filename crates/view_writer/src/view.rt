@@ -6,6 +6,7 @@ ghost use Rattle.vol_spec.specs.Writable.{IsWritable};
 ghost use Rattle.write_plan.specs.Plans.{pairs};
 ghost use Rattle.write_plan.specs.WriteLists.{IsWriteOf};
 ghost use Rattle.shard_writer.specs.Writing.{Drops};
+ghost use Rattle.shard_writer.specs.Works.{PassesFronts};
 ghost use Rattle.view_writer.specs.Views.{IsFront, IsPut, of_view};
 
 use crate::chunks::PlanChunks;
@@ -39,6 +40,8 @@ where
         (of_view dataset.now view.now plan.now.writes) (length (met_cells view.now plan.now.writes))) }
     ensures front { OnErr result (IsFront (S.objects store.old) (S.objects store.new)
         (of_view dataset.now view.now plan.now.writes)) }
+    ensures killed { PassesFronts (λ _. of_view dataset.now view.now plan.now.writes) (S.objects store.old)
+        (S.history store.old) (S.history store.new) }
     ensures few { (cells : ℕ) → result ≢ Err (ViewsRefusal.TooManyCells cells) }
     ensures draft { Drops (S.draft store.old) (S.draft store.new) }
     ensures cause { HasCauseOf ViewsRefusal.StoreFault (S.faults store.old) (S.faults store.new) result }
@@ -73,6 +76,8 @@ where
         (of_view dataset.now view.now writes) (length (met_cells view.now writes)) done.written) }
     ensures front { OnErr result (IsFront (S.objects store.old) (S.objects store.new)
         (of_view dataset.now view.now writes)) }
+    ensures killed { PassesFronts (λ _. of_view dataset.now view.now writes) (S.objects store.old)
+        (S.history store.old) (S.history store.new) }
     ensures same { IfOk result (λ done. done.writes ≡ writes) }
     ensures few { (cells : ℕ) → result ≢ Err (ViewsRefusal.TooManyCells cells) }
     ensures draft { Drops (S.draft store.old) (S.draft store.new) }

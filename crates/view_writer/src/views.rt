@@ -5,9 +5,10 @@ ghost use Rattle.vol_base.specs.Outside.{OnlyReads};
 ghost use Rattle.vol_spec.specs.Writable.{IsWritable};
 ghost use Rattle.write_plan.specs.WriteLists.{IsWriteOf};
 ghost use Rattle.shard_writer.specs.Writing.{Drops};
+ghost use Rattle.shard_writer.specs.Works.{PassesFronts};
 ghost use Rattle.size_laws.specs.Further.{all_views};
 ghost use Rattle.size_laws.specs.Sizes.{stored_all};
-ghost use Rattle.view_writer.specs.Views.{IsFront, IsPut, cells_all, first_many};
+ghost use Rattle.view_writer.specs.Views.{IsFront, IsPut, PassesViews, cells_all, first_many};
 
 use crate::done::ViewsRefusal;
 use crate::pairs::find_many;
@@ -54,6 +55,8 @@ where
         (stored_all dataset.now (all_views scale.now) writes) (cells_all (all_views scale.now) writes)) }
     ensures front { OnErr result (IsFront (S.objects store.old) (S.objects store.new)
         (stored_all dataset.now (all_views scale.now) writes)) }
+    ensures killed { PassesFronts (λ _. stored_all dataset.now (all_views scale.now) writes) (S.objects store.old)
+        (S.history store.old) (S.history store.new) }
     ensures few { (cells : ℕ) → result ≢ Err (ViewsRefusal.TooManyCells cells) }
     ensures draft { Drops (S.draft store.old) (S.draft store.new) }
     ensures cause { HasCauseOf ViewsRefusal.StoreFault (S.faults store.old) (S.faults store.new) result }
@@ -98,6 +101,8 @@ where
         (stored_all dataset.now (all_views scale.now) writes) (cells_all (all_views scale.now) writes)) }
     ensures front { OnErr result (IsFront (S.objects store.old) (S.objects store.new)
         (stored_all dataset.now (all_views scale.now) writes)) }
+    ensures killed { PassesViews dataset.now scale.now writes (S.objects store.old) (S.history store.old)
+        (S.history store.new) }
     ensures too_many { (cells : ℕ) → (result ≡ Err (ViewsRefusal.TooManyCells cells)) ↔
         (first_many (all_views scale.now) writes ≡ Some cells) }
     ensures kept { (cells : ℕ) → result ≡ Err (ViewsRefusal.TooManyCells cells) →

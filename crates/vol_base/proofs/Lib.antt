@@ -4,6 +4,7 @@ pub mod Found
 pub mod Gained
 pub mod GridBits
 pub mod Joined
+pub mod Moments
 pub mod NameBytes
 pub mod Numbers
 pub mod Under

@@ -1,17 +1,17 @@
 -- What the headline says hangs on the objects before and after a call, and on what is left of the feed before it, alone.
-use Rattle.std.proofs.Common.{◌≡◌, Option, Some, None, IfSome, subst, sym}
+use Rattle.std.proofs.Common.{◌≡◌, List, Option, Some, None, IfSome, subst, sym}
 use Rattle.command_line.specs.declared.commands.Command.{Command}
 use Rattle.command_line.specs.declared.commands.Command.TheVariants.{Cutout, Downsample, Generate, Reshard, Serve, Update, Verify, Write}
 use Rattle.command_base.specs.declared.status.Status.{Status}
-use Rattle.downsample_cmd.specs.Answering.{ReducedBack}
+use Rattle.downsample_cmd.specs.Answering.{PassesDownsample, ReducedBack}
 use Rattle.generate_cmd.specs.Generating.{drawn}
-use Rattle.reshard_cmd.specs.Copying.{CopiedBack}
-use Rattle.update_cmd.specs.Answering.{UpdatedBack}
+use Rattle.reshard_cmd.specs.Copying.{CopiedBack, PassesReshard}
+use Rattle.update_cmd.specs.Answering.{PassesUpdate, UpdatedBack}
 use Rattle.vol_base.specs.Outside.{Objects}
 use Rattle.vol_spec.specs.Types.{Bytes}
-use Rattle.write_cmd.specs.Storing.{WrittenBack}
+use Rattle.write_cmd.specs.Storing.{PassesList, WrittenBack}
 use Rattle.write_plan.specs.Stream.{writes_of}
-use Rattle.vol_tool.specs.Runs.{Headline}
+use Rattle.vol_tool.specs.Runs.{Headline, Killed}
 use Rattle.vol_tool.specs.Seen.{Seen}
 
 -- of the same objects before and after
@@ -40,3 +40,22 @@ same_headline (Some (Reshard dataset key to_dataset to_key workers)) status befo
 same_headline (Some (Downsample dataset key to_key method workers)) status before after other later e f l h =
     λ ok. seen_same (λ m o. ReducedBack method m o dataset key to_key) before.objects other.objects after.objects later.objects e f (h ok)
 same_headline (Some (Serve dataset port connections)) status before after other later e f l h = h
+
+-- and so does what a kill leaves
+pub same_killed : (command : Option Command) (before other : Seen) (was now old new : List Objects) → other.objects ≡ before.objects → other.left ≡ before.left → old ≡ was → new ≡ now
+    → Killed command before was now → Killed command other old new
+same_killed command before other was now old new e l f h killed = by command (subst (λ x. Killed command before x new) (sym f) (subst (λ x. Killed command before was x) (sym h) killed))
+  where
+    fed : (P : Bytes → Option Objects → Type 0) → IfSome before.left (λ bytes. P bytes before.objects) → IfSome other.left (λ bytes. P bytes other.objects)
+    fed P passed = subst (λ x. IfSome other.left (λ bytes. P bytes x)) (sym e) (subst (λ x. IfSome x (λ bytes. P bytes before.objects)) (sym l) passed)
+
+    by : (command : Option Command) → Killed command before old new → Killed command other old new
+    by None same = same
+    by (Some (Cutout dataset key part)) same = same
+    by (Some (Write dataset key workers)) passed = fed (λ bytes o. PassesList (writes_of bytes) dataset key o old new) passed
+    by (Some (Update dataset key workers)) passed = fed (λ bytes o. PassesUpdate (writes_of bytes) dataset key o old new) passed
+    by (Some (Generate dataset key number count workers)) passed = subst (λ o. PassesList (drawn number count) dataset key o old new) (sym e) passed
+    by (Some (Verify dataset key part)) same = same
+    by (Some (Reshard dataset key to_dataset to_key workers)) passed = subst (λ o. PassesReshard dataset key to_dataset to_key o old new) (sym e) passed
+    by (Some (Downsample dataset key to_key method workers)) passed = subst (λ o. PassesDownsample method dataset key to_key o old new) (sym e) passed
+    by (Some (Serve dataset port connections)) same = same

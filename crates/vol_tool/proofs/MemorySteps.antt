@@ -1,7 +1,9 @@
 -- Where there is no memory for the words themselves, each command says what it says at that status.
-use Rattle.std.proofs.Common.{◌≡◌, ◌∙◌, ◌≤◌, ◌+◌, ◌^◌, ℕ, [], Option, Some, None, Err, ap, refl, subst, sym, inl, inr, arith}
+use Rattle.std.proofs.Common.{◌≡◌, ◌∙◌, ◌≤◌, ◌+◌, ◌^◌, ℕ, List, [], Option, Some, None, Err, ap, refl, subst, sym, inl, inr, arith}
 use Rattle.command_line.specs.declared.commands.Command.{Command}
 use Rattle.command_line.specs.declared.commands.Command.TheVariants.{Cutout, Downsample, Generate, Reshard, Serve, Update, Verify, Write}
+use Rattle.vol_base.proofs.Moments.{passes_none}
+use Rattle.vol_base.specs.Outside.{Objects}
 use Rattle.vol_shell.specs.Lines.{memory_line}
 use Rattle.vol_spec.proofs.Told.{in_told}
 use Rattle.vol_spec.specs.Types.{Bytes}
@@ -25,9 +27,10 @@ use Rattle.update_cmd.specs.declared.refusal.UpdateRefusal.TheVariants as update
 use Rattle.verify_cmd.proofs.VerifySteps.{memory_right as memory_verifies}
 use Rattle.verify_cmd.specs.Verified.{judgement_cost}
 use Rattle.verify_cmd.specs.declared.refusal.VerifyRefusal.TheVariants as verify
+use Rattle.write_cmd.proofs.MomentSteps.{none_passed}
 use Rattle.write_cmd.proofs.WriteSteps.{memory_right as memory_writes, takes_none}
 use Rattle.write_cmd.specs.declared.refusal.WriteRefusal.TheVariants as write
-use Rattle.vol_tool.specs.Runs.{Answers, AreCaused, Causes, Headline, Keeps, Succeeds}
+use Rattle.vol_tool.specs.Runs.{Answers, AreCaused, Causes, Headline, Keeps, Killed, Succeeds}
 use Rattle.vol_tool.specs.Seen.{Faults, LeavesStore, outlets, Seen}
 
 -- only the error outlet changed
@@ -73,6 +76,17 @@ memory_headline (Some (Verify dataset key part)) before err count = tt
 memory_headline (Some (Reshard dataset key to_dataset to_key workers)) before err count = λ done. absurd (cc done)
 memory_headline (Some (Downsample dataset key to_key method workers)) before err count = λ done. absurd (cc done)
 memory_headline (Some (Serve dataset port connections)) before err count = tt
+
+pub memory_killed : (command : Option Command) (before : Seen) (history : List Objects) → Killed command before history history
+memory_killed None before history = refl
+memory_killed (Some (Cutout dataset key part)) before history = refl
+memory_killed (Some (Write dataset key workers)) before history = none_passed before.left _ history history refl
+memory_killed (Some (Update dataset key workers)) before history = none_passed before.left _ history history refl
+memory_killed (Some (Generate dataset key number writes workers)) before history = passes_none _ history history refl
+memory_killed (Some (Verify dataset key part)) before history = refl
+memory_killed (Some (Reshard dataset key to_dataset to_key workers)) before history = passes_none _ history history refl
+memory_killed (Some (Downsample dataset key to_key method workers)) before history = passes_none _ history history refl
+memory_killed (Some (Serve dataset port connections)) before history = refl
 
 reads : (before : Seen) (err : Option Bytes) (count : ℕ) → LeavesStore before (said_only before err count)
 reads before err count = record { same_objects = refl; same_draft = refl }

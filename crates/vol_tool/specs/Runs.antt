@@ -1,7 +1,8 @@
--- What a call of the program means (this project's): five facts, each by an equation for every command.
-use Rattle.std.specs.Prelude.{◌≡◌, ◌≤◌, ◌+◌, ◌^◌, true, false, [], Option, None, Some, IfSome}
+-- What a call of the program means (this project's): six facts, each by an equation for every command.
+use Rattle.std.specs.Prelude.{◌≡◌, ◌≤◌, ◌+◌, ◌^◌, true, false, List, [], Option, None, Some, IfSome}
 use Rattle.std.specs.Option.{option_map}
 use Rattle.vol_base.specs.Causes.{Rose}
+use Rattle.vol_base.specs.Outside.{Objects}
 use Rattle.command_line.specs.declared.commands.Command.{Command}
 use Rattle.command_line.specs.declared.commands.Command.TheVariants.{Cutout, Downsample, Generate, Reshard, Serve, Update, Verify, Write}
 use Rattle.shard_writer.specs.Writing.{Drops}
@@ -14,14 +15,14 @@ use Rattle.command_base.specs.Statuses.{prints, puts, refuses}
 use Rattle.command_base.specs.declared.status.Status.{Status}
 use Rattle.command_base.specs.declared.status.Status.TheVariants.{Ok, Usage, InfoRefused, StoreFault, FeedFault, OutFault, NoMemory, DoorFault}
 use Rattle.cutout_cmd.specs.Cutouts.{AsksFor, CanCut, CutsOut}
-use Rattle.write_cmd.specs.Storing.{CanWrite, TakesStream, WrittenBack, Wrote}
-use Rattle.update_cmd.specs.Answering.{CanBeUpdated, DropsOrPuts, Updated, UpdatedBack}
+use Rattle.write_cmd.specs.Storing.{CanWrite, PassesList, TakesStream, WrittenBack, Wrote}
+use Rattle.update_cmd.specs.Answering.{CanBeUpdated, DropsOrPuts, PassesUpdate, Updated, UpdatedBack}
 use Rattle.update_cmd.specs.Answering as update
 use Rattle.generate_cmd.specs.Generating.{CanGenerate, drawn, Generated}
 use Rattle.verify_cmd.specs.Verified.{AsksTwice, CanVerify, Verified}
 use Rattle.make_scale.specs.Stored.{DropsUnsharded}
-use Rattle.reshard_cmd.specs.Copying.{CanReshard, CopiedBack, DropsOrReshards, Resharded}
-use Rattle.downsample_cmd.specs.Answering.{CanDownsample, Downsampled, DropsOrDownsamples, ReducedBack}
+use Rattle.reshard_cmd.specs.Copying.{CanReshard, CopiedBack, DropsOrReshards, PassesReshard, Resharded}
+use Rattle.downsample_cmd.specs.Answering.{CanDownsample, Downsampled, DropsOrDownsamples, PassesDownsample, ReducedBack}
 use Rattle.serve_cmd.specs.Servings.{AcceptsEnds, NotesEnds, ServeLeaves, ServeShows, TellsFirst}
 use Rattle.vol_tool.specs.Seen.{Faults, IsLater, LeavesStore, outlets, Seen}
 
@@ -112,6 +113,22 @@ Headline (Some (Reshard dataset key to_dataset to_key workers)) status before af
 Headline (Some (Downsample dataset key to_key method workers)) status before after =
     status ≡ Ok → IfSome before.objects (λ m. ReducedBack method m after.objects dataset key to_key)
 Headline (Some (Serve dataset port connections)) status before after = Unit {0}
+
+-- What a kill leaves of the objects, by the moments that the store tells of before a call and after it: at each moment of the
+-- call they were those from before it with the ones in front of some place of the command's list put, each of them whole; and a command
+-- that only reads has no such moment.
+abbrev pub Killed : Option Command → Seen → List Objects → List Objects → Type 0
+Killed (Some (Write dataset key workers)) before was now =
+    IfSome before.left (λ bytes. PassesList (writes_of bytes) dataset key before.objects was now)
+Killed (Some (Update dataset key workers)) before was now =
+    IfSome before.left (λ bytes. PassesUpdate (writes_of bytes) dataset key before.objects was now)
+Killed (Some (Generate dataset key number count workers)) before was now =
+    PassesList (drawn number count) dataset key before.objects was now
+Killed (Some (Reshard dataset key to_dataset to_key workers)) before was now =
+    PassesReshard dataset key to_dataset to_key before.objects was now
+Killed (Some (Downsample dataset key to_key method workers)) before was now =
+    PassesDownsample method dataset key to_key before.objects was now
+Killed other before was now = now ≡ was
 
 -- a request that is refused asks the store for an info document alone
 abbrev pub AsksForInfo : Status → Seen → Seen → Type 0

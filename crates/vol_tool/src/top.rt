@@ -4,7 +4,7 @@ ghost use Rattle.std.specs.Option.{option_map};
 ghost use Rattle.command_line.specs.Words.{KeepsLimits, line};
 ghost use Rattle.folder_store.specs.Disks.{objects_of};
 ghost use Rattle.folder_store.specs.Power.{Survives};
-ghost use Rattle.vol_tool.specs.Runs.{Answers, Causes, Headline, Keeps, Succeeds};
+ghost use Rattle.vol_tool.specs.Runs.{Answers, Causes, Headline, Keeps, Killed, Succeeds};
 ghost use Rattle.vol_tool.specs.Seen.{Seen, view};
 
 use command_base::{Crew, Status, tell};
@@ -72,6 +72,9 @@ where
         Headline (Some command) result
         (at store.old feed.old out.old err.old door.old)
         (at store.new feed.new out.new err.new door.new) }
+    ensures killed { let at = ⟦<Outside as Viewed<S, F, O, E, D>>⟧.at in
+        Killed (Some command) (at store.old feed.old out.old err.old door.old) (S.history store.old)
+        (S.history store.new) }
     ensures keeps { let at = ⟦<Outside as Viewed<S, F, O, E, D>>⟧.at in
         Keeps (Some command) result (out.new ≡ out.old)
         (at store.old feed.old out.old err.old door.old)
@@ -176,6 +179,10 @@ where
         Headline (line (map string_bytes words.now)) result
         (at store.old feed.old out.old err.old door.old)
         (at store.new feed.new out.new err.new door.new) }
+    // What a kill leaves: at each moment the objects were those from before, with a front of the command's list put.
+    ensures killed { let at = ⟦<Outside as Viewed<S, F, O, E, D>>⟧.at in
+        Killed (line (map string_bytes words.now)) (at store.old feed.old out.old err.old door.old)
+        (S.history store.old) (S.history store.new) }
     // What stays of the store, the feed, the output and the door, and how much is asked of the first two.
     ensures keeps { let at = ⟦<Outside as Viewed<S, F, O, E, D>>⟧.at in
         Keeps (line (map string_bytes words.now)) result (out.new ≡ out.old)
@@ -201,10 +208,10 @@ where
 }
 
 /// Runs a command over the files of a folder, as the calls of the system see and change them, and hands the folder
-/// back: the headline of `run`, said of the folder's files where it tells them; and of each object that the disk had at
-/// some moment a loss of power leaves the whole, as it was then or later. The program itself calls `run` over such a
-/// store. **So it is a theorem on real files, for whoever believes that the system's calls do what `Folder` says of
-/// them, and that `HostFolder` makes them.**
+/// back: the headline of `run`, and what a kill leaves, said of the folder's files where it tells them; and of each object
+/// that the disk had at some moment a loss of power leaves the whole, as it was then or later. The program itself calls
+/// `run` over such a store. **So it is a theorem on real files, for whoever believes that the system's calls do what
+/// `Folder` says of them, and that `HostFolder` makes them.**
 pub fn run_in<R, L: Folder + Drop, F: Feed, O: Outlet, E: Outlet, D: Door, G: Gate + Sync>(
     rt: &R,
     alloc: Global,
@@ -223,6 +230,9 @@ where
         Headline (line (map string_bytes words.now)) result.0
         (at folder feed.old out.old err.old door.old)
         (at result.1 feed.new out.new err.new door.new) }
+    ensures killed { let at = ⟦<OutsideFiles as Viewed<L, F, O, E, D>>⟧.at in
+        Killed (line (map string_bytes words.now)) (at folder feed.old out.old err.old door.old)
+        (map objects_of (L.moments folder)) (map objects_of (L.moments result.1)) }
     ensures power { Survives (L.moments result.1) }
 {
     let mut store = DirStore::new(folder, alloc);

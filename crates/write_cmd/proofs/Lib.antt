@@ -1,4 +1,5 @@
 pub mod EndSteps
+pub mod MomentSteps
 pub mod PlanSteps
 pub mod StreamSteps
 pub mod ViewSteps

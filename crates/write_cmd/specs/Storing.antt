@@ -1,11 +1,11 @@
 -- What a command that writes a list of writes answers over the objects that a store tells (this project's
 -- profile): `write`, whose list stands in the stream that a feed tells, and in part `generate`.
-use Rattle.std.specs.Prelude.{◌≡◌, ◌⊎◌, ℕ, drop, All, ◌≤◌, ◌+◌, ◌*◌, ◌^◌, true, false, [], length, Option, Some, None, Result, Ok, Err, ⊤, IfErr, IfSome, IsOkAnd, IsSomeAnd}
+use Rattle.std.specs.Prelude.{◌≡◌, ◌⊎◌, ℕ, drop, All, List, ◌≤◌, ◌+◌, ◌*◌, ◌^◌, true, false, [], length, Option, Some, None, Result, Ok, Err, ⊤, IfErr, IfSome, IsOkAnd, IsSomeAnd}
 use Rattle.std.specs.Option.{option_map}
 use Rattle.vol_base.specs.declared.boxes.Box3.{Box3}
 use Rattle.vol_base.specs.Bytes.{AreBytes}
 use Rattle.vol_base.specs.Causes.{HasCauseOf}
-use Rattle.vol_base.specs.Outside.{any_under, Draft, Objects, OnlyReads}
+use Rattle.vol_base.specs.Outside.{any_under, Draft, Objects, OnlyReads, Passes}
 use Rattle.vol_base.specs.declared.outside.Source.{Ghosts}
 use Rattle.vol_spec.specs.CellNames.{folder_of}
 use Rattle.vol_spec.specs.Grid.{Inside}
@@ -71,6 +71,17 @@ FrontPut m now list dataset s =
     AreReady m dataset s
     × IsOkAnd list (λ writes. (first_many (all_views s) writes ≡ None) ×
     PutsFront (stored_all dataset (all_views s) writes) m now)
+
+-- at each moment that passed a front of the objects of writes was put, where objects are told,
+abbrev pub PassesPut : Result Writes PlanFault → Name → Scale → Option Objects → List Objects → List Objects →
+    Type 0
+PassesPut list dataset s old was now = Passes (λ x. IfSome old (λ m. FrontPut m (Some x) list dataset s)) was now
+
+-- and the scale of a key that they are put in was there
+abbrev pub PassesList : Listing → Name → Name → Option Objects → List Objects → List Objects → Type 0
+PassesList list dataset key old was now =
+    Passes (λ x. IfSome old (λ m. IsOkAnd (stored_scale m dataset key) (λ s. FrontPut m (Some x) (list s) dataset s)))
+    was now
 
 -- numbers of objects and of bytes that are those of the objects of the writes in all views, and one of cells that is that of the cells that
 -- they meet in these

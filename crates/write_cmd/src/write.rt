@@ -9,11 +9,12 @@ ghost use Rattle.write_plan.specs.Stream.{writes_of};
 ghost use Rattle.write_plan.specs.WriteLists.{IsWriteOf};
 ghost use Rattle.shard_writer.specs.Writing.{Drops};
 ghost use Rattle.size_laws.specs.Further.{all_views};
+ghost use Rattle.view_writer.specs.Views.{PassesViews};
 ghost use Rattle.command_base.specs.Ending.{EndsWell, IsCaused};
 ghost use Rattle.command_base.specs.Outlets.{outlets_of};
 ghost use Rattle.command_base.specs.Scales.{stored_scale};
 ghost use Rattle.command_base.specs.Statuses.{prints, puts};
-ghost use Rattle.write_cmd.specs.Storing.{CanWrite, JudgesWrite, JudgesLimit, KeepsFeed, KeepsPlan, PutsWrites, TakesStream, WriteLeaves, WritesAll, WritesScale, WrittenBack, Wrote};
+ghost use Rattle.write_cmd.specs.Storing.{CanWrite, JudgesWrite, JudgesLimit, KeepsFeed, KeepsPlan, PassesList, PassesPut, PutsWrites, TakesStream, WriteLeaves, WritesAll, WritesScale, WrittenBack, Wrote};
 
 use crate::refusal::WriteRefusal;
 use chunk_grid::find_folder;
@@ -51,6 +52,8 @@ fn write_all<R: Threads + Wait + Sync, S: Store, G: Gate + Sync>(
     requires fits { All (IsWriteOf scale.now) writes }
     ensures put { IfSome (S.objects store.old) (λ m.
         PutsWrites result m (S.objects store.new) dataset.now scale.now writes) }
+    ensures killed { PassesViews dataset.now scale.now writes (S.objects store.old) (S.history store.old)
+        (S.history store.new) }
     ensures draft { Drops (S.draft store.old) (S.draft store.new) }
     ensures kept { IfErr result (λ refusal. KeepsPlan refusal (S.objects store.old) (S.objects store.new)
         (S.draft store.old) (S.draft store.new)) }
@@ -90,6 +93,8 @@ pub fn write_list<R: Threads + Wait + Sync, S: Store, F: Feed, G: Gate + Sync>(
     ensures writes { (key : List ℕ) → IfSome (S.objects store.old) (λ m.
         IfSome (F.left feed.old) (λ bytes. WritesScale result m (S.objects store.new)
         (writes_of bytes scale.now) dataset.now key scale.now)) }
+    ensures killed { IfSome (F.left feed.old) (λ bytes. PassesPut (writes_of bytes scale.now) dataset.now scale.now
+        (S.objects store.old) (S.history store.old) (S.history store.new)) }
     ensures feed { KeepsFeed result (F.left feed.old) (F.left feed.new) }
     ensures took { TakesStream (F.left feed.old) (F.left feed.new) }
     ensures leaves { WriteLeaves S.Source store.old store.new result }
@@ -115,6 +120,8 @@ fn write_objects<R: Threads + Wait + Sync, S: Store, F: Feed, G: Gate + Sync>(
     ensures writes { IfSome (S.objects store.old) (λ m.
         IfSome (F.left feed.old) (λ bytes. WritesAll result (stored_scale m dataset.now key.now) m
         (S.objects store.new) (writes_of bytes) dataset.now key.now)) }
+    ensures killed { IfSome (F.left feed.old) (λ bytes. PassesList (writes_of bytes) dataset.now key.now
+        (S.objects store.old) (S.history store.old) (S.history store.new)) }
     ensures feed { KeepsFeed result (F.left feed.old) (F.left feed.new) }
     ensures took { TakesStream (F.left feed.old) (F.left feed.new) }
     ensures leaves { WriteLeaves S.Source store.old store.new result }
@@ -154,6 +161,8 @@ pub fn run_write<R: Threads + Wait + Sync, S: Store, F: Feed, O: Outlet, E: Outl
         → EndsWell result }
     ensures back { result ≡ Status.Ok → IfSome (S.objects store.old) (λ m. IfSome (F.left feed.old) (λ bytes.
         WrittenBack m (S.objects store.new) (writes_of bytes) dataset.now key.now)) }
+    ensures killed { IfSome (F.left feed.old) (λ bytes. PassesList (writes_of bytes) dataset.now key.now
+        (S.objects store.old) (S.history store.old) (S.history store.new)) }
     ensures end { result ≡ Status.Ok → F.left feed.new ≡ option_map (λ _. []) (F.left feed.old) }
     ensures unread { result ≡ Status.InfoRefused → F.left feed.new ≡ F.left feed.old }
     ensures took { TakesStream (F.left feed.old) (F.left feed.new) }

@@ -83,6 +83,7 @@ pub trait Chunks {
         ensures apart { (dataset : List ℕ) (s : Scale) → apart self.old dataset s → apart self.new dataset s }
         ensures objects { S.objects store.new ≡ S.objects store.old }
         ensures draft { S.draft store.new ≡ S.draft store.old }
+        ensures history { S.history store.new ≡ S.history store.old }
         ensures cause { HasCauseOf PrepareFault.StoreFault (S.faults store.old) (S.faults store.new) result };
 
     /// Puts the raw bytes of a job that is prepared.

@@ -26,5 +26,6 @@ returns-clause-read g c =
 pub returns-clause-reads : goal.returns-clause-reads
 returns-clause-reads g c = record {
   kept = c.read_piece.ensures.reads.kept;
+  history = c.read_piece.ensures.reads.history;
   cause = judged_cause c.judge_info.result c.in_ok-more.more _ _ c.judge_info.ensures.unasked c.in_ok-more.ensures.reads.cause;
 }

@@ -25,6 +25,7 @@ loop-cell-init g c = record {
   same = refl;
   keeps = c.requires.keeps;
   kept = record { same_objects = refl; same_draft = refl };
+  history = refl;
   later = omega arith;
 }
 
@@ -56,6 +57,7 @@ loop-cell-preserved g c = record {
     same_objects = c.mark_source.ensures.reads.kept.same_objects ∙ c.loop-cell.invariant.kept.same_objects;
     same_draft = c.mark_source.ensures.reads.kept.same_draft ∙ c.loop-cell.invariant.kept.same_draft;
   };
+  history = c.mark_source.ensures.reads.history ∙ c.loop-cell.invariant.history;
   later = omega (arith, c.in-Ok.ensures.reads.cause.stands, c.loop-cell.invariant.later);
 }
 

@@ -17,5 +17,6 @@ invariant-loop-cell g l = record {
   same : l.reader.opened ≡ l.fn.reader.opened;
   keeps : KeepsIndex (g.S.Source.objects l.fn.store) l.reader;
   kept : OnlyReads (g.S.Source.objects l.fn.store) (g.S.Source.objects l.store) (g.S.Source.draft l.fn.store) (g.S.Source.draft l.store);
+  history : g.S.Source.history l.store ≡ g.S.Source.history l.fn.store;
   later : g.S.Source.faults l.store ≡ g.S.Source.faults l.fn.store;
 }

@@ -57,6 +57,7 @@ loop-k-preserved g c =
         same_objects = c.read_frame.ensures.reads.kept.same_objects ∙ c.loop-k.invariant.kept.same_objects;
         same_draft = c.read_frame.ensures.reads.kept.same_draft ∙ c.loop-k.invariant.kept.same_draft;
       };
+      history = c.read_frame.ensures.reads.history ∙ c.loop-k.invariant.history;
       later = omega (arith, c.in-Ok.ensures.reads.cause.stands, c.loop-k.invariant.later);
     }
 
@@ -71,6 +72,7 @@ loop-k-init g c = record {
   keeps = c.requires.keeps;
   run = λ m told. asked_none m c.args.reader.now.opened c.args.to.now (cells_in c.args.jobs.now) c.args.first (g.S.Source.asked c.args.store.now) c.args.reader.now;
   kept = record { same_objects = refl; same_draft = refl };
+  history = refl;
   later = omega arith;
 }
 

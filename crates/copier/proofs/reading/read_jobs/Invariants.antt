@@ -19,5 +19,6 @@ invariant-loop-k g l = record {
   keeps : KeepsIndex (g.S.Source.objects l.fn.store) l.reader;
   run : (m : Objects) → g.S.Source.objects l.fn.store ≡ Some m → HasRunOn m l.fn.reader.opened l.to (cells_in l.jobs) l.first l.k (g.S.Source.asked l.fn.store) (g.S.Source.asked l.store) l.fn.reader l.reader;
   kept : OnlyReads (g.S.Source.objects l.fn.store) (g.S.Source.objects l.store) (g.S.Source.draft l.fn.store) (g.S.Source.draft l.store);
+  history : g.S.Source.history l.store ≡ g.S.Source.history l.fn.store;
   later : g.S.Source.faults l.store ≡ g.S.Source.faults l.fn.store;
 }

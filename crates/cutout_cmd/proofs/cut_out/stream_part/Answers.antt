@@ -30,6 +30,7 @@ returns-in-Err-clause-broken g c = subst IsBroken (sym c.as_refusal.ensures) (br
 pub returns-in-Err-clause-reads : goal.returns-in-Err-clause-reads
 returns-in-Err-clause-reads g c = record {
   kept = c.stream.ensures.reads.kept;
+  history = c.stream.ensures.reads.history;
   cause = record {
     later = c.stream.ensures.reads.cause.later;
     failed = λ is.

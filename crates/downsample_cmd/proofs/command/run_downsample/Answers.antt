@@ -16,3 +16,9 @@ returns-in-Err-clause-complete g c = λ m told can kept written.
 pub returns-clause-back : goal.returns-clause-back
 returns-clause-back g c done =
     reduced_back c.in-Ok.written (g.S.Source.objects c.args.store.now) (g.S.Source.objects c.reduce_stored.new.store) c.args.method c.args.dataset.now c.args.key.now c.args.to_key.now c.in-Ok.ensures.reduces
+
+pub returns-in-Err-clause-killed : goal.returns-in-Err-clause-killed
+returns-in-Err-clause-killed g c = c.reduce_stored.ensures.leaves.killed
+
+pub returns-clause-killed : goal.returns-clause-killed
+returns-clause-killed g c = c.reduce_stored.ensures.leaves.killed

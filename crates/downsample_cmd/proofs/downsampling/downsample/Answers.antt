@@ -2,6 +2,8 @@ use Rattle.std.proofs.Common.{◌∙◌, IfSome, ap, subst, sym}
 use Rattle.vol_spec.specs.Writable.{IsWritable}
 use Rattle.vol_spec.specs.declared.scale.Scale.{Scale}
 use Rattle.command_base.proofs.StoredSteps.{of_both}
+use Rattle.shard_writer.specs.Works.{PassesFronts}
+use Rattle.downsample_cmd.specs.Downsampling.{reduced_list}
 use Rattle.downsample_cmd.specs.Judging.{JudgesNext}
 use Rattle.downsample_cmd.specs.Reductions.{Downsamples, DropsOrReduces}
 use Rattle.downsample_cmd.proofs.downsampling.downsample.Goals as goal
@@ -33,3 +35,9 @@ returns-clause-begun g c =
 
 pub returns-clause-unsharded : goal.returns-clause-unsharded
 returns-clause-unsharded g c = λ unsharded. c.make_scale.ensures.unsharded (ap (λ (s : Scale). s.sharding) c.of-to.ensures.scale ∙ unsharded)
+
+pub returns-clause-killed : goal.returns-clause-killed
+returns-clause-killed g c =
+    subst (λ way. PassesFronts (λ m. reduced_list way m c.args.dataset.now c.args.from.now c.args.to.now) (g.S.Source.objects c.args.store.now) (g.S.Source.history c.args.store.now) (g.S.Source.history c.make_scale.new.store)) c.of-reducing.ensures
+    (of_both (λ d s e t. PassesFronts (λ m. reduced_list c.of-reducing.result.method m e s t) (g.S.Source.objects c.args.store.now) (g.S.Source.history c.args.store.now) (g.S.Source.history c.make_scale.new.store))
+    c.of-from.result.dataset c.args.dataset.now c.of-from.result.scale c.args.from.now c.of-to.result.dataset c.args.dataset.now c.of-to.result.scale c.args.to.now c.of-from.ensures.dataset c.of-from.ensures.scale c.of-to.ensures.dataset c.of-to.ensures.scale c.make_scale.ensures.killed)

@@ -1,8 +1,8 @@
-use Rattle.std.proofs.Common.{◌∙◌, Err, IfSome, ap, subst}
+use Rattle.std.proofs.Common.{◌∙◌, Err, IfSome, ap, subst, sym}
 use Rattle.write_plan.specs.Stream.{writes_of}
 use Rattle.generate_cmd.proofs.GenerateSteps.{never_rose, summed_told, unsummed_told, unwritten_told}
 use Rattle.generate_cmd.specs.Generating.{drawn}
-use Rattle.write_cmd.specs.Storing.{WritesScale}
+use Rattle.write_cmd.specs.Storing.{PassesPut, WritesScale}
 use Rattle.generate_cmd.proofs.generate.write_and_sum.Goals as goal
 
 pub returns-in-Err-clause-generates : goal.returns-in-Err-clause-generates
@@ -24,3 +24,16 @@ returns-in-Err-sum_scale-clause-generates g c key =
     (drawn c.args.number c.args.count) c.args.dataset.now key c.args.scale.now c.in-Ok.written c.requires.small.1 c.in-Err-sum_scale.ensures.refused c.new-list.ensures.read c.sum_scale.ensures.reads.kept.same_objects
     (subst (λ r. IfSome (g.S.Source.objects c.args.store.now) (λ m. WritesScale r m (g.S.Source.objects c.write_list.new.store) (writes_of c.new-list.result c.args.scale.now) c.args.dataset.now key c.args.scale.now)) c.in-Ok.is (c.write_list.ensures.writes key))
     c.in-Err-sum_scale.ensures.sums
+
+pub returns-in-Err-clause-killed : goal.returns-in-Err-clause-killed
+returns-in-Err-clause-killed g c = subst (λ list. PassesPut list c.args.dataset.now c.args.scale.now (g.S.Source.objects c.args.store.now) (g.S.Source.history c.args.store.now) (g.S.Source.history c.write_list.new.store)) c.new-list.ensures.read c.write_list.ensures.killed
+
+pub returns-in-Ok-sum_scale-clause-killed : goal.returns-in-Ok-sum_scale-clause-killed
+returns-in-Ok-sum_scale-clause-killed g c =
+    subst (λ h. PassesPut (drawn c.args.number c.args.count c.args.scale.now) c.args.dataset.now c.args.scale.now (g.S.Source.objects c.args.store.now) (g.S.Source.history c.args.store.now) h) (sym c.sum_scale.ensures.reads.history)
+    (subst (λ list. PassesPut list c.args.dataset.now c.args.scale.now (g.S.Source.objects c.args.store.now) (g.S.Source.history c.args.store.now) (g.S.Source.history c.write_list.new.store)) c.new-list.ensures.read c.write_list.ensures.killed)
+
+pub returns-in-Err-sum_scale-clause-killed : goal.returns-in-Err-sum_scale-clause-killed
+returns-in-Err-sum_scale-clause-killed g c =
+    subst (λ h. PassesPut (drawn c.args.number c.args.count c.args.scale.now) c.args.dataset.now c.args.scale.now (g.S.Source.objects c.args.store.now) (g.S.Source.history c.args.store.now) h) (sym c.sum_scale.ensures.reads.history)
+    (subst (λ list. PassesPut list c.args.dataset.now c.args.scale.now (g.S.Source.objects c.args.store.now) (g.S.Source.history c.args.store.now) (g.S.Source.history c.write_list.new.store)) c.new-list.ensures.read c.write_list.ensures.killed)

@@ -11,6 +11,7 @@ loop-walk-init g c = record {
   within = (let none : c.new-walk.result.rows ≡ 0 = ap (λ (w : Progress). w.rows) c.new-walk.ensures in omega (arith, none));
   past = λ object told fits. past_none (columns_of (part object c.args.span.now.at (24 * c.args.span.now.rows))) c.args.sharding.now c.args.home.now.shard c.args.home.now.minishard _ c.new-walk.ensures;
   kept = record { same_objects = refl; same_draft = refl };
+  history = refl;
   asked = omega arith;
   later = omega arith;
 }
@@ -42,6 +43,7 @@ loop-walk-preserved g c = record {
     same_objects = c.in-Ok.ensures.reads.kept.same_objects ∙ c.loop-walk.invariant.kept.same_objects;
     same_draft = c.in-Ok.ensures.reads.kept.same_draft ∙ c.loop-walk.invariant.kept.same_draft;
   };
+  history = c.in-Ok.ensures.reads.history ∙ c.loop-walk.invariant.history;
   asked = omega (arith, c.in-Ok-judge_columns.ensures.rows, c.read_rows.ensures.asked, c.loop-walk.invariant.asked);
   later = omega (arith, c.in-Ok.ensures.reads.cause.stands, c.loop-walk.invariant.later);
 }

@@ -10,6 +10,7 @@ invariant-loop-walk g l = record {
   within : l.walk.rows ≤ l.span.rows;
   past : OnIndex (g.S.Source.objects l.fn.store) l.name l.span.at l.span.rows (λ bytes. IsPast (columns_of bytes) l.sharding l.home.shard l.home.minishard l.walk);
   kept : OnlyReads (g.S.Source.objects l.fn.store) (g.S.Source.objects l.store) (g.S.Source.draft l.fn.store) (g.S.Source.draft l.store);
+  history : g.S.Source.history l.store ≡ g.S.Source.history l.fn.store;
   asked : g.S.Source.asked l.store ≤ g.S.Source.asked l.fn.store + 24 * l.walk.rows;
   later : g.S.Source.faults l.store ≡ g.S.Source.faults l.fn.store;
 }

@@ -14,6 +14,7 @@ loop-minishard-preserved g c = record {
     same_objects = c.in-Ok-true.ensures.reads.kept.same_objects ∙ c.loop-minishard.invariant.kept.same_objects;
     same_draft = c.in-Ok-true.ensures.reads.kept.same_draft ∙ c.loop-minishard.invariant.kept.same_draft;
   };
+  history = c.in-Ok-true.ensures.reads.history ∙ c.loop-minishard.invariant.history;
   later = omega (arith, c.in-Ok-true.ensures.reads.cause.stands, c.loop-minishard.invariant.later);
 }
 

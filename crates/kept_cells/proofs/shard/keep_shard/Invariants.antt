@@ -10,5 +10,6 @@ invariant-loop-minishard g l = record {
   past : SomeTold l.stored.scale l.sharding l.plan.writes l.shard (g.S.Source.objects l.fn.store) l.name l.minishard l.fn.found l.found;
   own : CountsOfFront l.stored.scale l.sharding l.plan.writes l.shard l.minishard l.fn.found l.found;
   kept : OnlyReads (g.S.Source.objects l.fn.store) (g.S.Source.objects l.store) (g.S.Source.draft l.fn.store) (g.S.Source.draft l.store);
+  history : g.S.Source.history l.store ≡ g.S.Source.history l.fn.store;
   later : g.S.Source.faults l.store ≡ g.S.Source.faults l.fn.store;
 }

@@ -10,6 +10,7 @@ loop-shard-init g c = record {
   past = touched_none c.args.stored.now.scale c.args.sharding.now c.args.plan.now.writes (g.S.Source.objects c.args.store.now) c.args.stored.now.dataset c.args.found.now c.requires.counted;
   own = shards_none c.args.stored.now.scale c.args.sharding.now c.args.plan.now.writes c.args.found.now c.requires.counted;
   kept = record { same_objects = refl; same_draft = refl };
+  history = refl;
   later = omega arith;
 }
 
@@ -42,6 +43,7 @@ loop-shard-preserved g c =
         same_objects = c.in-Ok.ensures.reads.kept.same_objects ∙ c.loop-shard.invariant.kept.same_objects;
         same_draft = c.in-Ok.ensures.reads.kept.same_draft ∙ c.loop-shard.invariant.kept.same_draft;
       };
+      history = c.in-Ok.ensures.reads.history ∙ c.loop-shard.invariant.history;
       later = omega (arith, c.in-Ok.ensures.reads.cause.stands, c.loop-shard.invariant.later);
     }
 

@@ -13,5 +13,6 @@ invariant-loop-shard g l = record {
   past : WithTold l.stored.scale l.sharding l.plan.writes (g.S.Source.objects l.fn.store) l.stored.dataset l.shard-index l.found;
   own : CountsBut l.stored.scale (met l.stored.scale l.plan.writes) (is_of l.stored.scale l.sharding (take l.shard-index (touched_shards l.stored.scale l.sharding l.plan.writes))) l.found;
   kept : OnlyReads (g.S.Source.objects l.fn.store) (g.S.Source.objects l.store) (g.S.Source.draft l.fn.store) (g.S.Source.draft l.store);
+  history : g.S.Source.history l.store ≡ g.S.Source.history l.fn.store;
   later : g.S.Source.faults l.store ≡ g.S.Source.faults l.fn.store;
 }

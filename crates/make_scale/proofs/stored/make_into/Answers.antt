@@ -34,7 +34,7 @@ pub returns-clause-leaves : goal.returns-clause-leaves
 returns-clause-leaves g c =
     leaves_read g.S.Source (λ m from to. g.M.Making.due c.args.making.now m c.args.from.now.dataset from c.args.to_dataset.now to) c.make_told.new.store c.make_told.result
     (λ m. Ok c.args.from.now.scale) (λ m. stored_scale m c.args.to_dataset.now c.args.to_key.now) (λ m. Ok c.args.from.now.scale) (λ m. Ok c.in_ok-scale.scale) c.args.store.now c.read_target.new.store
-    c.read_target.ensures.reads.kept.same_objects c.read_target.ensures.reads.kept.same_draft c.in_ok-scale.ensures.reads.cause.stands
+    c.read_target.ensures.reads.kept.same_objects c.read_target.ensures.reads.kept.same_draft c.read_target.ensures.reads.history c.in_ok-scale.ensures.reads.cause.stands
     (in_told (g.S.Source.objects c.args.store.now) _ (λ m told. (refl, (from_told _ _ m told c.in_ok-scale.ensures.read).0)))
     (of_stored
     (λ d s. MakeLeaves g.S.Source (λ m. Ok c.args.from.now.scale) (λ m. Ok s) (λ m from to. g.M.Making.due c.args.making.now m c.args.from.now.dataset from d to) c.read_target.new.store c.make_told.new.store c.make_told.result)
@@ -43,4 +43,4 @@ returns-clause-leaves g c =
 pub returns-in_err-scale-clause-leaves : goal.returns-in_err-scale-clause-leaves
 returns-in_err-scale-clause-leaves g c =
     leaves_kept g.S.Source (λ m from to. g.M.Making.due c.args.making.now m c.args.from.now.dataset from c.args.to_dataset.now to) c.read_target.new.store c.from_residual.result
-    (λ m. Ok c.args.from.now.scale) (λ m. stored_scale m c.args.to_dataset.now c.args.to_key.now) c.args.store.now c.read_target.ensures.reads.kept (search rules)
+    (λ m. Ok c.args.from.now.scale) (λ m. stored_scale m c.args.to_dataset.now c.args.to_key.now) c.args.store.now c.read_target.ensures.reads.kept c.read_target.ensures.reads.history (search rules)

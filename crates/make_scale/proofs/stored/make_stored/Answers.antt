@@ -29,7 +29,7 @@ pub returns-clause-leaves : goal.returns-clause-leaves
 returns-clause-leaves g c =
     leaves_read g.S.Source (λ m from to. g.M.Making.due c.args.making.now m c.args.from_dataset.now from c.args.to_dataset.now to) c.make_into.new.store c.make_into.result
     (λ m. stored_scale m c.args.from_dataset.now c.args.from_key.now) (λ m. stored_scale m c.args.to_dataset.now c.args.to_key.now) (λ m. Ok c.in_ok-scale.scale) (λ m. stored_scale m c.args.to_dataset.now c.args.to_key.now)
-    c.args.store.now c.read_scale.new.store c.read_scale.ensures.reads.kept.same_objects c.read_scale.ensures.reads.kept.same_draft c.in_ok-scale.ensures.reads.cause.stands
+    c.args.store.now c.read_scale.new.store c.read_scale.ensures.reads.kept.same_objects c.read_scale.ensures.reads.kept.same_draft c.read_scale.ensures.reads.history c.in_ok-scale.ensures.reads.cause.stands
     (in_told (g.S.Source.objects c.args.store.now) _ (λ m told. (from_told _ _ m told c.in_ok-scale.ensures.read, refl)))
     (of_stored
     (λ d s. MakeLeaves g.S.Source (λ m. Ok s) (λ m. stored_scale m c.args.to_dataset.now c.args.to_key.now) (λ m from to. g.M.Making.due c.args.making.now m d from c.args.to_dataset.now to) c.read_scale.new.store c.make_into.new.store c.make_into.result)
@@ -38,4 +38,4 @@ returns-clause-leaves g c =
 pub returns-in_err-scale-clause-leaves : goal.returns-in_err-scale-clause-leaves
 returns-in_err-scale-clause-leaves g c =
     leaves_kept g.S.Source (λ m from to. g.M.Making.due c.args.making.now m c.args.from_dataset.now from c.args.to_dataset.now to) c.read_scale.new.store c.from_residual.result
-    (λ m. stored_scale m c.args.from_dataset.now c.args.from_key.now) (λ m. stored_scale m c.args.to_dataset.now c.args.to_key.now) c.args.store.now c.read_scale.ensures.reads.kept (search rules)
+    (λ m. stored_scale m c.args.from_dataset.now c.args.from_key.now) (λ m. stored_scale m c.args.to_dataset.now c.args.to_key.now) c.args.store.now c.read_scale.ensures.reads.kept c.read_scale.ensures.reads.history (search rules)

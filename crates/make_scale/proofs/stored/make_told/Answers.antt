@@ -24,6 +24,7 @@ returns-clause-leaves g c = record {
   draft = c.in_ok-written.ensures.draft;
   begun = c.make_scale.ensures.begun;
   unsharded = in_told (g.S.Source.objects c.args.store.now) _ (λ m told. c.make_scale.ensures.unsharded);
+  killed = c.make_scale.ensures.killed;
   cause = search rules;
 }
 
@@ -35,5 +36,6 @@ returns-in_err-written-clause-leaves g c =
       draft = search rules;
       begun = c.make_scale.ensures.begun;
       unsharded = in_told (g.S.Source.objects c.args.store.now) _ (λ m told. c.make_scale.ensures.unsharded);
+      killed = c.make_scale.ensures.killed;
       cause = search rules;
     }

@@ -26,6 +26,7 @@ loop-number-preserved g c =
           (c.loop-number.invariant.reached m told stream all) (λ rest is. on m (c.loop-number.invariant.kept.same_objects ∙ told) rest is);
       stream = c.serve_one.ensures.serves.stream ∙ c.loop-number.invariant.stream;
       kept = record { same_objects = c.serve_one.ensures.serves.kept.same_objects ∙ c.loop-number.invariant.kept.same_objects; same_draft = c.serve_one.ensures.serves.kept.same_draft ∙ c.loop-number.invariant.kept.same_draft };
+      history = c.serve_one.ensures.serves.history ∙ c.loop-number.invariant.history;
       link_stands = c.serve_one.ensures.serves.cause.link_stands (λ no. absurd (cc no)) ∙ c.loop-number.invariant.link_stands;
       store_later = omega (arith, c.loop-number.invariant.store_later, c.serve_one.ensures.serves.cause.store_later);
     }

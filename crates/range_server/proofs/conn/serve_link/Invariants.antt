@@ -14,6 +14,7 @@ invariant-loop-number g l = record {
       (λ stream. HasReached m l.dataset l.number stream (pending l.desk.received.items l.len (g.L.Link.left l.link)) (g.L.Link.sent l.fn.link) (g.L.Link.sent l.link)));
   stream : g.L.Link.stream l.link ≡ g.L.Link.stream l.fn.link;
   kept : OnlyReads (g.S.Source.objects l.fn.store) (g.S.Source.objects l.store) (g.S.Source.draft l.fn.store) (g.S.Source.draft l.store);
+  history : g.S.Source.history l.store ≡ g.S.Source.history l.fn.store;
   link_stands : g.L.Link.faults l.link ≡ g.L.Link.faults l.fn.link;
   store_later : g.S.Source.faults l.fn.store ≤ g.S.Source.faults l.store;
 }

@@ -10,6 +10,7 @@ loop-init g c = record {
   noted = noted_none (g.D.Door.served c.args.door.now) (g.D.Door.accepted c.args.door.now);
   bound = refl;
   kept = record { same_objects = refl; same_draft = refl };
+  history = refl;
   store_later = omega arith;
   later = omega arith;
 }
@@ -25,6 +26,7 @@ loop-preserved g c = record {
       c.loop.invariant.noted c.serve_end.ensures.noted;
   bound = c.serve_end.ensures.bound ∙ c.loop.invariant.bound;
   kept = record { same_objects = c.serve_end.ensures.kept.same_objects ∙ c.loop.invariant.kept.same_objects; same_draft = c.serve_end.ensures.kept.same_draft ∙ c.loop.invariant.kept.same_draft };
+  history = c.serve_end.ensures.history ∙ c.loop.invariant.history;
   store_later = omega (arith, c.loop.invariant.store_later, c.serve_end.ensures.store_later);
   later = omega (arith, c.loop.invariant.later, c.in-Ok.ensures.cause.stands);
 }

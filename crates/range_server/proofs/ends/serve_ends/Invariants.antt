@@ -12,6 +12,7 @@ invariant-loop g l = record {
   noted : NotesGiven (g.D.Door.served l.fn.door) (g.D.Door.served l.door) (g.D.Door.accepted l.fn.door) (g.D.Door.accepted l.door);
   bound : g.D.Door.bound l.door ≡ g.D.Door.bound l.fn.door;
   kept : OnlyReads (g.S.Source.objects l.fn.store) (g.S.Source.objects l.store) (g.S.Source.draft l.fn.store) (g.S.Source.draft l.store);
+  history : g.S.Source.history l.store ≡ g.S.Source.history l.fn.store;
   store_later : g.S.Source.faults l.fn.store ≤ g.S.Source.faults l.store;
   later : g.D.Door.faults l.door ≡ g.D.Door.faults l.fn.door;
 }

@@ -21,6 +21,7 @@ loop-at-preserved g c =
       left = c.send_piece.ensures.left ∙ c.loop-at.invariant.left;
       stream = c.send_piece.ensures.serves.stream ∙ c.loop-at.invariant.stream;
       kept = record { same_objects = c.send_piece.ensures.serves.kept.same_objects ∙ c.loop-at.invariant.kept.same_objects; same_draft = c.send_piece.ensures.serves.kept.same_draft ∙ c.loop-at.invariant.kept.same_draft };
+      history = c.send_piece.ensures.serves.history ∙ c.loop-at.invariant.history;
       link_stands = c.send_piece.ensures.serves.cause.link_stands (λ no. absurd (cc no)) ∙ c.loop-at.invariant.link_stands;
       store_later = omega (arith, c.loop-at.invariant.store_later, c.send_piece.ensures.serves.cause.store_later);
     }

@@ -62,6 +62,7 @@ loop-k-init g c =
       room = c.cut_source.ensures.room;
       ahead = c.requires.ahead;
       kept = c.cut_source.ensures.reads.kept;
+      history = c.cut_source.ensures.reads.history;
       later = omega (arith, c.in-Ok.ensures.reads.cause.stands);
     }
 
@@ -99,6 +100,7 @@ returns-in-Err-reduce_and_read-clause-reads g c = record {
     same_objects = c.reduce_and_read.ensures.reads.kept.same_objects ∙ c.loop-k.invariant.kept.same_objects;
     same_draft = c.reduce_and_read.ensures.reads.kept.same_draft ∙ c.loop-k.invariant.kept.same_draft;
   };
+  history = c.reduce_and_read.ensures.reads.history ∙ c.loop-k.invariant.history;
   cause = record {
     later = omega (arith, c.reduce_and_read.ensures.reads.cause.later, c.loop-k.invariant.later);
     failed = λ told. subst (λ n. Rose n (g.S.Source.faults c.reduce_and_read.new.store)) c.loop-k.invariant.later (c.in-Err-reduce_and_read.ensures.reads.cause.failed told);
@@ -133,6 +135,7 @@ loop-k-preserved g c =
         same_objects = c.reduce_and_read.ensures.reads.kept.same_objects ∙ c.loop-k.invariant.kept.same_objects;
         same_draft = c.reduce_and_read.ensures.reads.kept.same_draft ∙ c.loop-k.invariant.kept.same_draft;
       };
+      history = c.reduce_and_read.ensures.reads.history ∙ c.loop-k.invariant.history;
       later = omega (arith, c.in-Ok-reduce_and_read.ensures.reads.cause.stands, c.loop-k.invariant.later);
     }
 
@@ -165,5 +168,6 @@ returns-clause-each g c = holds_set c.args.to.now c.loop-k.frames (c.args.count 
 pub returns-clause-reads : goal.returns-clause-reads
 returns-clause-reads g c = record {
   kept = c.loop-k.invariant.kept;
+  history = c.loop-k.invariant.history;
   cause = record { later = omega (arith, c.loop-k.invariant.later); failed = λ told. absurd (cc told); stands = c.loop-k.invariant.later };
 }

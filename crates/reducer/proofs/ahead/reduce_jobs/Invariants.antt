@@ -26,5 +26,6 @@ invariant-loop-k g l = record {
   room : HasRoom l.from l.to l.buffer;
   ahead : IfSome l.ahead (HasRoom l.from l.to);
   kept : OnlyReads (g.S.Source.objects l.fn.store) (g.S.Source.objects l.store) (g.S.Source.draft l.fn.store) (g.S.Source.draft l.store);
+  history : g.S.Source.history l.store ≡ g.S.Source.history l.fn.store;
   later : g.S.Source.faults l.store ≡ g.S.Source.faults l.fn.store;
 }

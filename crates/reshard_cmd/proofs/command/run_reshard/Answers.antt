@@ -24,3 +24,9 @@ returns-in-Err-clause-complete g c = λ m told can kept written.
 pub returns-clause-back : goal.returns-clause-back
 returns-clause-back g c done =
     copied_back c.in-Ok.written (g.S.Source.objects c.args.store.now) (g.S.Source.objects c.copy_stored.new.store) c.args.dataset.now c.args.key.now c.args.to_dataset.now c.args.to_key.now c.in-Ok.ensures.copies
+
+pub returns-in-Err-clause-killed : goal.returns-in-Err-clause-killed
+returns-in-Err-clause-killed g c = c.copy_stored.ensures.leaves.killed
+
+pub returns-clause-killed : goal.returns-clause-killed
+returns-clause-killed g c = c.copy_stored.ensures.leaves.killed

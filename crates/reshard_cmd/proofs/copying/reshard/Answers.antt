@@ -2,6 +2,8 @@ use Rattle.std.proofs.Common.{◌∙◌, IfSome, ap, subst, sym}
 use Rattle.vol_spec.specs.Writable.{IsWritable}
 use Rattle.vol_spec.specs.declared.scale.Scale.{Scale}
 use Rattle.command_base.proofs.StoredSteps.{of_both}
+use Rattle.shard_writer.specs.Works.{PassesFronts}
+use Rattle.reshard_cmd.specs.Resharding.{copy_list}
 use Rattle.reshard_cmd.specs.Copies.{DropsOrCopies, Reshards}
 use Rattle.reshard_cmd.specs.Judging.{JudgesCopy}
 use Rattle.reshard_cmd.proofs.copying.reshard.Goals as goal
@@ -26,3 +28,8 @@ returns-clause-begun g c =
 
 pub returns-clause-unsharded : goal.returns-clause-unsharded
 returns-clause-unsharded g c = λ unsharded. c.make_scale.ensures.unsharded (ap (λ (s : Scale). s.sharding) c.of-to.ensures.scale ∙ unsharded)
+
+pub returns-clause-killed : goal.returns-clause-killed
+returns-clause-killed g c =
+    of_both (λ d s e t. PassesFronts (λ m. copy_list m d s e t) (g.S.Source.objects c.args.store.now) (g.S.Source.history c.args.store.now) (g.S.Source.history c.make_scale.new.store))
+    c.of-from.result.dataset c.args.from_dataset.now c.of-from.result.scale c.args.from.now c.of-to.result.dataset c.args.to_dataset.now c.of-to.result.scale c.args.to.now c.of-from.ensures.dataset c.of-from.ensures.scale c.of-to.ensures.dataset c.of-to.ensures.scale c.make_scale.ensures.killed

@@ -15,6 +15,7 @@ loop-walk-init g c = record {
   past = λ object told fits. kept_none (columns_of (part object c.args.span.now.at (24 * c.args.span.now.rows))) c.args.sharding.now c.args.home.now.shard c.args.home.now.minishard c.args.kept.now.items _ c.new-walk.ensures;
   added = added_none c.args.sharding.now c.args.home.now.shard c.args.home.now.minishard c.args.kept.now.items _ c.new-walk.ensures;
   kept = record { same_objects = refl; same_draft = refl };
+  history = refl;
   later = omega arith;
 }
 
@@ -48,6 +49,7 @@ loop-walk-preserved g c = record {
     same_objects = c.in-Ok.ensures.reads.kept.same_objects ∙ c.loop-walk.invariant.kept.same_objects;
     same_draft = c.in-Ok.ensures.reads.kept.same_draft ∙ c.loop-walk.invariant.kept.same_draft;
   };
+  history = c.in-Ok.ensures.reads.history ∙ c.loop-walk.invariant.history;
   later = omega (arith, c.in-Ok.ensures.reads.cause.stands, c.loop-walk.invariant.later);
 }
 

@@ -12,6 +12,7 @@ invariant-loop-walk g l = record {
   past : OnIndex (g.S.Source.objects l.fn.store) l.name l.span.at l.span.rows (λ bytes. HasKept (columns_of bytes) l.sharding l.home.shard l.home.minishard l.fn.kept.items l.walk l.kept.items);
   added : HasAdded l.sharding l.home.shard l.home.minishard l.fn.kept.items l.walk l.kept.items;
   kept : OnlyReads (g.S.Source.objects l.fn.store) (g.S.Source.objects l.store) (g.S.Source.draft l.fn.store) (g.S.Source.draft l.store);
+  history : g.S.Source.history l.store ≡ g.S.Source.history l.fn.store;
   later : g.S.Source.faults l.store ≡ g.S.Source.faults l.fn.store;
 }
 

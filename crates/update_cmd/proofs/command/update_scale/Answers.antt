@@ -1,3 +1,6 @@
+use Rattle.std.proofs.Common.{refl}
+use Rattle.write_cmd.proofs.MomentSteps.{none_passed}
+use Rattle.update_cmd.proofs.MomentSteps.{over_fed}
 use Rattle.command_base.proofs.Choices.{err_is}
 use Rattle.update_cmd.specs.Refusals.{unstreamed}
 use Rattle.update_cmd.proofs.BegunSteps.{begun_fed}
@@ -59,3 +62,14 @@ pub returns-in-Err-clause-begun : goal.returns-in-Err-clause-begun
 returns-in-Err-clause-begun g c =
     begun_fed (g.S.Source.objects c.args.store.now) (g.S.Source.objects c.update.new.store) (g.F.Feed.left c.args.feed.now) c.args.stored.now.dataset c.args.stored.now.scale c.in_ok-writes.writes (g.S.Source.draft c.args.store.now)
     (g.S.Source.draft c.update.new.store) c.in_ok-writes.ensures.exact c.update.ensures.begun
+
+pub returns-in_err-writes-clause-killed : goal.returns-in_err-writes-clause-killed
+returns-in_err-writes-clause-killed g c = none_passed (g.F.Feed.left c.args.feed.now) _ (g.S.Source.history c.args.store.now) (g.S.Source.history c.args.store.now) refl
+
+pub returns-in-Ok-clause-killed : goal.returns-in-Ok-clause-killed
+returns-in-Ok-clause-killed g c =
+    over_fed (g.S.Source.objects c.args.store.now) (g.F.Feed.left c.args.feed.now) c.args.stored.now.dataset c.args.stored.now.scale c.in_ok-writes.writes (g.S.Source.history c.args.store.now) (g.S.Source.history c.update.new.store) c.in_ok-writes.ensures.exact c.update.ensures.killed
+
+pub returns-in-Err-clause-killed : goal.returns-in-Err-clause-killed
+returns-in-Err-clause-killed g c =
+    over_fed (g.S.Source.objects c.args.store.now) (g.F.Feed.left c.args.feed.now) c.args.stored.now.dataset c.args.stored.now.scale c.in_ok-writes.writes (g.S.Source.history c.args.store.now) (g.S.Source.history c.update.new.store) c.in_ok-writes.ensures.exact c.update.ensures.killed

@@ -2,10 +2,12 @@ use Rattle.std.proofs.Common.{◌∙◌, ◌⊎◌, IfSome, Ok, ap, subst, sym}
 use Rattle.command_base.proofs.StoredSteps.{of_stored}
 use Rattle.command_base.specs.Scales.{HasOneSize}
 use Rattle.shard_writer.specs.Writing.{Drops}
-use Rattle.update_cmd.specs.Answering.{AnswersScale, BeginsUpdate, JudgesUpdate}
+use Rattle.update_cmd.specs.Answering.{AnswersScale, BeginsUpdate, JudgesUpdate, PassesOver}
 use Rattle.vol_spec.specs.Writable.{IsWritable}
 use Rattle.vol_spec.specs.declared.scale.Scale.{Scale}
 use Rattle.write_plan.specs.Stream.{writes_of}
+use Rattle.write_cmd.proofs.MomentSteps.{none_passed}
+use Rattle.update_cmd.proofs.MomentSteps.{over_stored}
 use Rattle.update_cmd.proofs.AnswerSteps.{drops_read, drops_unread, key_judges, key_told, leaves_read, unread_document, unread_feed, unread_judges, unread_leaves, unread_told}
 use Rattle.update_cmd.proofs.BegunSteps.{begun_stored}
 use Rattle.write_cmd.proofs.WriteSteps.{takes_none}
@@ -74,3 +76,13 @@ returns-in-Ok-clause-begun g c =
     c.read_writable.ensures.reads.kept.same_objects c.read_writable.ensures.reads.kept.same_draft c.in-Ok.ensures.read
     (of_stored (λ d s. Drops (g.S.Source.draft c.read_writable.new.store) (g.S.Source.draft c.update_scale.new.store) ⊎ IfSome (g.S.Source.objects c.read_writable.new.store) (λ m. IfSome (g.F.Feed.left c.args.feed.now) (λ bytes. BeginsUpdate m (g.S.Source.objects c.update_scale.new.store) (writes_of bytes s) d s (g.S.Source.draft c.update_scale.new.store))))
     c.of-stored.result.dataset c.args.dataset.now c.of-stored.result.scale c.in-Ok.scale c.of-stored.ensures.dataset c.of-stored.ensures.scale c.update_scale.ensures.begun)
+
+pub returns-in-Ok-clause-killed : goal.returns-in-Ok-clause-killed
+returns-in-Ok-clause-killed g c =
+    over_stored (g.S.Source.objects c.args.store.now) (g.S.Source.objects c.read_writable.new.store) (g.F.Feed.left c.args.feed.now) c.args.dataset.now c.args.key.now c.in-Ok.scale (g.S.Source.history c.args.store.now) (g.S.Source.history c.read_writable.new.store) (g.S.Source.history c.update_scale.new.store)
+    c.read_writable.ensures.reads.kept.same_objects c.read_writable.ensures.reads.history c.in-Ok.ensures.read
+    (of_stored (λ d s. IfSome (g.F.Feed.left c.args.feed.now) (λ bytes. PassesOver (writes_of bytes s) d s (g.S.Source.objects c.read_writable.new.store) (g.S.Source.history c.read_writable.new.store) (g.S.Source.history c.update_scale.new.store)))
+    c.of-stored.result.dataset c.args.dataset.now c.of-stored.result.scale c.in-Ok.scale c.of-stored.ensures.dataset c.of-stored.ensures.scale c.update_scale.ensures.killed)
+
+pub returns-in-Err-clause-killed : goal.returns-in-Err-clause-killed
+returns-in-Err-clause-killed g c = none_passed (g.F.Feed.left c.args.feed.now) _ (g.S.Source.history c.args.store.now) (g.S.Source.history c.read_writable.new.store) c.read_writable.ensures.reads.history

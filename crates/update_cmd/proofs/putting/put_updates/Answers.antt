@@ -1,6 +1,7 @@
 use Rattle.std.proofs.Common.{Err, Ok, refl}
 use Rattle.command_base.proofs.Choices.{err_is}
 use Rattle.update_cmd.proofs.BegunSteps.{updated_begun}
+use Rattle.update_cmd.proofs.MomentSteps.{updated_passed}
 use Rattle.update_cmd.proofs.UpdatingSteps.{apart_in, updated_in}
 use Rattle.update_cmd.specs.Putting.{unwritten}
 use Rattle.update_cmd.proofs.putting.put_updates.Goals as goal
@@ -28,3 +29,11 @@ pub returns-in_err-written-clause-begun : goal.returns-in_err-written-clause-beg
 returns-in_err-written-clause-begun g c =
     updated_begun (g.S.Source.objects c.args.store.now) (g.S.Source.objects c.write_told.new.store) c.args.updater.now c.args.stored.now.dataset c.args.stored.now.scale (g.S.Source.draft c.args.store.now) (g.S.Source.draft c.write_told.new.store)
     (record { own = c.requires.own; from = c.requires.from; to = c.requires.to }) c.requires.jobs c.write_told.ensures.begun
+
+pub returns-clause-killed : goal.returns-clause-killed
+returns-clause-killed g c =
+    updated_passed (g.S.Source.objects c.args.store.now) c.args.updater.now c.args.stored.now.dataset c.args.stored.now.scale (g.S.Source.history c.args.store.now) (g.S.Source.history c.write_told.new.store) (record { own = c.requires.own; from = c.requires.from; to = c.requires.to }) c.requires.jobs c.write_told.ensures.killed
+
+pub returns-in_err-written-clause-killed : goal.returns-in_err-written-clause-killed
+returns-in_err-written-clause-killed g c =
+    updated_passed (g.S.Source.objects c.args.store.now) c.args.updater.now c.args.stored.now.dataset c.args.stored.now.scale (g.S.Source.history c.args.store.now) (g.S.Source.history c.write_told.new.store) (record { own = c.requires.own; from = c.requires.from; to = c.requires.to }) c.requires.jobs c.write_told.ensures.killed

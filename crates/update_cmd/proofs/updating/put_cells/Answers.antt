@@ -1,6 +1,8 @@
-use Rattle.std.proofs.Common.{subst, sym}
+use Rattle.std.proofs.Common.{refl, subst, sym}
 use Rattle.std.specs.Prelude.{All}
 use Rattle.vol_base.specs.Bytes.{AreBytes}
+use Rattle.vol_base.proofs.Moments.{passes_none}
+use Rattle.update_cmd.proofs.MomentSteps.{over_as}
 use Rattle.update_cmd.proofs.BegunSteps.{begun_as}
 use Rattle.update_cmd.proofs.UpdateSteps.{jobs_few, jobs_told, none_put, updates_as}
 use Rattle.update_cmd.proofs.updating.put_cells.Goals as goal
@@ -32,3 +34,10 @@ pub returns-in-Ok-clause-begun : goal.returns-in-Ok-clause-begun
 returns-in-Ok-clause-begun g c =
     begun_as (g.S.Source.objects c.args.store.now) (g.S.Source.objects c.put_updates.new.store) c.args.stored.now.dataset c.args.stored.now.scale _ c.args.plan.writes (g.S.Source.draft c.args.store.now) (g.S.Source.draft c.put_updates.new.store)
     c.in-Ok.ensures.writes c.put_updates.ensures.begun
+
+pub returns-in-Ok-clause-killed : goal.returns-in-Ok-clause-killed
+returns-in-Ok-clause-killed g c =
+    over_as (g.S.Source.objects c.args.store.now) c.args.stored.now.dataset c.args.stored.now.scale c.in-Ok.updater.writes c.args.plan.writes (g.S.Source.history c.args.store.now) (g.S.Source.history c.put_updates.new.store) c.in-Ok.ensures.writes c.put_updates.ensures.killed
+
+pub returns-in-Err-clause-killed : goal.returns-in-Err-clause-killed
+returns-in-Err-clause-killed g c = passes_none _ _ _ refl

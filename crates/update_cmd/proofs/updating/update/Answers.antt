@@ -1,9 +1,13 @@
-use Rattle.std.proofs.Common.{◌≤◌, ◌^◌, ◌∙◌, IfSome, ap, subst, sym}
+use Rattle.std.proofs.Common.{◌≤◌, ◌^◌, ◌∙◌, IfSome, ap, refl, subst, sym}
+use Rattle.vol_base.proofs.Moments.{passes_none}
+use Rattle.shard_writer.specs.Works.{PassesFronts}
 use Rattle.vol_spec.specs.Writable.{IsWritable}
 use Rattle.vol_spec.specs.declared.scale.Scale.{Scale}
 use Rattle.write_cmd.proofs.PlanSteps.{few_pairs}
 use Rattle.write_plan.specs.Plans.{Planned, pairs}
 use Rattle.command_base.proofs.StoredSteps.{of_stored}
+use Rattle.update_cmd.proofs.MomentSteps.{over_as}
+use Rattle.update_cmd.specs.Updating.{update_list}
 use Rattle.update_cmd.proofs.BegunSteps.{begun_as}
 use Rattle.update_cmd.proofs.UpdateSteps.{scale_told, unplanned_kept, unplanned_told}
 use Rattle.update_cmd.specs.Putting.{DropsOrUpdates, UpdatesPlanned}
@@ -39,3 +43,12 @@ returns-in-Ok-clause-begun g c =
 
 pub returns-in-Ok-clause-unsharded : goal.returns-in-Ok-clause-unsharded
 returns-in-Ok-clause-unsharded g c = λ unsharded. c.update_planned.ensures.unsharded (ap (λ (s : Scale). s.sharding) c.of-stored.ensures.scale ∙ unsharded)
+
+pub returns-in-Ok-clause-killed : goal.returns-in-Ok-clause-killed
+returns-in-Ok-clause-killed g c =
+    over_as (g.S.Source.objects c.args.store.now) c.args.dataset.now c.args.scale.now c.in-Ok.plan.writes c.args.writes (g.S.Source.history c.args.store.now) (g.S.Source.history c.update_planned.new.store) (ap (λ (p : Planned). p.writes) c.in-Ok.ensures.plan)
+    (of_stored (λ d s. PassesFronts (λ m. update_list m d s c.in-Ok.plan.writes) (g.S.Source.objects c.args.store.now) (g.S.Source.history c.args.store.now) (g.S.Source.history c.update_planned.new.store))
+    c.of-stored.result.dataset c.args.dataset.now c.of-stored.result.scale c.args.scale.now c.of-stored.ensures.dataset c.of-stored.ensures.scale c.update_planned.ensures.killed)
+
+pub returns-in-Err-clause-killed : goal.returns-in-Err-clause-killed
+returns-in-Err-clause-killed g c = passes_none _ _ _ refl

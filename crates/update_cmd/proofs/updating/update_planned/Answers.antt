@@ -1,5 +1,7 @@
 use Rattle.std.proofs.Common.{◌≡◌, OnOk, arith, subst}
 use Rattle.shard_writer.specs.Writing.{BeginsNext, Drops}
+use Rattle.vol_base.proofs.Moments.{passes_none}
+use Rattle.shard_writer.proofs.FrontSteps.{passed_behind}
 use Rattle.cell_lists.specs.Lists.{Lists}
 use Rattle.update_laws.specs.Overlaid.{is_after}
 use Rattle.write_cmd.proofs.PlanSteps.{few_cells}
@@ -50,3 +52,11 @@ returns-in-Ok-clause-begun g c =
     begun_read (λ m. BeginsNext (update_list m c.args.stored.now.dataset c.args.stored.now.scale c.args.plan.writes) m (g.S.Source.objects c.put_cells.new.store) (g.S.Source.draft c.put_cells.new.store))
     (g.S.Source.objects c.args.store.now) (g.S.Source.objects c.gather_cells.new.store) (g.S.Source.draft c.args.store.now) (g.S.Source.draft c.gather_cells.new.store) (g.S.Source.draft c.put_cells.new.store)
     c.gather_cells.ensures.reads.kept.same_objects c.gather_cells.ensures.reads.kept.same_draft c.put_cells.ensures.begun
+
+pub returns-in-Ok-clause-killed : goal.returns-in-Ok-clause-killed
+returns-in-Ok-clause-killed g c =
+    passed_behind (λ m. update_list m c.args.stored.now.dataset c.args.stored.now.scale c.args.plan.writes) (g.S.Source.objects c.args.store.now) (g.S.Source.objects c.gather_cells.new.store) (g.S.Source.history c.args.store.now) (g.S.Source.history c.gather_cells.new.store) (g.S.Source.history c.put_cells.new.store)
+    c.gather_cells.ensures.reads.kept.same_objects c.gather_cells.ensures.reads.history c.put_cells.ensures.killed
+
+pub returns-in-Err-clause-killed : goal.returns-in-Err-clause-killed
+returns-in-Err-clause-killed g c = passes_none _ _ _ c.gather_cells.ensures.reads.history

@@ -18,6 +18,7 @@ loop-cell-init g c = record {
   serves = c.requires.serves;
   asked = asked_none (g.S.Source.objects c.args.store.now) c.args.origin.now.dataset c.args.origin.now.scale (g.S.Source.asked c.args.store.now);
   kept = record { same_objects = refl; same_draft = refl };
+  history = refl;
   later = omega arith;
 }
 
@@ -48,6 +49,7 @@ loop-cell-preserved g c =
         same_objects = c.judge.ensures.asks.reads.kept.same_objects ∙ c.loop-cell.invariant.kept.same_objects;
         same_draft = c.judge.ensures.asks.reads.kept.same_draft ∙ c.loop-cell.invariant.kept.same_draft;
       };
+      history = c.judge.ensures.asks.reads.history ∙ c.loop-cell.invariant.history;
       later = omega (arith, c.in-Ok.ensures.asks.reads.cause.stands, c.loop-cell.invariant.later);
     }
 

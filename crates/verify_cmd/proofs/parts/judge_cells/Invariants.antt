@@ -15,5 +15,6 @@ invariant-loop-cell g l = record {
   serves : Serves (g.S.Source.objects l.fn.store) l.origin l.judge;
   asked : IfSome (g.S.Source.objects l.fn.store) (λ m. g.S.Source.asked l.store ≤ g.S.Source.asked l.fn.store + 2 * costs m l.origin.dataset l.origin.scale l.yielded);
   kept : OnlyReads (g.S.Source.objects l.fn.store) (g.S.Source.objects l.store) (g.S.Source.draft l.fn.store) (g.S.Source.draft l.store);
+  history : g.S.Source.history l.store ≡ g.S.Source.history l.fn.store;
   later : g.S.Source.faults l.store ≡ g.S.Source.faults l.fn.store;
 }

@@ -49,6 +49,7 @@ returns-in-Err-cutout-clause-asks g c = record {
       c.cutout.ensures.reads.kept.same_objects c.cutout.ensures.asked c.cutout-2.ensures.asked;
   reads = record {
     kept = search rules;
+    history = search rules;
     cause = first_cause c.in-Err-cutout.fault c.of_first.result (g.S.Source.faults c.args.store.now) (g.S.Source.faults c.cutout.new.store) (g.S.Source.faults c.cutout-2.new.store) c.of_first.ensures
         (λ e. c.cutout-2.ensures.outside.0 (c.in-Err-cutout.is ∙ ap (λ x. Err x) e) (beside_inside c.args.first.now.scale c.args.view.now c.args.part.now c.requires.beside c.requires.inside)) c.in-Ok.ensures.reads.cause.stands c.in-Err-cutout.ensures.reads.cause;
   };
@@ -66,6 +67,7 @@ returns-clause-asks g c = record {
       c.cutout.ensures.reads.kept.same_objects c.cutout.ensures.asked c.cutout-2.ensures.asked;
   reads = record {
     kept = search rules;
+    history = search rules;
     cause = compared_cause c.compare_box.result c.args.number c.args.part.now c.args.view.now.channels c.args.view.now.width c.cutout.new.out c.cutout-2.new.out (g.S.Source.faults c.args.store.now) (g.S.Source.faults c.cutout-2.new.store)
         (c.in-Ok-cutout.ensures.reads.cause.stands ∙ c.in-Ok.ensures.reads.cause.stands) c.compare_box.ensures;
   };

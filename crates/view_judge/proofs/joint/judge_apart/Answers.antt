@@ -53,6 +53,7 @@ loop-number-preserved g c =
         same_objects = c.judge_own.ensures.asks.reads.kept.same_objects ∙ c.loop-number.invariant.kept.same_objects;
         same_draft = c.judge_own.ensures.asks.reads.kept.same_draft ∙ c.loop-number.invariant.kept.same_draft;
       };
+      history = c.judge_own.ensures.asks.reads.history ∙ c.loop-number.invariant.history;
       later = c.in-Ok.ensures.asks.reads.cause.stands ∙ c.loop-number.invariant.later;
     }
 
@@ -84,5 +85,5 @@ returns-clause-judged g c =
 pub returns-clause-asks : goal.returns-clause-asks
 returns-clause-asks g c = record {
   asked = asked_all (g.S.Source.objects c.args.store.now) c.args.first.now.scale (λ m. own_cost m c.args.first.now.dataset c.args.first.now.scale c.args.part.now) c.loop-number.number _ _ c.loop-number.invariant.asked;
-  reads = record { kept = c.loop-number.invariant.kept; cause = record { later = omega (arith, c.loop-number.invariant.later); failed = λ told. absurd (cc told); stands = c.loop-number.invariant.later } };
+  reads = record { kept = c.loop-number.invariant.kept; history = c.loop-number.invariant.history; cause = record { later = omega (arith, c.loop-number.invariant.later); failed = λ told. absurd (cc told); stands = c.loop-number.invariant.later } };
 }

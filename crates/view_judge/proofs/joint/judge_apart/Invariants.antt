@@ -14,6 +14,7 @@ invariant-loop-number g l = record {
   first : l.first ≡ l.fn.first;
   asked : IfSome (g.S.Source.objects l.fn.store) (λ m. g.S.Source.asked l.store ≤ g.S.Source.asked l.fn.store + sum_by (own_cost m l.fn.first.dataset l.fn.first.scale l.part) (take l.number (further l.fn.first.scale)));
   kept : OnlyReads (g.S.Source.objects l.fn.store) (g.S.Source.objects l.store) (g.S.Source.draft l.fn.store) (g.S.Source.draft l.store);
+  history : g.S.Source.history l.store ≡ g.S.Source.history l.fn.store;
   later : g.S.Source.faults l.store ≡ g.S.Source.faults l.fn.store;
 }
 

@@ -63,6 +63,7 @@ loop-k-preserved g c =
         same_objects = c.compare.ensures.asks.reads.kept.same_objects ∙ c.loop-k.invariant.kept.same_objects;
         same_draft = c.compare.ensures.asks.reads.kept.same_draft ∙ c.loop-k.invariant.kept.same_draft;
       };
+      history = c.compare.ensures.asks.reads.history ∙ c.loop-k.invariant.history;
       later = c.in-Ok-compare.ensures.asks.reads.cause.stands ∙ c.loop-k.invariant.later;
     }
 

@@ -13,6 +13,7 @@ invariant-loop-k g l = record {
   views : l.further ≡ l.fn.further;
   asked : IfSome (g.S.Source.objects l.fn.store) (λ m. g.S.Source.asked l.store ≤ g.S.Source.asked l.initial.store + sum_by (λ v. cost m l.fn.first.dataset v l.part) (take l.k (further l.fn.first.scale)));
   kept : OnlyReads (g.S.Source.objects l.fn.store) (g.S.Source.objects l.store) (g.S.Source.draft l.fn.store) (g.S.Source.draft l.store);
+  history : g.S.Source.history l.store ≡ g.S.Source.history l.fn.store;
   later : g.S.Source.faults l.store ≡ g.S.Source.faults l.fn.store;
 }
 

@@ -29,6 +29,7 @@ loop-region-init g c = record {
   further = refl;
   asked = asked_none (g.S.Source.objects c.args.store.now) (λ m. region_cost m c.args.first.now.dataset c.args.first.now.scale c.args.part.now) (g.S.Source.asked c.args.store.now);
   kept = record { same_objects = refl; same_draft = refl };
+  history = refl;
   later = refl;
 }
 
@@ -63,6 +64,7 @@ loop-region-preserved g c = record {
     same_objects = c.judge_region.ensures.asks.reads.kept.same_objects ∙ c.loop-region.invariant.kept.same_objects;
     same_draft = c.judge_region.ensures.asks.reads.kept.same_draft ∙ c.loop-region.invariant.kept.same_draft;
   };
+  history = c.judge_region.ensures.asks.reads.history ∙ c.loop-region.invariant.history;
   later = c.in-Ok.ensures.asks.reads.cause.stands ∙ c.loop-region.invariant.later;
 }
 
@@ -97,5 +99,5 @@ returns-clause-asks g c = record {
   asked =
       asked_all (g.S.Source.objects c.args.store.now) (λ m. region_cost m c.args.first.now.dataset c.args.first.now.scale c.args.part.now) c.loop-region.yielded c.loop-region.region-iterator (cells_in (regions c.args.first.now.scale) c.args.part.now) _ _
       (c.loop-region.invariant.left ∙ ap (λ (r : Scale). cells_in r c.args.part.now) c.requires.regions) c.loop-region.invariant.asked;
-  reads = record { kept = c.loop-region.invariant.kept; cause = record { later = omega (arith, c.loop-region.invariant.later); failed = λ told. absurd (cc told); stands = c.loop-region.invariant.later } };
+  reads = record { kept = c.loop-region.invariant.kept; history = c.loop-region.invariant.history; cause = record { later = omega (arith, c.loop-region.invariant.later); failed = λ told. absurd (cc told); stands = c.loop-region.invariant.later } };
 }

@@ -69,6 +69,7 @@ loop-k-preserved g c =
         same_objects = c.judge_cells.ensures.asks.reads.kept.same_objects ∙ c.loop-k.invariant.kept.same_objects;
         same_draft = c.judge_cells.ensures.asks.reads.kept.same_draft ∙ c.loop-k.invariant.kept.same_draft;
       };
+      history = c.judge_cells.ensures.asks.reads.history ∙ c.loop-k.invariant.history;
       later = c.in-Ok.ensures.asks.reads.cause.stands ∙ c.loop-k.invariant.later;
     }
 

@@ -16,6 +16,7 @@ loop-cell-init g c = record {
   named = λ m told. record { stored = refl; absent = refl };
   asked = refl;
   kept = record { same_objects = refl; same_draft = refl };
+  history = refl;
   later = refl;
 }
 
@@ -42,6 +43,7 @@ loop-cell-preserved g c =
         same_objects = c.find_stored.ensures.reads.kept.same_objects ∙ c.loop-cell.invariant.kept.same_objects;
         same_draft = c.find_stored.ensures.reads.kept.same_draft ∙ c.loop-cell.invariant.kept.same_draft;
       };
+      history = c.find_stored.ensures.reads.history ∙ c.loop-cell.invariant.history;
       later = c.in-Ok.ensures.reads.cause.stands ∙ c.loop-cell.invariant.later;
     }
 

@@ -1,4 +1,5 @@
-use Rattle.std.proofs.Common.{ap, arith, Err}
+use Rattle.std.proofs.Common.{ap, arith, refl, Err}
+use Rattle.vol_base.proofs.Moments.{passes_none}
 use Rattle.view_writer.proofs.PlanSteps.{front_none}
 use Rattle.view_writer.specs.Views.{of_view}
 use Rattle.view_writer.proofs.view.write_view.Goals as goal
@@ -12,3 +13,6 @@ unreachable-requires g c =
 
 pub returns-in-Err-OutOfMemory-clause-front : goal.returns-in-Err-OutOfMemory-clause-front
 returns-in-Err-OutOfMemory-clause-front g c = front_none (g.S.Source.objects c.args.store.now) (of_view c.args.dataset.now c.args.view.now c.args.writes)
+
+pub returns-in-Err-OutOfMemory-clause-killed : goal.returns-in-Err-OutOfMemory-clause-killed
+returns-in-Err-OutOfMemory-clause-killed g c = passes_none _ _ _ refl

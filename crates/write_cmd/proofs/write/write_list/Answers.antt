@@ -1,3 +1,5 @@
+use Rattle.std.proofs.Common.{refl}
+use Rattle.write_cmd.proofs.MomentSteps.{list_passed, none_passed}
 use Rattle.write_cmd.proofs.StreamSteps.{list_told}
 use Rattle.write_cmd.proofs.WriteSteps.{takes_read}
 use Rattle.write_cmd.proofs.write.write_list.Goals as goal
@@ -13,3 +15,11 @@ returns-in_err-writes-clause-took g c = takes_read (g.F.Feed.left c.args.feed.no
 
 pub returns-clause-took : goal.returns-clause-took
 returns-clause-took g c = takes_read (g.F.Feed.left c.args.feed.now) (g.F.Feed.left c.read_writes.new.feed) c.read_writes.ensures.took
+
+pub returns-in_err-writes-clause-killed : goal.returns-in_err-writes-clause-killed
+returns-in_err-writes-clause-killed g c = none_passed (g.F.Feed.left c.args.feed.now) _ (g.S.Source.history c.args.store.now) (g.S.Source.history c.args.store.now) refl
+
+pub returns-clause-killed : goal.returns-clause-killed
+returns-clause-killed g c =
+    list_passed (g.S.Source.objects c.args.store.now) (g.F.Feed.left c.args.feed.now) c.args.dataset.now c.args.scale.now c.in_ok-writes.writes (g.S.Source.history c.args.store.now) (g.S.Source.history c.write_all.new.store) c.requires.writable
+    c.requires.empty c.in_ok-writes.ensures.exact c.write_all.ensures.killed

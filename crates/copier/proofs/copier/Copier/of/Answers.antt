@@ -55,5 +55,6 @@ returns-clause-jobs g c =
 pub returns-clause-reads : goal.returns-clause-reads
 returns-clause-reads g c = record {
   kept = c.find_placed.ensures.reads.kept;
+  history = c.find_placed.ensures.reads.history;
   cause = record { later = c.find_placed.ensures.reads.cause.later; failed = λ told. absurd (cc told); stands = c.in-Ok-find_placed.ensures.reads.cause.stands };
 }

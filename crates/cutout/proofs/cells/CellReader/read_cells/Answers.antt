@@ -19,6 +19,7 @@ loop-cell-init g c = record {
   serves = c.requires.serves;
   run = λ m told. run_none m c.args.origin.now.dataset c.args.origin.now.scale (g.S.Source.asked c.args.store.now) c.args.self.now.shards;
   kept = record { same_objects = refl; same_draft = refl };
+  history = refl;
   later = omega arith;
 }
 
@@ -45,6 +46,7 @@ loop-cell-preserved g c =
         same_objects = c.read_one.ensures.walks.reads.kept.same_objects ∙ c.loop-cell.invariant.kept.same_objects;
         same_draft = c.read_one.ensures.walks.reads.kept.same_draft ∙ c.loop-cell.invariant.kept.same_draft;
       };
+      history = c.read_one.ensures.walks.reads.history ∙ c.loop-cell.invariant.history;
       later = omega (arith, c.in-Ok.ensures.walks.reads.cause.stands, c.loop-cell.invariant.later);
     }
 

@@ -13,5 +13,6 @@ invariant-loop-cell g l = record {
   serves : Serves (g.S.Source.objects l.fn.store) l.origin l.self;
   run : (m : Objects) → g.S.Source.objects l.fn.store ≡ Some m → RunsOn true m l.origin.dataset l.origin.scale l.yielded (g.S.Source.asked l.fn.store) (g.S.Source.asked l.store) l.fn.self.shards l.self.shards;
   kept : OnlyReads (g.S.Source.objects l.fn.store) (g.S.Source.objects l.store) (g.S.Source.draft l.fn.store) (g.S.Source.draft l.store);
+  history : g.S.Source.history l.store ≡ g.S.Source.history l.fn.store;
   later : g.S.Source.faults l.store ≡ g.S.Source.faults l.fn.store;
 }

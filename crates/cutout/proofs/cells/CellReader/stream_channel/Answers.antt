@@ -20,6 +20,7 @@ loop-number-init g c =
       asked = asked_begin _ _ _;
       serves = c.requires.serves;
       kept = record { same_objects = refl; same_draft = refl };
+      history = refl;
       later = omega arith;
       out_later = omega arith;
     }
@@ -60,6 +61,7 @@ loop-number-preserved g c =
         same_objects = c.stream_piece.ensures.pours.asks.reads.kept.same_objects ∙ inv.kept.same_objects;
         same_draft = c.stream_piece.ensures.pours.asks.reads.kept.same_draft ∙ inv.kept.same_draft;
       };
+      history = c.stream_piece.ensures.pours.asks.reads.history ∙ inv.history;
       later = omega (arith, inv.later, c.in-Ok.ensures.pours.asks.reads.cause.stands);
       out_later = omega (arith, inv.out_later, c.in-Ok.ensures.pours.out_cause.stands);
     }

@@ -17,6 +17,7 @@ invariant-loop-number g l = record {
   asked : IfSome (g.S.Source.objects l.fn.store) (λ m. g.S.Source.asked l.store ≤ g.S.Source.asked l.fn.store + costs m l.origin.dataset l.origin.scale (front_cells l.origin.scale l.part l.number));
   serves : Serves (g.S.Source.objects l.fn.store) l.origin l.self;
   kept : OnlyReads (g.S.Source.objects l.fn.store) (g.S.Source.objects l.store) (g.S.Source.draft l.fn.store) (g.S.Source.draft l.store);
+  history : g.S.Source.history l.store ≡ g.S.Source.history l.fn.store;
   later : g.S.Source.faults l.store ≡ g.S.Source.faults l.fn.store;
   out_later : g.O.Outlet.faults l.out ≡ g.O.Outlet.faults l.fn.out;
 }

@@ -12,6 +12,7 @@ loop-channel-init g c = record {
   asked = asked_begin _ _ _;
   serves = serves_none (g.S.Source.objects c.args.store.now) c.args.origin.now (record c.args.self.now { shards = c.forget.new.self }) (record { chunk = c.requires.room.chunk; values = c.requires.room.values }) c.forget.ensures;
   kept = record { same_objects = refl; same_draft = refl };
+  history = refl;
   later = omega arith;
   out_later = omega arith;
 }
@@ -34,6 +35,7 @@ loop-channel-preserved g c =
         same_objects = c.stream_channel.ensures.pours.asks.reads.kept.same_objects ∙ inv.kept.same_objects;
         same_draft = c.stream_channel.ensures.pours.asks.reads.kept.same_draft ∙ inv.kept.same_draft;
       };
+      history = c.stream_channel.ensures.pours.asks.reads.history ∙ inv.history;
       later = omega (arith, inv.later, c.in-Ok.ensures.pours.asks.reads.cause.stands);
       out_later = omega (arith, inv.out_later, c.in-Ok.ensures.pours.out_cause.stands);
     }

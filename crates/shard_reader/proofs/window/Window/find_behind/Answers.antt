@@ -32,6 +32,7 @@ loop-walk-init g c =
       window = c.requires.window;
       behind = λ object told fits. c.requires.behind;
       kept = record { same_objects = refl; same_draft = refl };
+      history = refl;
       asked = omega (arith, rows);
       later = omega arith;
     }
@@ -74,6 +75,7 @@ loop-walk-preserved g c =
         same_objects = c.in-Ok.ensures.reads.kept.same_objects ∙ c.loop-walk.invariant.kept.same_objects;
         same_draft = c.in-Ok.ensures.reads.kept.same_draft ∙ c.loop-walk.invariant.kept.same_draft;
       };
+      history = c.in-Ok.ensures.reads.history ∙ c.loop-walk.invariant.history;
       asked = omega (arith, c.in-Ok.ensures.asked, c.loop-walk.invariant.asked, on);
       later = omega (arith, c.in-Ok.ensures.reads.cause.stands, c.loop-walk.invariant.later);
     }

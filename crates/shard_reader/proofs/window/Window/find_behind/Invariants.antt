@@ -13,6 +13,7 @@ invariant-loop-walk g l = record {
   window : OnIndex (g.S.Source.objects l.fn.store) l.name l.index.at l.index.rows (IsWindow l.self.before l.self.count l.self.columns.bytes);
   behind : OnIndex (g.S.Source.objects l.fn.store) l.name l.index.at l.index.rows (λ bytes. resumes l.self.before l.id ≡ true);
   kept : OnlyReads (g.S.Source.objects l.fn.store) (g.S.Source.objects l.store) (g.S.Source.draft l.fn.store) (g.S.Source.draft l.store);
+  history : g.S.Source.history l.store ≡ g.S.Source.history l.fn.store;
   asked : g.S.Source.asked l.store + 24 * (l.fn.self.before.rows + l.fn.self.count) ≤ g.S.Source.asked l.fn.store + 24 * l.walk.rows;
   later : g.S.Source.faults l.store ≡ g.S.Source.faults l.fn.store;
 }

@@ -58,6 +58,7 @@ returns-in-Err-clause-asks g c = record {
       (g.S.Source.asked c.args.store.now) (g.S.Source.asked c.find_stored.new.store) _ c.find_stored.ensures.asked c.judge_box.ensures.asks.asked;
   reads = record {
     kept = search rules;
+    history = search rules;
     cause = cause_again c.in-Err.fault _ _ _ c.in_ok-is_stored.ensures.reads.cause.stands c.in-Err.ensures.asks.reads.cause;
   };
 }
@@ -70,6 +71,7 @@ returns-clause-asks g c = record {
       (g.S.Source.asked c.args.store.now) (g.S.Source.asked c.find_stored.new.store) _ c.find_stored.ensures.asked c.judge_box.ensures.asks.asked;
   reads = record {
     kept = search rules;
+    history = search rules;
     cause = stood_again c.in_ok-is_stored.is_stored _ _ _ c.in_ok-is_stored.ensures.reads.cause.stands c.in-Ok.ensures.asks.reads.cause.stands;
   };
 }

@@ -23,6 +23,7 @@ loop-cell-init g c = record {
   first = refl;
   asked = asked_none (g.S.Source.objects c.args.store.now) (λ m cell. pair_cost m c.args.first.now.dataset c.args.first.now.scale c.args.self.now.scale (common (cell_box c.args.self.now.scale cell) c.args.part.now)) (g.S.Source.asked c.args.store.now);
   kept = record { same_objects = refl; same_draft = refl };
+  history = refl;
   later = refl;
 }
 
@@ -67,6 +68,7 @@ loop-cell-preserved g c =
         same_objects = c.judge_cell.ensures.asks.reads.kept.same_objects ∙ c.loop-cell.invariant.kept.same_objects;
         same_draft = c.judge_cell.ensures.asks.reads.kept.same_draft ∙ c.loop-cell.invariant.kept.same_draft;
       };
+      history = c.judge_cell.ensures.asks.reads.history ∙ c.loop-cell.invariant.history;
       later = c.in-Ok.ensures.asks.reads.cause.stands ∙ c.loop-cell.invariant.later;
     }
 
@@ -102,5 +104,5 @@ pub returns-clause-asks : goal.returns-clause-asks
 returns-clause-asks g c = record {
   asked =
       asked_all (g.S.Source.objects c.args.store.now) (λ m cell. pair_cost m c.args.first.now.dataset c.args.first.now.scale c.args.self.now.scale (common (cell_box c.args.self.now.scale cell) c.args.part.now)) c.loop-cell.yielded c.loop-cell.cell-iterator (cells_in c.args.self.now.scale c.args.part.now) _ _ c.loop-cell.invariant.left c.loop-cell.invariant.asked;
-  reads = record { kept = c.loop-cell.invariant.kept; cause = record { later = omega (arith, c.loop-cell.invariant.later); failed = λ told. absurd (cc told); stands = c.loop-cell.invariant.later } };
+  reads = record { kept = c.loop-cell.invariant.kept; history = c.loop-cell.invariant.history; cause = record { later = omega (arith, c.loop-cell.invariant.later); failed = λ told. absurd (cc told); stands = c.loop-cell.invariant.later } };
 }

@@ -21,6 +21,7 @@ loop-region-init g c = record {
   first = refl;
   asked = asked_none (g.S.Source.objects c.args.store.now) (λ m region. pair_cost m c.args.first.now.dataset c.args.first.now.scale c.args.self.now.scale (common (cell_box c.args.regions.now region) c.args.part.now)) (g.S.Source.asked c.args.store.now);
   kept = record { same_objects = refl; same_draft = refl };
+  history = refl;
   later = refl;
 }
 
@@ -58,6 +59,7 @@ loop-region-preserved g c =
         same_objects = c.judge_region.ensures.asks.reads.kept.same_objects ∙ c.loop-region.invariant.kept.same_objects;
         same_draft = c.judge_region.ensures.asks.reads.kept.same_draft ∙ c.loop-region.invariant.kept.same_draft;
       };
+      history = c.judge_region.ensures.asks.reads.history ∙ c.loop-region.invariant.history;
       later = c.in-Ok.ensures.asks.reads.cause.stands ∙ c.loop-region.invariant.later;
     }
 
@@ -71,7 +73,7 @@ pub returns-clause-asks : goal.returns-clause-asks
 returns-clause-asks g c = record {
   asked =
       asked_all (g.S.Source.objects c.args.store.now) (λ m region. pair_cost m c.args.first.now.dataset c.args.first.now.scale c.args.self.now.scale (common (cell_box c.args.regions.now region) c.args.part.now)) c.loop-region.yielded c.loop-region.region-iterator (cells_in c.args.regions.now c.args.part.now) _ _ c.loop-region.invariant.left c.loop-region.invariant.asked;
-  reads = record { kept = c.loop-region.invariant.kept; cause = record { later = omega (arith, c.loop-region.invariant.later); failed = λ told. absurd (cc told); stands = c.loop-region.invariant.later } };
+  reads = record { kept = c.loop-region.invariant.kept; history = c.loop-region.invariant.history; cause = record { later = omega (arith, c.loop-region.invariant.later); failed = λ told. absurd (cc told); stands = c.loop-region.invariant.later } };
 }
 
 pub cells-region-items-requires : goal.cells-region-items-requires

@@ -43,6 +43,7 @@ loop-view-preserved g c =
         same_objects = c.count.ensures.reads.kept.same_objects ∙ c.loop-view.invariant.kept.same_objects;
         same_draft = c.count.ensures.reads.kept.same_draft ∙ c.loop-view.invariant.kept.same_draft;
       };
+      history = c.count.ensures.reads.history ∙ c.loop-view.invariant.history;
       later = c.in-Ok.ensures.reads.cause.stands ∙ c.loop-view.invariant.later;
     }
 

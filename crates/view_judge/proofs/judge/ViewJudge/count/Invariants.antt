@@ -13,5 +13,6 @@ invariant-loop-view g l = record {
   named : (m : Objects) → g.S.Source.objects l.fn.store ≡ Some m → AreAllNamed m l.self.dataset l.part (take l.view-index (further l.self.scale)) l.report;
   asked : g.S.Source.asked l.store ≡ g.S.Source.asked l.fn.store;
   kept : OnlyReads (g.S.Source.objects l.fn.store) (g.S.Source.objects l.store) (g.S.Source.draft l.fn.store) (g.S.Source.draft l.store);
+  history : g.S.Source.history l.store ≡ g.S.Source.history l.fn.store;
   later : g.S.Source.faults l.store ≡ g.S.Source.faults l.fn.store;
 }
