@@ -78,6 +78,7 @@ impl<'a> Chunks for MetChunks<'a> {
         ensures work { work_of self.new.plan.now ≡ work_of self.old.plan.now }
         ensures objects { S.objects _store.new ≡ S.objects _store.old }
         ensures draft { S.draft _store.new ≡ S.draft _store.old }
+        ensures history { S.history _store.new ≡ S.history _store.old }
         ensures cause { HasCauseOf PrepareFault.StoreFault (S.faults _store.old) (S.faults _store.new) result }
     {
         Ok(())
