@@ -2,7 +2,7 @@
 ghost use Rattle.std.specs.Prelude.{◌≡◌, None, Some, map, string_bytes};
 ghost use Rattle.std.specs.Option.{option_map};
 ghost use Rattle.command_line.specs.Words.{KeepsLimits, line};
-ghost use Rattle.folder_store.specs.Disks.{objects_of};
+ghost use Rattle.folder_store.specs.Disks.{objects_at, objects_of};
 ghost use Rattle.folder_store.specs.Power.{Survives};
 ghost use Rattle.vol_tool.specs.Runs.{Answers, Causes, Headline, Keeps, Killed, Succeeds};
 ghost use Rattle.vol_tool.specs.Seen.{Seen, view};
@@ -232,7 +232,7 @@ where
         (at result.1 feed.new out.new err.new door.new) }
     ensures killed { let at = ⟦<OutsideFiles as Viewed<L, F, O, E, D>>⟧.at in
         Killed (line (map string_bytes words.now)) (at folder feed.old out.old err.old door.old)
-        (map objects_of (L.moments folder)) (map objects_of (L.moments result.1)) }
+        (map objects_at (L.moments folder)) (map objects_at (L.moments result.1)) }
     ensures power { Survives (L.moments result.1) }
 {
     let mut store = DirStore::new(folder, alloc);
