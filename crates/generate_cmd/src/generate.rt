@@ -29,6 +29,7 @@ use std::thread::Threads;
 use value_sums::SumOutlet;
 use vectors_vol::Generator;
 use vol_base::{Gate, Name, Outlet, Source, Store};
+use vol_spec::StoredScale;
 use write_cmd::{WriteRefusal, judge_limit, write_list};
 
 /// What was written, and the sum of the values of the whole scale modulo 2^64.
@@ -94,47 +95,44 @@ fn sum_whole<S: Source>(
 fn sum_scale<S: Source>(
     alloc: Global,
     store: &mut S,
-    dataset: &Name,
-    scale: &Scale,
+    stored: &StoredScale,
 ) -> Result<u64, CutoutRefusal>
-    requires dataset { length dataset.now ≤ 200 }
-    requires small { IsRequest scale.now (whole_of scale.now) }
-    ensures sums { IfSome (S.objects store.old) (λ m. SumsScale result m dataset.now scale.now) }
+    requires small { IsRequest stored.now.scale (whole_of stored.now.scale) }
+    ensures sums { IfSome (S.objects store.old) (λ m. SumsScale result m stored.now.dataset stored.now.scale) }
     ensures refused { IfErr result IsUnsummed }
     ensures reads { ReadsFrom S.Source CutoutRefusal.StoreFault store.old store.new result }
 {
-    let mut reader = Reader::open(alloc, dataset, scale)?;
-    sum_whole(alloc, store, &mut reader, scale)
+    let mut reader = Reader::open(alloc, &stored.dataset, &stored.scale)?;
+    sum_whole(alloc, store, &mut reader, &stored.scale)
 }
 
 // Writes a list that a number makes into a scale that is ready, and sums the scale.
 fn write_and_sum<R: Threads + Wait + Sync, S: Store, G: Gate + Sync>(
     crew: &Crew<R, G>,
     store: &mut S,
-    dataset: &Name,
-    scale: &Scale,
+    stored: &StoredScale,
     number: u32,
     count: u32,
 ) -> Result<Summary, GenerateRefusal>
-    requires dataset { length dataset.now ≤ 200 }
-    requires writable { All IsWritable (all_views scale.now) }
-    requires empty { IfSome (S.objects store.old) (λ m. AreReady m dataset.now scale.now) }
-    requires small { IsRequest scale.now (whole_of scale.now) }
+    requires writable { All IsWritable (all_views stored.now.scale) }
+    requires empty { IfSome (S.objects store.old) (λ m. AreReady m stored.now.dataset stored.now.scale) }
+    requires small { IsRequest stored.now.scale (whole_of stored.now.scale) }
     requires number { number < 2 ^ 31 }
     requires count { count ≤ 4096 }
     ensures generates { (key : List ℕ) → IfSome (S.objects store.old) (λ m.
-        Generates result (Ok scale.now) m (S.objects store.new) (drawn number count) dataset.now key) }
-    ensures killed { PassesPut (drawn number count scale.now) dataset.now scale.now (S.objects store.old)
-        (S.history store.old) (S.history store.new) }
+        Generates result (Ok stored.now.scale) m (S.objects store.new) (drawn number count)
+        stored.now.dataset key) }
+    ensures killed { PassesPut (drawn number count stored.now.scale) stored.now.dataset stored.now.scale
+        (S.objects store.old) (S.history store.old) (S.history store.new) }
     ensures refused { IfErr result IsRefusal }
     ensures leaves { GenerateLeaves S.Source store.old store.new result }
 {
-    let mut list = Generator::new(scale, number, count);
-    let written = match write_list(crew, store, &mut list, dataset, scale) {
+    let mut list = Generator::new(&stored.scale, number, count);
+    let written = match write_list(crew, store, &mut list, &stored.dataset, &stored.scale) {
         Ok(written) => written,
         Err(refusal) => return Err(GenerateRefusal::Write(refusal)),
     };
-    match sum_scale(crew.alloc, store, dataset, scale) {
+    match sum_scale(crew.alloc, store, stored) {
         Ok(sum) => Ok(Summary { written, sum }),
         Err(refusal) => Err(GenerateRefusal::Cutout(refusal)),
     }
@@ -175,7 +173,8 @@ fn generate_objects<R: Threads + Wait + Sync, S: Store, G: Gate + Sync>(
         Err(_) => return Err(GenerateRefusal::Write(WriteRefusal::StoreFault)),
     }
     judge_whole(&scale)?;
-    write_and_sum(crew, store, dataset, &scale, number, count)
+    let stored = StoredScale::of(dataset, &scale);
+    write_and_sum(crew, store, &stored, number, count)
 }
 
 /// The command `generate`: puts the list of so many writes that a number makes into the scale of a key, sums the values
