@@ -10,7 +10,9 @@ import random
 import subprocess
 import tempfile
 
-from harness import DEVICE, FOLDER, LIMIT, LOOP, PIPE, answers, file_limit, leaves, main, memory_limit, want, want_ending, want_files
+from harness import (
+    DEVICE, FOLDER, LIMIT, LOOP, PIPE, answers, file_limit, leaves, main, memory_limit, want, want_ending, want_files, want_true,
+)
 from model import MEMORY, OK, Values, Volume, along, box_in, bytes_of, head_of, infos_of, line, refused, stored, stream_of, voxels_in
 from model.chance import pick_box
 from runs import rows_of_stops, update_run, write_run
@@ -84,13 +86,17 @@ FAULTY = [
 ]
 
 
+AHEAD = 65536  # bytes of small boxes that are read ahead, at most
+
+
 def reads_no_further(trial, files, words, stream, count, line):
-    """A stream is read up to its fault, and one that isn't judged not at all."""
+    """A stream is read up to its fault, and little further, and one that isn't judged not at all."""
     with tempfile.TemporaryFile() as feed:
-        feed.write(stream + bytes(1000))
+        feed.write(stream + bytes(2 * AHEAD))
         feed.seek(0)
         answers(trial, files, words, refused(line), feed)
-        want(os.lseek(feed.fileno(), 0, os.SEEK_CUR), count, "how many bytes are read")
+        found = os.lseek(feed.fileno(), 0, os.SEEK_CUR)
+        want_true(count <= found <= (count and count + AHEAD), f"{found} bytes are read, where {count} are judged")
 
 
 # A scale of 512 x 512 x 512 bytes in eight layers of chunks, each a file that is a hole; and what its cutout may take besides one
