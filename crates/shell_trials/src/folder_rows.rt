@@ -132,7 +132,8 @@ fn older(alloc: Global, failing: u64) -> Result<MemoryFolder, Fail> {
     let (_, mut folder) = put_into(alloc, MemoryFolder::new(alloc, 2), &items);
     let number = number_at(&folder.changes, "d/a").ok_or("an object")?;
     folder.sync(&MemoryFile { number })?;
-    folder.failing.push(folder.calls.saturating_add(failing))?;
+    let call = folder.calls.saturating_add(failing);
+    folder.failing.push(call)?;
     Ok(folder)
 }
 
